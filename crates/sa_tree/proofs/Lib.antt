@@ -1,0 +1,4 @@
+pub mod BareTypes
+pub mod Pointwise
+pub mod TypeHashes
+pub mod TypeTests

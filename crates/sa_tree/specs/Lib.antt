@@ -1,0 +1,5 @@
+pub mod Names
+pub mod Sources
+pub mod TypeEquality
+pub mod TypeHash
+pub mod Types

@@ -1,0 +1,22 @@
+//! The tree of a Sather program, as its text spells it, with the positions that refusals and faults name.
+#![tactic(auto)]
+
+mod class;
+mod expr;
+mod name;
+mod pos;
+mod refusal;
+mod shared;
+mod stmt;
+#[cfg(test)]
+mod tests;
+mod ty;
+
+pub use class::{Access, Change, Class, Feature, Flat, Formal, Include, Kind, Param, Part};
+pub use expr::{Expr, Given, Op, Recv};
+pub use name::Name;
+pub use pos::{Pos, Sources, line_of};
+pub use refusal::{FrontFault, NoMemory, Refusal};
+pub use shared::Shared;
+pub use stmt::{Arm, Body, CaseArm, Local, Stmt, TypeArm};
+pub use ty::{Mode, ModeTy, Ty};

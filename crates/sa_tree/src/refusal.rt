@@ -1,0 +1,70 @@
+//! Why a source isn't accepted.
+
+ghost use Rattle.std.specs.Prelude.{◌≡◌};
+ghost use Rattle.sa_tree.specs.declared.refusal.FrontFault.TheVariants as fault;
+
+use crate::pos::Pos;
+use std::alloc::{AllocError, AllocFailed};
+use thiserror::Error;
+
+/// The written rule that a source breaks, by its number: 24 stands for E24.
+#[derive(Clone, Copy, Debug, PartialEq, Eq, Hash, Error)]
+#[error("refused by rule E{code:02}")]
+pub struct Refusal {
+    pub code: u8,
+    pub pos: Pos,
+}
+
+/// Why a pass over a source gives no answer.
+#[derive(Clone, Copy, Debug, PartialEq, Eq, Hash, Error)]
+pub enum FrontFault {
+    #[error(transparent)]
+    Refused(Refusal),
+    #[error("out of memory")]
+    NoMemory,
+}
+
+/// Memory has run out.
+#[derive(Clone, Copy, Debug, PartialEq, Eq, Hash, Error)]
+#[error("out of memory")]
+pub struct NoMemory;
+
+impl From<AllocError> for NoMemory {
+    ghost from_gives = { λ _ e. e ≡ record {} };
+
+    fn from(_error: AllocError) -> NoMemory {
+        NoMemory
+    }
+}
+
+impl<T: Drop> From<AllocFailed<T>> for NoMemory {
+    ghost from_gives = { λ _ e. e ≡ record {} };
+
+    fn from(_error: AllocFailed<T>) -> NoMemory {
+        NoMemory
+    }
+}
+
+impl From<AllocError> for FrontFault {
+    ghost from_gives = { λ _ e. e ≡ fault.NoMemory };
+
+    fn from(_error: AllocError) -> FrontFault {
+        FrontFault::NoMemory
+    }
+}
+
+impl<T: Drop> From<AllocFailed<T>> for FrontFault {
+    ghost from_gives = { λ _ e. e ≡ fault.NoMemory };
+
+    fn from(_error: AllocFailed<T>) -> FrontFault {
+        FrontFault::NoMemory
+    }
+}
+
+impl From<NoMemory> for FrontFault {
+    ghost from_gives = { λ _ e. e ≡ fault.NoMemory };
+
+    fn from(_error: NoMemory) -> FrontFault {
+        FrontFault::NoMemory
+    }
+}
