@@ -1,0 +1,321 @@
+//! A source over a reader and a sink over a writer.
+
+ghost use Rattle.std.specs.Prelude.{◌≡◌, ◌↔◌, ◌<◌, ◌≤◌, [], false, None, length, IsTrue, IsOk, IfOk, OnOk, OnErr, take};
+ghost use Rattle.std.specs.Io.{ReadsAtMost};
+ghost use Rattle.std.specs.Io.KnownBytes.{Appends, ReadConsumes, WriteAppends};
+ghost use Rattle.sa_outside.specs.Adapters.{Draws, faults_after, CountsOutage, AppendsFront};
+
+use crate::calls::one_more;
+use crate::sink::Sink;
+use crate::source::{Source, Take};
+use crate::store::Outage;
+use std::io::{self, ErrorKind, Read, Write};
+use std::marker::Model;
+
+/// A source over a reader, which does not tell what it has left. It reads a byte at a time: give it a `BufReader` where
+/// that is slow. Contracts see the reader, whether it has told its end, and how often it has failed.
+#[derive(Drop)]
+pub struct ReadSource<R: Read> {
+    reader: R,
+    ended: bool,
+    faults: u64,
+}
+
+impl<R: Read> Model for ReadSource<R> {
+    ghost use Rattle.std.specs.Prelude.{IsTrue};
+    ghost use Rattle.std.specs.Io.KnownBytes.{IsAtEnd};
+    ghost use Rattle.sa_outside.specs.Adapters.{ReaderState, reader_code};
+
+    ghost Value = { ReaderState R };
+
+    ghost coded = { reader_code R.code };
+
+    ghost view = { λ s. record { reader = s.reader; ended = s.ended; faults = s.faults } };
+
+    ghost invariant = { λ s. IsTrue s.ended → IsAtEnd (R.remaining s.reader) };
+}
+
+impl<R: Read> ReadSource<R> {
+    pub fn new(reader: R) -> ReadSource<R>
+        ensures { result ≡ record { reader = reader; ended = false; faults = 0 } }
+    {
+        ReadSource {
+            reader,
+            ended: false,
+            faults: 0,
+        }
+    }
+}
+
+impl<R: Read> Source for ReadSource<R> {
+    ghost faults = { λ s. s.faults };
+
+    ghost input = { λ _. None };
+
+    /// Gives the next byte of the reader, or the end. After its first end it gives no byte any more.
+    fn take(&mut self) -> Take
+        ensures count { self.old.faults ≤ self.new.faults }
+        ensures faults { self.new.faults ≡ faults_after result self.old.faults }
+        ensures draws { Draws result (R.remaining self.old.reader) (R.remaining self.new.reader) }
+        ensures told { IsTrue self.new.ended ↔ (result ≡ Take.End) }
+        ensures ended { IsTrue self.old.ended → result ≡ Take.End }
+    {
+        if self.ended {
+            return Take::End;
+        }
+        let answer = read_byte(&mut self.reader);
+        match answer {
+            Take::Byte(_) => {}
+            Take::End => self.ended = true,
+            Take::Failed => self.faults = one_more(self.faults),
+        }
+        answer
+    }
+}
+
+/// A sink over a writer, which does not tell what it has taken. Contracts see the writer, and how often it has failed.
+#[derive(Drop)]
+pub struct WriteSink<W> {
+    writer: W,
+    faults: u64,
+}
+
+impl<W> Model for WriteSink<W> {
+    ghost use Rattle.sa_outside.specs.Adapters.{WriterState, writer_code};
+
+    ghost Value = { WriterState W };
+
+    ghost coded = { writer_code W.code };
+
+    ghost view = { λ s. record { writer = s.writer; faults = s.faults } };
+}
+
+impl<W: Write> WriteSink<W> {
+    pub fn new(writer: W) -> WriteSink<W>
+        ensures { result ≡ record { writer = writer; faults = 0 } }
+    {
+        WriteSink { writer, faults: 0 }
+    }
+}
+
+impl<W: Write> Sink for WriteSink<W> {
+    ghost faults = { λ s. s.faults };
+
+    ghost output = { λ _. None };
+
+    /// Writes these bytes and flushes the writer. After an outage a front of them was written. An empty piece calls
+    /// nothing.
+    fn put(&mut self, bytes: &[u8]) -> Result<(), Outage>
+        ensures count { self.old.faults ≤ self.new.faults }
+        ensures faults { CountsOutage result self.old.faults self.new.faults }
+        ensures ok { OnOk result (Appends (W.contents self.old.writer) (W.contents self.new.writer) bytes.now) }
+        ensures outage { OnErr result
+            (AppendsFront (W.contents self.old.writer) (W.contents self.new.writer) bytes.now) }
+        ensures empty { bytes.now ≡ [] → IsOk result × (self.new ≡ self.old) }
+    {
+        if bytes.is_empty() {
+            return Ok(());
+        }
+        match write_out(&mut self.writer, bytes) {
+            Ok(()) => Ok(()),
+            Err(_) => {
+                self.faults = one_more(self.faults);
+                Err(Outage::Failed)
+            }
+        }
+    }
+}
+
+/// One read of a reader. A read that is interrupted is tried again.
+fn read_some<R: Read>(reader: &mut R, buffer: &mut [u8]) -> io::Result<usize>
+    ensures within { ReadsAtMost result buffer.new }
+    ensures bytes { ReadConsumes (R.remaining reader.old) (R.remaining reader.new) result buffer.new }
+{
+    for _ in 0..u64::MAX {
+        match reader.read(buffer) {
+            Err(error) if error.kind() == ErrorKind::Interrupted => {}
+            answer => return answer,
+        }
+    }
+    Err(ErrorKind::TimedOut.into())
+}
+
+/// Reads until the buffer is full or the reader is at its end, and gives the number of bytes read.
+pub(crate) fn read_full<R: Read>(reader: &mut R, buffer: &mut [u8]) -> io::Result<usize>
+    ensures { IfOk result (λ count. count ≤ length buffer.new) }
+{
+    let mut filled = 0;
+    while filled < buffer.len() {
+        let count = read_some(reader, &mut buffer[filled..])?;
+        if count == 0 {
+            break;
+        }
+        filled += count;
+    }
+    Ok(filled)
+}
+
+/// The next byte of a reader, or the end.
+fn read_byte<R: Read>(reader: &mut R) -> Take
+    ensures { Draws result (R.remaining reader.old) (R.remaining reader.new) }
+{
+    let mut byte = [0];
+    match read_some(reader, &mut byte) {
+        Ok(0) => Take::End,
+        Ok(_) => Take::Byte(byte[0]),
+        Err(_) => Take::Failed,
+    }
+}
+
+/// One write to a writer, of at least one byte. A write that is interrupted is tried again.
+fn write_some<W: Write>(writer: &mut W, bytes: &[u8]) -> io::Result<usize>
+    requires { 0 < length bytes.now }
+    ensures count { IfOk result (λ count. (0 < count) × (count ≤ length bytes.now)) }
+    ensures bytes { WriteAppends (W.contents writer.old) (W.contents writer.new) result bytes.now }
+{
+    for _ in 0..u64::MAX {
+        match writer.write(bytes) {
+            Ok(0) => return Err(ErrorKind::WriteZero.into()),
+            Err(error) if error.kind() == ErrorKind::Interrupted => {}
+            answer => return answer,
+        }
+    }
+    Err(ErrorKind::TimedOut.into())
+}
+
+/// Writes all of these bytes, in as many writes as it takes. After an error a front of them was written.
+fn write_all<W: Write>(writer: &mut W, bytes: &[u8]) -> io::Result<()>
+    ensures ok { OnOk result (Appends (W.contents writer.old) (W.contents writer.new) bytes.now) }
+    ensures err { OnErr result (AppendsFront (W.contents writer.old) (W.contents writer.new) bytes.now) }
+{
+    let mut written = 0;
+    while written < bytes.len() {
+        written += write_some(writer, &bytes[written..])?;
+    }
+    Ok(())
+}
+
+/// Writes all of these bytes and flushes the writer. After an error a front of them was written.
+pub(crate) fn write_out<W: Write>(writer: &mut W, bytes: &[u8]) -> io::Result<()>
+    ensures ok { OnOk result (Appends (W.contents writer.old) (W.contents writer.new) bytes.now) }
+    ensures err { OnErr result (AppendsFront (W.contents writer.old) (W.contents writer.new) bytes.now) }
+{
+    write_all(writer, bytes)?;
+    writer.flush()?;
+    Ok(())
+}
+
+#[cfg(test)]
+mod tests {
+    use super::*;
+    use std::test::Fail;
+
+    /// A stream that reads from its last byte on and writes behind it, one byte a call, and whose calls fail as listed.
+    #[derive(Drop)]
+    struct Rough<'a> {
+        bytes: Vec<u8>,
+        errors: &'a [Option<ErrorKind>],
+        calls: usize,
+    }
+
+    impl Rough<'_> {
+        fn next_error(&mut self) -> Option<ErrorKind> {
+            let error = self.errors.get(self.calls).copied().flatten();
+            self.calls = self.calls.saturating_add(1);
+            error
+        }
+    }
+
+    impl Read for Rough<'_> {
+        fn read(&mut self, buffer: &mut [u8]) -> io::Result<usize> {
+            if let Some(kind) = self.next_error() {
+                return Err(kind.into());
+            }
+            if buffer.is_empty() {
+                return Ok(0);
+            }
+            match self.bytes.pop() {
+                Some(byte) => {
+                    buffer[0] = byte;
+                    Ok(1)
+                }
+                None => Ok(0),
+            }
+        }
+    }
+
+    impl Write for Rough<'_> {
+        fn write(&mut self, bytes: &[u8]) -> io::Result<usize> {
+            if let Some(kind) = self.next_error() {
+                return Err(kind.into());
+            }
+            if bytes.is_empty() {
+                return Ok(0);
+            }
+            self.bytes.push(bytes[0])?;
+            Ok(1)
+        }
+
+        fn flush(&mut self) -> io::Result<()> {
+            Ok(())
+        }
+    }
+
+    #[test]
+    fn a_source_gives_the_bytes_of_its_reader(rt: HostRuntime) -> Result<(), Fail> {
+        let mut source = ReadSource::new(b"ab".as_slice());
+        for answer in [Take::Byte(b'a'), Take::Byte(b'b'), Take::End, Take::End] {
+            assert_eq!(rt; source.take(), answer);
+        }
+        Ok(())
+    }
+
+    #[test]
+    fn a_source_reads_on_after_an_interruption_and_after_a_fault(
+        rt: HostRuntime,
+    ) -> Result<(), Fail> {
+        let mut source = ReadSource::new(Rough {
+            bytes: Vec::from_slice(rt.alloc(), b"ba")?,
+            errors: &[Some(ErrorKind::Interrupted), None, Some(ErrorKind::Other)],
+            calls: 0,
+        });
+        for answer in [Take::Byte(b'a'), Take::Failed, Take::Byte(b'b'), Take::End] {
+            assert_eq!(rt; source.take(), answer);
+        }
+        assert_eq!(rt; source.faults, 1);
+        Ok(())
+    }
+
+    #[test]
+    fn a_sink_writes_its_bytes_to_its_writer(rt: HostRuntime) -> Result<(), Fail> {
+        let mut sink = WriteSink::new(Vec::new(rt.alloc()));
+        assert_eq!(rt; sink.put(b"some "), Ok(()));
+        assert_eq!(rt; sink.put(b""), Ok(()));
+        assert_eq!(rt; sink.put(b"text"), Ok(()));
+        assert_eq!(rt; sink.writer.as_slice(), b"some text".as_slice());
+        Ok(())
+    }
+
+    #[test]
+    fn a_sink_writes_on_after_an_interruption_and_a_front_before_a_fault(
+        rt: HostRuntime,
+    ) -> Result<(), Fail> {
+        let mut sink = WriteSink::new(Rough {
+            bytes: Vec::new(rt.alloc()),
+            errors: &[
+                Some(ErrorKind::Interrupted),
+                None,
+                None,
+                None,
+                Some(ErrorKind::Other),
+            ],
+            calls: 0,
+        });
+        assert_eq!(rt; sink.put(b"ab"), Ok(()));
+        assert_eq!(rt; sink.put(b"cd"), Err(Outage::Failed));
+        assert_eq!(rt; sink.put(b"ef"), Ok(()));
+        assert_eq!(rt; sink.faults, 1);
+        assert_eq!(rt; sink.writer.bytes.as_slice(), b"abcef".as_slice());
+        Ok(())
+    }
+}
