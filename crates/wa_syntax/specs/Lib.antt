@@ -1,0 +1,3 @@
+pub mod Leb128
+pub mod Locals
+pub mod Numeric

@@ -1,0 +1,22 @@
+//! Modules of WebAssembly Core 1.0 in its integer part, as data, and the numbers of the binary format.
+#![tactic(auto)]
+
+mod instr;
+mod leb128;
+mod locals;
+mod module;
+mod name;
+mod no_memory;
+pub mod opcode;
+mod trap;
+
+pub use instr::Instr;
+pub use leb128::{one_spelling, read_i32, read_i64, read_u32, write_i32, write_i64, write_u32};
+pub use locals::{Locals, Run};
+pub use module::{
+    Elem, Export, ExportKind, Func, FuncTy, GlobalDef, GlobalTy, Import, ImportKind, Init, Limits,
+    Module, Segment, ValTy,
+};
+pub use name::Name;
+pub use no_memory::NoMemory;
+pub use trap::TrapKind;
