@@ -1,0 +1,23 @@
+use Rattle.std.proofs.Common.{ℕ, ◌∷◌, [], ◌++◌, ◌≡◌, ◌+◌, is_ok, sym, ap, ◌∙◌, subst, arith}
+use Rattle.std.proofs.ResultArms.{chosen}
+use Rattle.std.proofs.lemmas.List.{take_rest, length-drop}
+use Rattle.sa_lex.specs.Tokens.{Follow, StandsAt, gap_end, end_of}
+use Rattle.sa_lex.proofs.TokenLists.{Follow-push, end_of-push}
+use Rattle.sa_lex.proofs.lexer.lex.Goals as goal
+
+-- the token that was read joins the others, and the gap behind it ends at the next place
+pub loop-place-preserved : goal.loop-place-preserved
+loop-place-preserved c =
+    let src = c.args.src.now in
+    let token = c.in_ok-token.token in
+    let before = c.loop-place.tokens.items in
+    let stands = subst (λ (place : ℕ). StandsAt src place token) c.loop-place.invariant.behind c.in_ok-token.ensures.token in
+    let pushed : c.push.new.self.items ≡ before ++ token ∷ [] =
+    chosen _ _ _ _ c.push.ensures.items (sym c.map_err.ensures.variant ∙ ap is_ok c.in_ok-map_err.was) in
+    let gap = rw take_rest at c.gap_len.ensures.gap in
+    let within = rw take_rest at c.gap_len.ensures.within in
+    record {
+      follow = subst (Follow src 0) (sym pushed) (Follow-push src 0 before token c.loop-place.invariant.follow stands);
+      behind = ap (λ (n : ℕ). token.end + n) gap ∙ ap (gap_end src) (sym (ap (end_of 0) pushed ∙ end_of-push 0 before token));
+      in_text = omega (arith, within, length-drop token.end src, stands.in_text);
+    }

@@ -1,0 +1,14 @@
+-- Blanks and comments.
+use Rattle.std.specs.Prelude.{not, ℕ, ◌+◌, Bool, ◌||◌, ◌&&◌, ◌==◌, List, [], ◌∷◌, if◌then◌else◌}
+use Rattle.sa_lex.specs.Bytes.{is_blank, begins_with}
+
+-- the byte is a `-` and another one follows
+abbrev pub opens_comment : ℕ → List ℕ → Bool
+opens_comment b bs = b == 0x2D && begins_with 0x2D bs
+
+-- how many bytes of blanks and comments stand at the front, which may be inside a comment already: a comment ends with its line
+abbrev pub gap_len : Bool → List ℕ → ℕ
+gap_len inside [] = 0
+gap_len inside (b ∷ bs) =
+    let commented = inside || opens_comment b bs in
+    if commented || is_blank b then 1 + gap_len (commented && not (b == 0x0A)) bs else 0

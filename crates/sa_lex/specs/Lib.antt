@@ -1,0 +1,10 @@
+pub mod Bytes
+pub mod Found
+pub mod Front
+pub mod Gap
+pub mod Literal
+pub mod Name
+pub mod Number
+pub mod Sign
+pub mod Token
+pub mod Tokens

@@ -1,0 +1,117 @@
+//! Names and words.
+
+ghost use Rattle.std.specs.Prelude.{◌≡◌, ◌+◌, ◌<◌, ◌≤◌, true, Ok, length, position, slice_index, IsTrue};
+ghost use Rattle.std.specs.Char.{is_ascii_alphabetic};
+ghost use Rattle.std.specs.List.{prefix_len};
+ghost use Rattle.std.specs.Str.{bytes_eq};
+ghost use Rattle.sa_lex.specs.Bytes.{is_name_byte};
+ghost use Rattle.sa_lex.specs.Found.{IsAmong};
+ghost use Rattle.sa_lex.specs.Name.{name_at, words, has_lower, kind_of_name, is_iter_name, name_token, abstract_token};
+
+use crate::byte::{begins_with, is_name_byte};
+use crate::found::{BAD_BYTE, Fault, Found};
+use crate::token::TokenKind;
+use crate::word::WORDS;
+
+/// How many letters, digits and `_` stand at the front.
+fn run_len(bytes: &[u8]) -> usize
+    ensures run { result ≡ prefix_len is_name_byte bytes.now }
+    ensures within { result ≤ length bytes.now }
+{
+    bytes.iter().take_while(|b| is_name_byte(**b)).count()
+}
+
+/// The longest name at the front, or nothing.
+#[tactic(auto, unfolding(crate::specs::Name::name_at))]
+fn name_at(bytes: &[u8]) -> &[u8]
+    ensures name { result.now ≡ name_at bytes.now }
+    ensures within { length result.now ≤ length bytes.now }
+    ensures not_empty { is_ascii_alphabetic (slice_index bytes.now 0) ≡ true → 0 < length result.now }
+{
+    match bytes {
+        [first, rest @ ..] if first.is_ascii_alphabetic() => &bytes[..1 + run_len(rest)],
+        _ => &bytes[..0],
+    }
+}
+
+fn has_lower(name: &[u8]) -> bool
+    ensures { result ≡ has_lower name.now }
+{
+    name.iter().any(|b| b.is_ascii_lowercase())
+}
+
+/// The first place of a spelling in a table.
+fn place_in(table: &[&str], spelling: &[u8]) -> Option<u8>
+    requires { length table.now ≤ 256 }
+    ensures { result ≡ position (λ entry. bytes_eq spelling.now entry.now) table.now }
+{
+    for (place, entry) in table.iter().enumerate() {
+        if spelling == entry.as_bytes() {
+            return Some(place as u8);
+        }
+    }
+    None
+}
+
+/// The place of a word in `WORDS`.
+fn word_spelled(name: &[u8]) -> Option<u8>
+    ensures { result ≡ position (bytes_eq name.now) words }
+{
+    place_in(&WORDS, name)
+}
+
+#[tactic(auto, unfolding(crate::specs::Name::kind_of_name))]
+fn kind_of_name(name: &[u8]) -> TokenKind
+    ensures { result ≡ kind_of_name name.now }
+{
+    match word_spelled(name) {
+        Some(place) => TokenKind::Word(place),
+        None if has_lower(name) => TokenKind::Lower,
+        None => TokenKind::ClassName,
+    }
+}
+
+/// A name with a lower-case letter, and `!` directly behind it.
+fn is_iter_name(name: &[u8], behind: &[u8]) -> bool
+    ensures test { result ≡ is_iter_name name.now behind.now }
+    ensures more { IsTrue result → 0 < length behind.now }
+{
+    begins_with(b'!', behind) && has_lower(name)
+}
+
+/// The token of the name at the front.
+#[tactic(auto, unfolding(crate::specs::Name::name_token))]
+pub(crate) fn name_token(bytes: &[u8]) -> Found
+    requires { is_ascii_alphabetic (slice_index bytes.now 0) ≡ true }
+    ensures token { result ≡ name_token bytes.now }
+    ensures among { IsAmong (length bytes.now) (Ok result) }
+{
+    let name = name_at(bytes);
+    let len = name.len();
+    if is_iter_name(name, &bytes[len..]) {
+        return Found {
+            kind: TokenKind::IterName,
+            len: len + 1,
+        };
+    }
+    Found {
+        kind: kind_of_name(name),
+        len,
+    }
+}
+
+/// The token of a `$` that the bytes follow.
+#[tactic(auto, unfolding(crate::specs::Name::abstract_token))]
+pub(crate) fn abstract_token(bytes: &[u8]) -> Result<Found, Fault>
+    ensures token { result ≡ abstract_token bytes.now }
+    ensures among { IsAmong (1 + length bytes.now) result }
+{
+    let name = name_at(bytes);
+    if name.is_empty() || has_lower(name) {
+        return Err(Fault::at_front(BAD_BYTE));
+    }
+    Ok(Found {
+        kind: TokenKind::AbstractName,
+        len: 1 + name.len(),
+    })
+}

@@ -1,0 +1,45 @@
+//! What a token is, and the bytes that it spans.
+
+ghost use Rattle.std.specs.Prelude.{◌≡◌, slice_range};
+ghost use Rattle.sa_lex.specs.Token.{IsWithin};
+
+use sa_tree::Name;
+
+/// What a token is.
+#[derive(Debug, Drop)]
+pub enum TokenKind {
+    /// A word, by its place in `word::WORDS`.
+    Word(u8),
+    /// A name without a lower-case letter that is no word.
+    ClassName,
+    /// `$` and a class name.
+    AbstractName,
+    /// A name with a lower-case letter that is no word.
+    Lower,
+    /// A name with a lower-case letter, and `!`.
+    IterName,
+    /// A number, by its value: at most 2147483647.
+    Int(u32),
+    /// A character literal, by the byte that it stands for.
+    Char(u8),
+    /// A text literal, by the bytes that it stands for.
+    Text(Name),
+    /// A sign, by its place in `sign::SIGNS`.
+    Sign(u8),
+}
+
+/// A token of a text, which spans the bytes from `start` up to `end`.
+#[derive(Debug, Drop)]
+pub struct Token {
+    pub kind: TokenKind,
+    pub start: u32,
+    pub end: u32,
+}
+
+/// The bytes of the text that the token spans.
+pub fn slice_of<'a>(src: &'a [u8], token: &Token) -> &'a [u8]
+    requires { IsWithin src.now token.now }
+    ensures { result.now ≡ slice_range src.now token.now.start token.now.end }
+{
+    &src[token.start as usize..token.end as usize]
+}
