@@ -1,0 +1,41 @@
+//! Which types are valid (section 3.2).
+
+use crate::fault::{Rule, require};
+use wa_syntax::{FuncTy, ImportKind, Limits};
+
+/// The greatest size of a memory, in pages (3.2.5).
+const MAX_PAGES: u32 = 65_536;
+
+/// Limits within a range (3.2.1): the least is in the range, and so is the greatest, which isn't below the least.
+fn limits(limits: Limits, range: u32) -> Rule {
+    require(limits.min <= range)?;
+    match limits.max {
+        Some(max) => require(limits.min <= max && max <= range),
+        None => Ok(()),
+    }
+}
+
+/// The type of a function (3.2.3): it has at most one result.
+pub fn function_type(ty: &FuncTy) -> Rule {
+    require(ty.results.len() <= 1)
+}
+
+/// The type of a table (3.2.4): its limits are in the range of `u32`.
+pub fn table_type(ty: Limits) -> Rule {
+    limits(ty, u32::MAX)
+}
+
+/// The type of a memory (3.2.5): it has at most 65,536 pages.
+pub fn memory_type(ty: Limits) -> Rule {
+    limits(ty, MAX_PAGES)
+}
+
+/// What an import asks for (3.2.7), where there are so many types of functions. Every type of a global is valid (3.2.6).
+pub fn external_type(kind: ImportKind, types: usize) -> Rule {
+    match kind {
+        ImportKind::Func(ty) => require((ty as usize) < types),
+        ImportKind::Table(ty) => table_type(ty),
+        ImportKind::Memory(ty) => memory_type(ty),
+        ImportKind::Global(_) => Ok(()),
+    }
+}
