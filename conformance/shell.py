@@ -1,0 +1,61 @@
+#!/usr/bin/env python3
+"""shell.py PROGRAM: tries the built program from the shell, with real files and streams.
+
+Prints each case that differs, and a last line 'N passed, M failed'; the status is 1 where any failed."""
+import os
+import subprocess
+import sys
+import tempfile
+
+HELLO = b'class MAIN is main is #OUT + "Hello\\n"; end; end;'
+USAGE = b'usage: sather run, build, check, exec, gen or selftest\n'
+
+
+def run(words, folder, **streams):
+    """The output, the lines on err and the status of the program."""
+    streams.setdefault('stdout', subprocess.PIPE)
+    ended = subprocess.run([PROGRAM] + words, cwd=folder, stdin=subprocess.DEVNULL, stderr=subprocess.PIPE,
+                           timeout=60, **streams)
+    return ended.stdout or b'', ended.stderr, ended.returncode
+
+
+def cases(folder):
+    """Each case: its name, what the program left, and what it should leave."""
+    with open(os.path.join(folder, 'f.sa'), 'wb') as file:
+        file.write(HELLO)
+    os.mkdir(os.path.join(folder, 'folder'))
+    yield 'a program prints its text', run(['run', 'f.sa'], folder), (b'Hello\n', b'', 0)
+    yield 'a file that is missing is a store fault', run(['run', 'g.sa'], folder), (b'', b'store fault\n', 123)
+    yield 'a folder is a store fault', run(['run', 'folder'], folder), (b'', b'store fault\n', 123)
+    yield 'without words the usage is told', run([], folder), (b'', USAGE, 124)
+    os.chmod(folder, 0o755)
+    os.chmod(os.path.join(folder, 'f.sa'), 0)
+    someone = {'user': 65534} if os.geteuid() == 0 else {}
+    left = run(['run', 'f.sa'], folder, **someone)
+    os.chmod(os.path.join(folder, 'f.sa'), 0o644)
+    yield 'a file that may not be read is a store fault', left, (b'', b'store fault\n', 123)
+    with open('/dev/full', 'wb') as full:
+        yield 'a full output is an output fault', run(['run', 'f.sa'], folder, stdout=full), (b'', b'output fault\n', 123)
+    closed = ['sh', '-c', 'exec "$0" run f.sa >&-', PROGRAM]
+    ended = subprocess.run(closed, cwd=folder, stdin=subprocess.DEVNULL, stderr=subprocess.PIPE, timeout=60)
+    yield 'a closed output is an output fault', (b'', ended.stderr, ended.returncode), (b'', b'output fault\n', 123)
+
+
+def main():
+    passed = failed = 0
+    with tempfile.TemporaryDirectory() as folder:
+        for name, left, wanted in cases(folder):
+            if left == wanted:
+                passed += 1
+            else:
+                failed += 1
+                print('%s: wanted %r, and it left %r' % (name, wanted, left))
+    print('%d passed, %d failed' % (passed, failed))
+    return 1 if failed else 0
+
+
+if len(sys.argv) != 2:
+    print(__doc__)
+    sys.exit(2)
+PROGRAM = os.path.abspath(sys.argv[1])
+sys.exit(main())

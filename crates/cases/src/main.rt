@@ -1,0 +1,52 @@
+//! Runs a table of cases through the top call, over objects in memory, and prints what differs.
+#![tactic(auto)]
+
+mod case;
+mod outcome;
+
+use crate::case::Case;
+use crate::outcome::difference;
+use anyhow::{Context, Result};
+use serde_json::Value;
+use std::alloc::Global;
+use std::fs::{self, Files};
+use std::process::ExitCode;
+
+/// The files of the table, one for each subject.
+const TABLES: [&str; 2] = ["hello.json", "tokens.json"];
+
+fn main(rt: HostRuntime) -> Result<ExitCode> {
+    let mut status = ExitCode::SUCCESS;
+    for table in TABLES {
+        let (passed, failed) = run_table(&rt, rt.alloc(), table)?;
+        println!(rt; "{table}: {passed} passed, {failed} failed")?;
+        if failed > 0 {
+            status = ExitCode::FAILURE;
+        }
+    }
+    Ok(status)
+}
+
+/// Runs each case of the file, prints what differs, and gives how many passed and how many failed.
+fn run_table(
+    rt: &(impl Files + AllocGlobal + Print),
+    alloc: Global,
+    table: &str,
+) -> Result<(u64, u64)> {
+    let text = fs::read_to_string(rt, table).context("reading a table")?;
+    let cases = Value::from_str(alloc, text.as_str())?;
+    let mut passed = 0u64;
+    let mut failed = 0u64;
+    for value in cases.as_array().context("a table is a list")? {
+        let case = Case::read(alloc, value).context("reading a case")?;
+        let name = case.name.clone()?;
+        match difference(alloc, case)? {
+            None => passed = passed.saturating_add(1),
+            Some(text) => {
+                failed = failed.saturating_add(1);
+                println!(rt; "{name}: {text}")?;
+            }
+        }
+    }
+    Ok((passed, failed))
+}

@@ -1,0 +1,71 @@
+//! What a call leaves, compared with what its case asks for.
+
+use crate::case::{Case, Wanted};
+use anyhow::{Result, ensure};
+use bstr::BStr;
+use sa_drive::{Exit, sather};
+use sa_outside::{MemSink, MemSource, MemStore};
+use std::alloc::Global;
+
+/// What the call of the case leaves otherwise than is wanted, or none.
+pub fn difference(alloc: Global, case: Case) -> Result<Option<String>> {
+    let Case {
+        name: _name,
+        files,
+        words,
+        input,
+        failing,
+        wanted,
+    } = case;
+    ensure!(
+        MemStore::names_differ(files.as_slice()),
+        "two files have one name"
+    );
+    let mut store = MemStore::new(files, failing.store);
+    let mut input = MemSource::new(input, failing.input);
+    let mut out = MemSink::new(alloc, failing.output);
+    let mut err = MemSink::new(alloc, failing.lines);
+    let exit = sather(
+        alloc,
+        words.as_slice(),
+        &mut store,
+        &mut input,
+        &mut out,
+        &mut err,
+    );
+    first_difference(alloc, &wanted, &exit, out.taken(), err.taken())
+}
+
+fn first_difference(
+    alloc: Global,
+    wanted: &Wanted,
+    exit: &Exit,
+    output: &[u8],
+    lines: &[u8],
+) -> Result<Option<String>> {
+    if !is_wanted(wanted.output.as_slice(), wanted.output_may_be_cut, output) {
+        return Ok(Some(told(alloc, "out", wanted.output.as_slice(), output)?));
+    }
+    if lines != wanted.lines.as_slice() {
+        return Ok(Some(told(alloc, "err", wanted.lines.as_slice(), lines)?));
+    }
+    let status = exit.status;
+    if u64::from(status) != wanted.status {
+        return Ok(Some(format!(in alloc;
+            "status {} is wanted, and it is {status}",
+            wanted.status
+        )?));
+    }
+    Ok(None)
+}
+
+/// Whether the bytes are the wanted ones or, where these may be cut, a front of them.
+fn is_wanted(wanted: &[u8], may_be_cut: bool, got: &[u8]) -> bool {
+    got == wanted || (may_be_cut && wanted.starts_with(got))
+}
+
+fn told(alloc: Global, place: &str, wanted: &[u8], got: &[u8]) -> Result<String> {
+    let wanted = BStr::new(wanted);
+    let got = BStr::new(got);
+    Ok(format!(in alloc; "{place} should take {wanted:?}, and it took {got:?}")?)
+}

@@ -1,0 +1,9 @@
+pub mod Answer
+pub mod Lines
+pub mod Read
+pub mod Report
+pub mod Run
+pub mod Sources
+pub mod Status
+pub mod Texts
+pub mod Words

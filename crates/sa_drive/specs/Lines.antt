@@ -1,0 +1,59 @@
+-- The lines on err.
+use Rattle.std.specs.Prelude.{ℕ, ◌+◌, ◌<◌, ⊤, List, [], ◌++◌, ◌==◌, length, take, count_by, codes, decimal, slice_get, unwrap_or}
+use Rattle.sa_tree.specs.declared.pos.Pos.{Pos}
+use Rattle.sa_tree.specs.declared.pos.Sources.{Sources}
+use Rattle.sa_tree.specs.Sources.{text_of}
+use Rattle.sa_drive.specs.Texts.{refusal_text, fault_text}
+use Rattle.sa_drive.specs.declared.cause.Cause.{Cause}
+use Rattle.sa_drive.specs.declared.cause.Cause.TheVariants.{Done, Refused, Fault, Stopped, Spent, StoreFault, InFault, OutFault, Usage, Malformed, Invalid, Unlinked, Segment, Trap, TooDeep, NotListing, NotBuilt, NoMemory}
+
+-- the line of a place, from 1
+abbrev pub line_number : Sources → Pos → ℕ
+line_number sources pos = 1 + count_by (λ byte. byte == 10) (take pos.at (text_of sources pos.file))
+
+-- `FILE:LINE: TEXT` about a place
+abbrev pub about_place : Sources → Pos → List ℕ → List ℕ
+about_place sources pos text =
+    let file = unwrap_or (slice_get sources.names pos.file) [] in
+    file ++ codes ":" ++ decimal (line_number sources pos) ++ codes ": " ++ text ++ codes "\n"
+
+-- `FILE: TEXT` about a file
+abbrev pub about_file : List ℕ → List ℕ → List ℕ
+about_file file text = file ++ codes ": " ++ text ++ codes "\n"
+
+abbrev pub stop_line : List ℕ → ℕ → ℕ → List ℕ
+stop_line file code site = about_file file (codes "stop " ++ decimal code ++ codes " at " ++ decimal site)
+
+abbrev pub listing_line : List ℕ → ℕ → List ℕ
+listing_line file line = file ++ codes ":" ++ decimal line ++ codes ": no listing\n"
+
+-- the line of a cause, where these are the program's texts, and this is the file of the module or the listing
+abbrev pub line_of_cause : Sources → List ℕ → Cause → List ℕ
+line_of_cause sources file Done = []
+line_of_cause sources file (Refused refusal) = about_place sources refusal.pos (refusal_text refusal.code)
+line_of_cause sources file (Fault kind pos) = about_place sources pos (codes "fault: " ++ fault_text kind)
+line_of_cause sources file (Stopped code site) = stop_line file code site
+line_of_cause sources file (Spent steps) = codes "fuel spent\n"
+line_of_cause sources file StoreFault = codes "store fault\n"
+line_of_cause sources file InFault = codes "input fault\n"
+line_of_cause sources file OutFault = codes "output fault\n"
+line_of_cause sources file Usage = codes "usage: sather run, build, check, exec, gen or selftest\n"
+line_of_cause sources file Malformed = about_file file (codes "malformed")
+line_of_cause sources file (Invalid func) = about_file file (codes "invalid")
+line_of_cause sources file (Unlinked import) = about_file file (codes "unlinked " ++ decimal import)
+line_of_cause sources file Segment = about_file file (codes "segment")
+line_of_cause sources file (Trap kind) = about_file file (codes "trap")
+line_of_cause sources file TooDeep = about_file file (codes "too deep")
+line_of_cause sources file (NotListing line) = listing_line file line
+line_of_cause sources file NotBuilt = codes "not built\n"
+line_of_cause sources file NoMemory = codes "out of memory\n"
+
+-- the position is in one of the texts
+abbrev pub IsInside : Sources → Pos → Type 0
+IsInside sources pos = (pos.file < length sources.texts) × (length (text_of sources pos.file) < 4_294_967_295)
+
+-- the cause names a position in one of the texts, or none
+abbrev pub IsPlaced : Sources → Cause → Type 0
+IsPlaced sources (Refused refusal) = IsInside sources refusal.pos
+IsPlaced sources (Fault kind pos) = IsInside sources pos
+IsPlaced sources _ = ⊤
