@@ -1,8 +1,8 @@
 -- The words of the top frame among all words. `view` is what a region of these words is seen as.
-use Rattle.std.proofs.Common.{◌≡◌, ℕ, ◌+◌, ◌-◌, ◌<◌, ◌≤◌, List, [], ◌∷◌, ◌++◌, length, take, drop, slice_range, refl, sym, subst, ap, ◌∙◌, append_assoc, arith}
+use Rattle.std.proofs.Common.{◌≡◌, ℕ, suc, ◌+◌, ◌-◌, ◌<◌, ◌≤◌, List, [], ◌∷◌, ◌++◌, length, reverse, take, drop, slice_range, refl, sym, subst, ap, ◌∙◌, append_assoc, arith}
 use Rattle.std.proofs.Math.Seq.{drop-append_seam}
 use Rattle.std.proofs.lemmas.Grind.{common_steps}
-use Rattle.std.proofs.lemmas.List.{length-drop, drop-take, take-append-le}
+use Rattle.std.proofs.lemmas.List.{length-drop, length-reverse, drop-take, take-append-le}
 use Rattle.std.specs.Global.{Vec}
 use Rattle.std.specs.Vec.{with_items_from}
 use Rattle.wa_region.specs.Frames.{frames, top, with_words}
@@ -60,3 +60,11 @@ refilled base (below ∷ bases) words view ws n rest l h e =
 pub frames-with_items_from : (base : ℕ) (bases : List ℕ) (words : Vec ℕ) (view : List (List ℕ)) (ws : List ℕ) → base ≤ length words.items → frames base bases words.items ≡ view → frames base bases (with_items_from words base ws).items ≡ with_words view ws
 frames-with_items_from base bases words view ws h e =
     refilled base bases words.items view ws words.len (drop (length (take base words.items ++ (ws ++ drop (length ws) (drop base words.items)))) words.items) words.ok.0 h e
+
+-- as many frames are open as places are kept
+pub length-frames : (base : ℕ) (bases words : List ℕ) → length (frames base bases words) ≡ length bases
+length-frames base [] words = refl
+length-frames base (below ∷ bases) words = ap suc (length-frames below bases (take base words))
+
+pub depth-frames : (base : ℕ) (bases words : List ℕ) (view : List (List ℕ)) → frames base (reverse bases) words ≡ view → length bases ≡ length view
+depth-frames base bases words view e = sym (length-reverse bases) ∙ sym (length-frames base (reverse bases) words) ∙ ap length e

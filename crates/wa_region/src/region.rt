@@ -44,6 +44,14 @@ impl Region {
         }
     }
 
+    /// How many frames are open.
+    #[inline]
+    pub fn depth(&self) -> usize
+        ensures { result ≡ length self.now }
+    {
+        self.bases.as_slice().len()
+    }
+
     /// Opens a frame of `len` words, which are 0.
     ///
     /// # Errors

@@ -1,0 +1,132 @@
+//! The open activations (section 4.2.10.2 of the WebAssembly Core Specification 1.0): their words, and where each caller goes on.
+
+ghost use Rattle.std.specs.Prelude.{◌≡◌, ◌==◌, ◌+◌, ◌-◌, OnOk, IfErr, vec_len};
+ghost use Rattle.wa_exec.specs.Tells.{IsInside};
+
+use crate::code::Body;
+use crate::halt::Halt;
+use std::alloc::Global;
+use wa_region::Region;
+
+/// The most activations at a time.
+pub(crate) const DEPTH: usize = 40_000;
+
+/// Where a caller goes on: the place of its next instruction, and the height of its operands without the arguments.
+#[derive(Clone, Copy)]
+pub(crate) struct Caller {
+    at: usize,
+    height: usize,
+}
+
+/// The open activations, and where the last one is.
+#[derive(Drop)]
+pub(crate) struct Calls {
+    pub region: Region,
+    pub callers: Vec<Caller>,
+    /// The place of the next instruction.
+    pub at: usize,
+    /// The height of the operands.
+    pub height: usize,
+}
+
+/// Opens the frame of a function, whose first words are the top `params` operands of the frame below.
+fn open_frame(region: &mut Region, from: usize, params: u32, len: u32) -> Result<(), Halt>
+    ensures inside { IfErr result IsInside }
+{
+    let len = len.max(params);
+    if region.depth() > 0
+        && let Ok(start) = u32::try_from(from)
+        && from + params as usize <= region.top().len()
+    {
+        return region
+            .enter_with(start, params, len)
+            .map_err(|_| Halt::NoMemory);
+    }
+    region.enter(len).map_err(|_| Halt::NoMemory)
+}
+
+impl Calls {
+    pub(crate) fn new(alloc: Global) -> Calls {
+        Calls {
+            region: Region::new(alloc),
+            callers: Vec::new(alloc),
+            at: 0,
+            height: 0,
+        }
+    }
+
+    /// Whether no activation is open.
+    pub(crate) fn is_empty(&self) -> bool
+        ensures { result ≡ (vec_len self.now.callers == 0) }
+    {
+        self.callers.is_empty()
+    }
+
+    /// Opens an activation of a function, whose arguments are the top operands.
+    ///
+    /// # Errors
+    ///
+    /// `TooDeep` where 40,000 are open, and `NoMemory`.
+    pub(crate) fn enter(&mut self, body: Body) -> Result<(), Halt>
+        ensures ok { OnOk result (vec_len self.new.callers ≡ vec_len self.old.callers + 1) }
+        ensures inside { IfErr result IsInside }
+    {
+        if self.callers.len() >= DEPTH {
+            return Err(Halt::TooDeep);
+        }
+        let height = self.height.wrapping_sub(body.params as usize);
+        let caller = Caller {
+            at: self.at,
+            height,
+        };
+        if self.callers.push(caller).is_err() {
+            return Err(Halt::NoMemory);
+        }
+        open_frame(&mut self.region, height, body.params, body.len)?;
+        self.at = body.entry as usize;
+        self.height = body.locals as usize;
+        Ok(())
+    }
+
+    /// Closes the last activation and goes on in its caller, with the result as an operand.
+    pub(crate) fn leave(&mut self, value: Option<u64>)
+        ensures { vec_len self.new.callers ≡ vec_len self.old.callers - 1 }
+    {
+        if self.region.depth() > 0 {
+            self.region.leave();
+        }
+        if let Some(caller) = self.callers.pop() {
+            self.at = caller.at;
+            self.height = caller.height;
+        }
+        if let Some(word) = value {
+            self.give(word);
+        }
+    }
+
+    /// Puts an operand on those of the last activation.
+    pub(crate) fn give(&mut self, word: u64)
+        ensures { vec_len self.new.callers ≡ vec_len self.old.callers }
+    {
+        if self.region.depth() > 0
+            && let Ok(at) = u32::try_from(self.height)
+            && self.height < self.region.top().len()
+        {
+            self.region.set(at, word);
+        }
+        self.height = self.height.wrapping_add(1);
+    }
+
+    /// Takes the top operand of the last activation.
+    pub(crate) fn take(&mut self) -> u64
+        ensures { vec_len self.new.callers ≡ vec_len self.old.callers }
+    {
+        self.height = self.height.wrapping_sub(1);
+        if self.region.depth() > 0
+            && let Some(word) = self.region.top().get(self.height)
+        {
+            return *word;
+        }
+        0
+    }
+}

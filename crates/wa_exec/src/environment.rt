@@ -1,0 +1,83 @@
+//! The functions of the host: `env.put`, `env.get` and `env.stop`.
+
+ghost use Rattle.std.specs.Prelude.{◌≡◌, ◌≤◌, ℕ, IfErr, vec_len};
+ghost use Rattle.wa_exec.specs.Tells.{Tells, faults_of};
+
+use crate::calls::Calls;
+use crate::code::HostCall;
+use crate::halt::Halt;
+use crate::host::Host;
+use crate::words::low;
+use sa_outside::{Outage, Sink, Source, Take};
+
+/// Hands the output on.
+fn hand_on<O: Sink>(host: &mut Host, out: &mut O) -> Result<(), Halt>
+    ensures tells { IfErr result (λ h. (i steps fuel : ℕ) → Tells h (faults_of i (O.faults out.old)) (faults_of i (O.faults out.new)) steps fuel) }
+    ensures count { O.faults out.old ≤ O.faults out.new }
+{
+    match host.flush(out) {
+        Ok(()) => Ok(()),
+        Err(Outage::Failed) => Err(Halt::OutFault),
+        Err(Outage::NoMemory) => Err(Halt::NoMemory),
+    }
+}
+
+/// `env.put`: holds the low 8 bits of the argument, and hands the output on where 4,096 bytes are held.
+fn put<O: Sink>(word: u64, host: &mut Host, out: &mut O) -> Result<(), Halt>
+    ensures tells { IfErr result (λ h. (i steps fuel : ℕ) → Tells h (faults_of i (O.faults out.old)) (faults_of i (O.faults out.new)) steps fuel) }
+    ensures count { O.faults out.old ≤ O.faults out.new }
+{
+    if host.hold((word % (1 << 8)) as u8).is_err() {
+        return Err(Halt::NoMemory);
+    }
+    if host.is_full() {
+        hand_on(host, out)
+    } else {
+        Ok(())
+    }
+}
+
+/// `env.get`: the next byte of the input, or -1 at its end. The output is handed on before.
+fn get<I: Source, O: Sink>(host: &mut Host, input: &mut I, out: &mut O) -> Result<u64, Halt>
+    ensures tells { IfErr result (λ h. (steps fuel : ℕ) → Tells h (faults_of (I.faults input.old) (O.faults out.old)) (faults_of (I.faults input.new) (O.faults out.new)) steps fuel) }
+    ensures source { I.faults input.old ≤ I.faults input.new }
+    ensures sink { O.faults out.old ≤ O.faults out.new }
+{
+    hand_on(host, out)?;
+    match input.take() {
+        Take::Byte(byte) => Ok(u64::from(byte)),
+        Take::End => Ok(u64::from(u32::MAX)),
+        Take::Failed => Err(Halt::InFault),
+    }
+}
+
+/// Calls a function of the host, whose arguments are the top operands. Gives the halt, if it halts the run.
+pub(crate) fn call_host<I: Source, O: Sink>(
+    call: HostCall,
+    calls: &mut Calls,
+    host: &mut Host,
+    input: &mut I,
+    out: &mut O,
+) -> Result<(), Halt>
+    ensures tells { IfErr result (λ h. (steps fuel : ℕ) → Tells h (faults_of (I.faults input.old) (O.faults out.old)) (faults_of (I.faults input.new) (O.faults out.new)) steps fuel) }
+    ensures source { I.faults input.old ≤ I.faults input.new }
+    ensures sink { O.faults out.old ≤ O.faults out.new }
+    ensures calls { vec_len calls.new.callers ≡ vec_len calls.old.callers }
+{
+    match call {
+        HostCall::Put => {
+            let word = calls.take();
+            put(word, host, out)
+        }
+        HostCall::Get => {
+            let word = get(host, input, out)?;
+            calls.give(word);
+            Ok(())
+        }
+        HostCall::Stop => {
+            let site = low(calls.take());
+            let code = low(calls.take());
+            Err(Halt::Stopped { code, site })
+        }
+    }
+}

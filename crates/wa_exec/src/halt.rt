@@ -1,0 +1,53 @@
+//! How a run halts, and why a module can't be started.
+
+use std::alloc::{AllocError, AllocFailed};
+use thiserror::Error;
+use wa_syntax::TrapKind;
+
+/// How a call of [`Machine::step_until`](crate::Machine::step_until) ended.
+#[derive(Clone, Copy, Debug, PartialEq, Eq)]
+pub enum Halt {
+    /// `main` has returned, with its result if it has one.
+    Ended(Option<u32>),
+    /// The module called `env.stop` with these two numbers.
+    Stopped { code: u32, site: u32 },
+    /// An instruction trapped.
+    Trap(TrapKind),
+    /// The steps have reached the fuel. The run can go on.
+    Spent,
+    /// A call would have made the 40,001st activation.
+    TooDeep,
+    /// The source failed.
+    InFault,
+    /// The sink failed.
+    OutFault,
+    /// There is no memory for an activation, for the growth of the linear memory or in the sink.
+    NoMemory,
+}
+
+/// Why a module can't be started.
+#[derive(Clone, Copy, Debug, PartialEq, Eq, Error)]
+pub enum StartFault {
+    /// The import of this number is none of `env.put`, `env.get` and `env.stop` with their types; or, where the number is
+    /// that of all imports, no function of the module's own without arguments and with no result or one `i32` is exported
+    /// as `main`.
+    #[error("import {0} can't be linked")]
+    Unlinked(u32),
+    /// A segment goes past the end of the table or the memory.
+    #[error("a segment doesn't fit")]
+    Segment,
+    #[error("out of memory")]
+    NoMemory,
+}
+
+impl From<AllocError> for StartFault {
+    fn from(_: AllocError) -> StartFault {
+        StartFault::NoMemory
+    }
+}
+
+impl<T: Drop> From<AllocFailed<T>> for StartFault {
+    fn from(_: AllocFailed<T>) -> StartFault {
+        StartFault::NoMemory
+    }
+}

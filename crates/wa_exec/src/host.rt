@@ -1,0 +1,73 @@
+//! The output of a module that is held and not handed on yet.
+
+ghost use Rattle.std.specs.Prelude.{◌≡◌, ◌≤◌, [], ◌∷◌, ◌++◌, IfOk, OnOk, OnErr, IsErrOf};
+ghost use Rattle.sa_outside.specs.Faults.{Rose};
+ghost use Rattle.sa_outside.specs.Output.{Took, TookFront};
+
+use sa_outside::{Outage, Sink};
+use std::alloc::Global;
+use std::marker::Model;
+use wa_syntax::NoMemory;
+
+/// How many bytes are held at most before they are handed on.
+pub(crate) const HELD: usize = 4096;
+
+/// The output that is held and not handed on yet. Contracts see its bytes.
+#[derive(Debug, Drop)]
+pub struct Host {
+    held: Vec<u8>,
+}
+
+impl Model for Host {
+    ghost use Rattle.std.specs.Prelude.{ℕ, List};
+
+    ghost Value = { List ℕ };
+
+    ghost view = { λ h. h.held.items };
+}
+
+impl Host {
+    /// A host that holds nothing, with the memory for 4,096 bytes.
+    ///
+    /// # Errors
+    ///
+    /// `NoMemory` where there is no memory for them.
+    pub fn new(alloc: Global) -> Result<Host, NoMemory>
+        ensures { IfOk result (λ host. host ≡ []) }
+    {
+        let held = Vec::with_capacity(alloc, HELD)?;
+        Ok(Host { held })
+    }
+
+    /// Hands all that is held to the sink, in order, and then holds nothing.
+    ///
+    /// # Errors
+    ///
+    /// The sink's outage. It has then taken a front of what is held, and what is held stays.
+    pub fn flush<O: Sink>(&mut self, out: &mut O) -> Result<(), Outage>
+        ensures ok { OnOk result (self.new ≡ []) }
+        ensures took { OnOk result (Took (O.output out.old) (O.output out.new) self.old) }
+        ensures held { OnErr result (self.new ≡ self.old) }
+        ensures front { OnErr result (TookFront (O.output out.old) (O.output out.new) self.old) }
+        ensures failed { IsErrOf result Outage.Failed → Rose (O.faults out.old) (O.faults out.new) }
+        ensures count { O.faults out.old ≤ O.faults out.new }
+    {
+        out.put(self.held.as_slice())?;
+        self.held.clear();
+        Ok(())
+    }
+
+    /// Holds one more byte.
+    pub(crate) fn hold(&mut self, byte: u8) -> Result<(), NoMemory>
+        ensures ok { OnOk result (self.new ≡ self.old ++ byte ∷ []) }
+        ensures err { OnErr result (self.new ≡ self.old) }
+    {
+        self.held.push(byte)?;
+        Ok(())
+    }
+
+    /// Whether as many bytes are held as are handed on together.
+    pub(crate) fn is_full(&self) -> bool {
+        self.held.len() >= HELD
+    }
+}

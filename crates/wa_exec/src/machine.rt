@@ -1,0 +1,154 @@
+//! A machine that runs a valid module (section 4.5 of the WebAssembly Core Specification 1.0).
+
+ghost use Rattle.std.specs.Prelude.{◌≡◌, ◌≤◌, ◌<◌, max, IfOk};
+ghost use Rattle.wa_exec.specs.Progress.{Stays, halted};
+ghost use Rattle.wa_exec.specs.Tells.{Tells, faults_of};
+
+use crate::calls::Calls;
+use crate::code::Code;
+use crate::halt::{Halt, StartFault};
+use crate::host::Host;
+use crate::link::main_of;
+use crate::prepare::code;
+use crate::run::run;
+use crate::state::State;
+use crate::store::{globals, memory, most_pages, table};
+use sa_outside::{Sink, Source};
+use std::alloc::Global;
+use std::marker::Model;
+use wa_syntax::Module;
+use wa_valid::Valid;
+
+/// A module that is run. Contracts see how many steps it has made and whether it has halted.
+#[derive(Drop)]
+pub struct Machine<'a> {
+    module: &'a Module,
+    code: Code,
+    state: State,
+    steps: u64,
+    halt: Option<Halt>,
+}
+
+impl<'a> Model for Machine<'a> {
+    ghost use Rattle.wa_exec.specs.Progress.{Progress};
+
+    ghost Value = { Progress };
+
+    ghost view = { λ m. record { steps = m.steps; halt = m.halt } };
+}
+
+impl<'a> Machine<'a> {
+    /// A machine at the beginning of a run of the module: its start function, if it has one, and then `main`.
+    ///
+    /// # Errors
+    ///
+    /// `Unlinked` where an import is none of the functions of the host, or `main` is missing; `Segment` where a segment
+    /// doesn't fit; and `NoMemory`.
+    pub fn new(alloc: Global, v: &'a Valid) -> Result<Machine<'a>, StartFault>
+        ensures { IfOk result (λ machine. machine ≡ record { steps = 0; halt = None }) }
+    {
+        let module = v.module();
+        let code = code(alloc, module)?;
+        let main = main_of(module)?;
+        let state = beginning(alloc, module, main)?;
+        Ok(Machine {
+            module,
+            code,
+            state,
+            steps: 0,
+            halt: None,
+        })
+    }
+
+    /// How many steps were made.
+    pub fn steps(&self) -> u64
+        ensures { result ≡ self.now.steps }
+    {
+        self.steps
+    }
+
+    /// The module.
+    pub fn module(&self) -> &'a Module {
+        self.module
+    }
+
+    /// Runs until the steps have reached the fuel or the run halts. A machine that has halted answers its halt again, and
+    /// nothing is read or handed on; nor is it where the fuel is below the steps.
+    ///
+    /// Each instruction is a step, also one that halts; `else` and `end` are none. A `loop` is one each time it is entered
+    /// from above, and a branch to it goes to the first instruction in it. Output is handed on where 4,096 bytes are held,
+    /// and before each read of input.
+    pub fn step_until<I: Source, O: Sink>(
+        &mut self,
+        fuel: u64,
+        host: &mut Host,
+        input: &mut I,
+        out: &mut O,
+    ) -> Halt
+        ensures stays { Stays result self.old self.new }
+        ensures untouched { (halt : Halt) → self.old.halt ≡ Some halt → (host.new ≡ host.old) × (input.new ≡ input.old) × (out.new ≡ out.old) }
+        ensures short { fuel < self.old.steps → self.new ≡ self.old }
+        ensures halted { self.old.halt ≡ None → self.new.halt ≡ halted result }
+        ensures steps { self.old.steps ≤ self.new.steps }
+        ensures within { self.new.steps ≤ max self.old.steps fuel }
+        ensures tells { self.old.halt ≡ None → Tells result (faults_of (I.faults input.old) (O.faults out.old)) (faults_of (I.faults input.new) (O.faults out.new)) self.new.steps fuel }
+        ensures source { I.faults input.old ≤ I.faults input.new }
+        ensures sink { O.faults out.old ≤ O.faults out.new }
+    {
+        if let Some(halt) = self.halt {
+            return halt;
+        }
+        if fuel < self.steps {
+            return Halt::Spent;
+        }
+        let outcome = run(
+            &self.code,
+            &mut self.state,
+            self.steps,
+            fuel,
+            host,
+            input,
+            out,
+        );
+        self.steps = outcome.steps;
+        self.halt = kept(outcome.halt);
+        outcome.halt
+    }
+}
+
+/// The halt that stays: each but `Spent`.
+fn kept(halt: Halt) -> Option<Halt>
+    ensures { result ≡ halted halt }
+{
+    match halt {
+        Halt::Spent => None,
+        other => Some(other),
+    }
+}
+
+/// The functions that are to be run: `main`, and above it the start function.
+fn waiting(alloc: Global, module: &Module, main: u32) -> Result<Vec<u32>, StartFault> {
+    let mut waiting = Vec::new(alloc);
+    waiting.push(main)?;
+    if let Some(start) = module.start {
+        waiting.push(start)?;
+    }
+    Ok(waiting)
+}
+
+/// What a run begins with.
+fn beginning(alloc: Global, module: &Module, main: u32) -> Result<State, StartFault> {
+    let waiting = waiting(alloc, module, main)?;
+    let globals = globals(alloc, module.globals.as_slice())?;
+    let table = table(alloc, module, globals.as_slice())?;
+    let bytes = memory(alloc, module, globals.as_slice())?;
+    Ok(State {
+        calls: Calls::new(alloc),
+        waiting,
+        value: None,
+        globals,
+        table,
+        bytes,
+        most_pages: most_pages(module),
+    })
+}

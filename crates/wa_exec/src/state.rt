@@ -1,0 +1,115 @@
+//! What a run changes in the machine: its activations, its globals, its table and its memory.
+
+ghost use Rattle.std.specs.Prelude.{◌≡◌, ◌≤◌, max, vec_len};
+ghost use Rattle.wa_exec.specs.Stretch.{IsPaid};
+
+use crate::activation::{Pause, Stretch, pages, run_activation};
+use crate::calls::Calls;
+use crate::code::Code;
+use crate::memory::PAGE;
+use crate::words::low;
+use wa_syntax::TrapKind;
+
+/// What a run changes.
+#[derive(Drop)]
+pub(crate) struct State {
+    pub calls: Calls,
+    /// The functions that are to be run one after another, the next one last: `main`, and above it the start function.
+    pub waiting: Vec<u32>,
+    /// What the last of them returned.
+    pub value: Option<u64>,
+    pub globals: Vec<u64>,
+    pub table: Vec<Option<u32>>,
+    pub bytes: Vec<u8>,
+    /// The most pages that the memory may have.
+    pub most_pages: usize,
+}
+
+impl State {
+    /// Runs the instructions of the last activation. Where none is open, there is nothing to run.
+    pub(crate) fn run(&mut self, code: &Code, before: u64, fuel: u64) -> Stretch
+        ensures steps { before ≤ result.steps }
+        ensures within { result.steps ≤ max before fuel }
+        ensures paid { IsPaid result.pause before result.steps fuel }
+        ensures calls { vec_len self.new.calls.callers ≡ vec_len self.old.calls.callers }
+        ensures waiting { vec_len self.new.waiting ≡ vec_len self.old.waiting }
+    {
+        let at = self.calls.at;
+        let height = self.calls.height;
+        if self.calls.region.depth() == 0 {
+            return Stretch {
+                at,
+                height,
+                steps: before,
+                pause: Pause::Returned(None),
+            };
+        }
+        let stretch = run_activation(
+            code.ops.as_slice(),
+            code.targets.as_slice(),
+            self.calls.region.top_mut(),
+            self.globals.as_mut_slice(),
+            self.bytes.as_mut_slice(),
+            at,
+            height,
+            before,
+            fuel,
+        );
+        self.calls.at = stretch.at;
+        self.calls.height = stretch.height;
+        stretch
+    }
+
+    /// The function that an indirect call through the table calls, whose number is the top operand.
+    pub(crate) fn callee(&mut self, code: &Code, ty: u32) -> Result<u32, TrapKind>
+        ensures calls { vec_len self.new.calls.callers ≡ vec_len self.old.calls.callers }
+        ensures waiting { vec_len self.new.waiting ≡ vec_len self.old.waiting }
+    {
+        let index = low(self.calls.take()) as usize;
+        match self.table.get(index) {
+            None => Err(TrapKind::Element),
+            Some(None) => Err(TrapKind::Uninitialised),
+            Some(Some(func)) => {
+                if is_of_type(code, *func, ty) {
+                    Ok(*func)
+                } else {
+                    Err(TrapKind::Mismatch)
+                }
+            }
+        }
+    }
+
+    /// `memory.grow`: gives the old size in pages, or -1 where the new one passes the most pages.
+    ///
+    /// # Errors
+    ///
+    /// Where there is no memory for the pages.
+    pub(crate) fn grow(&mut self) -> bool
+        ensures calls { vec_len self.new.calls.callers ≡ vec_len self.old.calls.callers }
+        ensures waiting { vec_len self.new.waiting ≡ vec_len self.old.waiting }
+    {
+        let more = low(self.calls.take()) as usize;
+        let old = pages(self.bytes.as_slice());
+        let len = self.bytes.len().saturating_add(more * PAGE);
+        if len > self.most_pages.saturating_mul(PAGE) {
+            self.calls.give(u64::from(u32::MAX));
+            return true;
+        }
+        if self.bytes.resize(len, 0).is_err() {
+            return false;
+        }
+        self.calls.give(old);
+        true
+    }
+}
+
+/// Whether a function is of the type with this number, by content.
+fn is_of_type(code: &Code, func: u32, ty: u32) -> bool {
+    match (
+        code.func_types.get(func as usize),
+        code.first_types.get(ty as usize),
+    ) {
+        (Some(own), Some(wanted)) => own == wanted,
+        _ => false,
+    }
+}
