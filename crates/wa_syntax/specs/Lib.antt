@@ -1,3 +1,14 @@
+pub mod Binary
+pub mod BinaryInstructions
+pub mod Formats
+pub mod Hosts
+pub mod Instructions
 pub mod Leb128
 pub mod Locals
+pub mod Machine
 pub mod Numeric
+pub mod Operations
+pub mod Runs
+pub mod Steps
+pub mod ValidModule
+pub mod Validity

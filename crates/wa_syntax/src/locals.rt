@@ -1,4 +1,4 @@
-//! The locals of a function as runs of one type (section 5.4.12 writes them so): a million locals may be a few bytes.
+//! The locals of a function as runs of one type (section 5.5.13 writes them so): a million locals may be a few bytes.
 
 ghost use Rattle.std.specs.Prelude.{◌≡◌, ◌<◌, ◌↔◌, [], ◌++◌, length, min, replicate, slice_get, IsTrue, OnOk, OnErr};
 ghost use Rattle.wa_syntax.specs.Locals.{types_of_runs};
@@ -7,7 +7,7 @@ use crate::module::ValTy;
 use std::alloc::{AllocError, Global};
 use std::marker::Model;
 
-/// Locals of one type in a row (5.4.12).
+/// Locals of one type in a row (5.5.13).
 #[derive(Clone, Copy, Debug, PartialEq, Eq, Hash)]
 pub struct Run {
     pub count: u32,

@@ -1,0 +1,71 @@
+//! Modules (section 5.5.15).
+
+ghost use Rattle.std.specs.Prelude.{◌≡◌, ◌<◌, ◌≤◌, length, take, All, IfOk, OnOk};
+ghost use Rattle.wa_decode.specs.Places.{ReachesIn};
+
+use crate::code::MAX_LOCALS;
+use crate::external::{ExportEntry, ImportEntry};
+use crate::fault::DecodeFault;
+use crate::production::Decoded;
+use crate::section::{code_section, customs, start_section, vector_section};
+use crate::segment::{DataSegment, ElementSegment, OwnGlobal};
+use crate::types::{FunctionType, MemoryType, TableType};
+use crate::value::{Index, ends};
+use std::alloc::Global;
+use wa_syntax::Module;
+
+/// What a module begins with: `\0asm`, and the version of the format.
+const PREAMBLE: [u8; 8] = [0x00, 0x61, 0x73, 0x6d, 0x01, 0x00, 0x00, 0x00];
+
+/// The module that bytes spell (5.5.15), in its integer part and with up to 1,000 blocks open at a place and up to
+/// 1,000,000 locals in a function.
+///
+/// `Malformed` comes where no module is spelled so. `NoMemory` comes where memory runs out.
+pub fn decode(alloc: Global, bytes: &[u8]) -> Result<Module, DecodeFault>
+    requires { length bytes.now < 4294967295 }
+    // The bytes begin as those of a module do.
+    ensures preamble { OnOk result (take 8 bytes.now ≡ PREAMBLE) }
+    // No function has more locals than are allowed.
+    ensures locals { IfOk result (λ m. All (λ func. length func.locals ≤ MAX_LOCALS) m.funcs) }
+{
+    if !bytes.starts_with(&PREAMBLE) {
+        return Err(DecodeFault::Malformed);
+    }
+    let (module, at) = sections(alloc, bytes, PREAMBLE.len() as u32)?;
+    let end = customs(bytes, at)?;
+    ends(bytes, end)?;
+    Ok(module)
+}
+
+/// The sections of a module, in their order (5.5.15).
+fn sections(alloc: Global, bytes: &[u8], at: u32) -> Decoded<Module>
+    requires size { length bytes.now < u32.MAX }
+    requires place { at ≤ length bytes.now }
+    ensures reaches { IfOk result (λ read. ReachesIn bytes.now at read.1) }
+    ensures locals { IfOk result (λ read. All (λ func. length func.locals ≤ MAX_LOCALS) read.0.funcs) }
+{
+    let (types, at) = vector_section::<FunctionType>(alloc, bytes, at, 1)?;
+    let (imports, at) = vector_section::<ImportEntry>(alloc, bytes, at, 2)?;
+    let (func_types, at) = vector_section::<Index>(alloc, bytes, at, 3)?;
+    let (tables, at) = vector_section::<TableType>(alloc, bytes, at, 4)?;
+    let (memories, at) = vector_section::<MemoryType>(alloc, bytes, at, 5)?;
+    let (globals, at) = vector_section::<OwnGlobal>(alloc, bytes, at, 6)?;
+    let (exports, at) = vector_section::<ExportEntry>(alloc, bytes, at, 7)?;
+    let (start, at) = start_section(bytes, at)?;
+    let (elems, at) = vector_section::<ElementSegment>(alloc, bytes, at, 9)?;
+    let (funcs, at) = code_section(alloc, bytes, at, func_types.as_slice())?;
+    let (segments, end) = vector_section::<DataSegment>(alloc, bytes, at, 11)?;
+    let module = Module {
+        types,
+        imports,
+        funcs,
+        tables,
+        memories,
+        globals,
+        exports,
+        start,
+        elems,
+        segments,
+    };
+    Ok((module, end))
+}

@@ -1,0 +1,109 @@
+//! Sections (section 5.5.2).
+
+ghost use Rattle.std.specs.Prelude.{◌≡◌, ◌<◌, ◌≤◌, length, All, IfOk, IsTrue};
+ghost use Rattle.wa_decode.specs.Places.{EndsIn, ReachesIn};
+
+use crate::code::{MAX_LOCALS, codes};
+use crate::fault::DecodeFault;
+use crate::production::{Decoded, Production, vector};
+use crate::value::{ends, name_bytes, sized, unsigned};
+use sqlite_items::Items;
+use std::alloc::Global;
+use wa_syntax::Func;
+
+/// The number of sections that mean nothing.
+const CUSTOM: u8 = 0;
+/// The number of the section of the start function.
+const START: u8 = 8;
+/// The number of the section of the functions' codes.
+const CODE: u8 = 10;
+
+/// Whether a section with this number begins at a place.
+fn begins(bytes: &[u8], at: u32, id: u8) -> bool
+    ensures { IsTrue result → at < length bytes.now }
+{
+    matches!(bytes.get(at as usize), Some(byte) if *byte == id)
+}
+
+/// The place behind custom sections, of which there may be any number.
+pub fn customs(bytes: &[u8], at: u32) -> Result<u32, DecodeFault>
+    requires size { length bytes.now < u32.MAX }
+    requires place { at ≤ length bytes.now }
+    ensures { IfOk result (ReachesIn bytes.now at) }
+{
+    let mut at = at;
+    while begins(bytes, at, CUSTOM) {
+        at = custom(bytes, at + 1)?;
+    }
+    Ok(at)
+}
+
+/// The place behind a custom section (5.5.3), which has a name and any bytes behind it.
+fn custom(bytes: &[u8], at: u32) -> Result<u32, DecodeFault>
+    requires { length bytes.now < u32.MAX }
+    ensures { IfOk result (EndsIn bytes.now at) }
+{
+    let (content, start) = sized(bytes, at)?;
+    name_bytes(content, start)?;
+    Ok(content.len() as u32)
+}
+
+/// The section of a vector, by its number. One that isn't there is an empty vector.
+pub fn vector_section<P: Production>(
+    alloc: Global,
+    bytes: &[u8],
+    at: u32,
+    id: u8,
+) -> Decoded<Items<P::Value>>
+    requires size { length bytes.now < u32.MAX }
+    requires place { at ≤ length bytes.now }
+    ensures { IfOk result (λ read. ReachesIn bytes.now at read.1) }
+{
+    let at = customs(bytes, at)?;
+    if !begins(bytes, at, id) {
+        return Ok((Items::new(alloc), at));
+    }
+    let (content, start) = sized(bytes, at + 1)?;
+    let (values, end) = vector::<P>(alloc, content, start)?;
+    ends(content, end)?;
+    Ok((values, end))
+}
+
+/// The section of the start function (5.5.11).
+pub fn start_section(bytes: &[u8], at: u32) -> Decoded<Option<u32>>
+    requires size { length bytes.now < u32.MAX }
+    requires place { at ≤ length bytes.now }
+    ensures { IfOk result (λ read. ReachesIn bytes.now at read.1) }
+{
+    let at = customs(bytes, at)?;
+    if !begins(bytes, at, START) {
+        return Ok((None, at));
+    }
+    let (content, start) = sized(bytes, at + 1)?;
+    let (func, end) = unsigned(content, start)?;
+    ends(content, end)?;
+    Ok((Some(func), end))
+}
+
+/// The section of the codes of the functions whose types have these numbers (5.5.13). One that isn't there is that of no
+/// functions.
+pub fn code_section(alloc: Global, bytes: &[u8], at: u32, types: &[u32]) -> Decoded<Items<Func>>
+    requires size { length bytes.now < u32.MAX }
+    requires place { at ≤ length bytes.now }
+    ensures reaches { IfOk result (λ read. ReachesIn bytes.now at read.1) }
+    ensures count { IfOk result (λ read. length read.0 ≡ length types.now) }
+    ensures locals { IfOk result (λ read. All (λ func. length func.locals ≤ MAX_LOCALS) read.0) }
+{
+    let at = customs(bytes, at)?;
+    if !begins(bytes, at, CODE) {
+        return if types.is_empty() {
+            Ok((Items::new(alloc), at))
+        } else {
+            Err(DecodeFault::Malformed)
+        };
+    }
+    let (content, start) = sized(bytes, at + 1)?;
+    let (funcs, end) = codes(alloc, content, start, types)?;
+    ends(content, end)?;
+    Ok((funcs, end))
+}
