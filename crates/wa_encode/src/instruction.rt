@@ -1,0 +1,170 @@
+//! Instructions and expressions (section 5.4).
+
+ghost use Rattle.std.specs.Prelude.{◌≡◌, ◌++◌, OnOk};
+ghost use Rattle.wa_encode.specs.Spelling.{Extends};
+
+use crate::types::block_type;
+use crate::value::{number, vector};
+use wa_syntax::opcode::*;
+use wa_syntax::{Init, Instr, NoMemory, ValTy, write_i32, write_i64};
+
+/// An expression (5.4.6), and what a block holds (5.4.1): instructions, and `end`.
+#[cycle(instructions)]
+pub fn expression(out: &mut Vec<u8>, body: &[Instr]) -> Result<(), NoMemory>
+    ensures { OnOk result (Extends out.old.items out.new.items) }
+{
+    sequence(out, body)?;
+    out.push(END)?;
+    Ok(())
+}
+
+/// A constant expression (5.4.6) of one instruction.
+pub fn constant_expression(out: &mut Vec<u8>, init: Init) -> Result<(), NoMemory>
+    ensures { OnOk result (Extends out.old.items out.new.items) }
+{
+    match init {
+        Init::Const32(bits) => i32_const(out, bits)?,
+        Init::Const64(bits) => i64_const(out, bits)?,
+        Init::Global(global) => indexed(out, GLOBAL_GET, global)?,
+    }
+    out.push(END)?;
+    Ok(())
+}
+
+/// Instructions one after another (5.4.1).
+#[cycle(instructions)]
+fn sequence(out: &mut Vec<u8>, instrs: &[Instr]) -> Result<(), NoMemory>
+    ensures { OnOk result (Extends out.old.items out.new.items) }
+{
+    for instr in instrs {
+        instruction(out, instr)?;
+    }
+    Ok(())
+}
+
+/// An instruction (5.4).
+#[cycle(instructions)]
+fn instruction(out: &mut Vec<u8>, instr: &Instr) -> Result<(), NoMemory>
+    ensures { OnOk result (Extends out.old.items out.new.items) }
+{
+    match instr {
+        Instr::Block(ty, body) => {
+            begin(out, BLOCK, *ty)?;
+            expression(out, body.as_slice())
+        }
+        Instr::Loop(ty, body) => {
+            begin(out, LOOP, *ty)?;
+            expression(out, body.as_slice())
+        }
+        Instr::If(ty, then, otherwise) => {
+            begin(out, IF, *ty)?;
+            sequence(out, then.as_slice())?;
+            else_branch(out, otherwise.as_slice())
+        }
+        _ => simple(out, instr),
+    }
+}
+
+/// The beginning of a `block`, a `loop` or an `if` (5.4.1).
+fn begin(out: &mut Vec<u8>, opcode: u8, ty: Option<ValTy>) -> Result<(), NoMemory>
+    ensures { OnOk result (Extends out.old.items out.new.items) }
+{
+    out.push(opcode)?;
+    block_type(out, ty)
+}
+
+/// The branch after `else` (5.4.1), which is left out where it is empty, and the `end` of the `if`.
+#[cycle(instructions)]
+fn else_branch(out: &mut Vec<u8>, otherwise: &[Instr]) -> Result<(), NoMemory>
+    ensures { OnOk result (Extends out.old.items out.new.items) }
+{
+    if !otherwise.is_empty() {
+        out.push(ELSE)?;
+    }
+    expression(out, otherwise)
+}
+
+/// An instruction that holds no others.
+fn simple(out: &mut Vec<u8>, instr: &Instr) -> Result<(), NoMemory>
+    ensures { OnOk result (Extends out.old.items out.new.items) }
+{
+    match instr {
+        Instr::Plain(opcode) => plain(out, *opcode),
+        Instr::Br(label) => indexed(out, BR, *label),
+        Instr::BrIf(label) => indexed(out, BR_IF, *label),
+        Instr::BrTable(labels, default) => br_table(out, labels.as_slice(), *default),
+        Instr::Call(func) => indexed(out, CALL, *func),
+        Instr::CallIndirect(ty) => call_indirect(out, *ty),
+        Instr::LocalGet(local) => indexed(out, LOCAL_GET, *local),
+        Instr::LocalSet(local) => indexed(out, LOCAL_SET, *local),
+        Instr::LocalTee(local) => indexed(out, LOCAL_TEE, *local),
+        Instr::GlobalGet(global) => indexed(out, GLOBAL_GET, *global),
+        Instr::GlobalSet(global) => indexed(out, GLOBAL_SET, *global),
+        Instr::Memory(opcode, align, offset) => load_or_store(out, *opcode, *align, *offset),
+        Instr::I32Const(bits) => i32_const(out, *bits),
+        Instr::I64Const(bits) => i64_const(out, *bits),
+        Instr::Block(..) | Instr::Loop(..) | Instr::If(..) => Ok(()),
+    }
+}
+
+/// An instruction that is its opcode alone (5.4.1, 5.4.2, 5.4.5). Behind those of the size of the memory stands a byte 0,
+/// the number of the memory in later versions of the standard (5.4.4).
+fn plain(out: &mut Vec<u8>, opcode: u8) -> Result<(), NoMemory>
+    ensures { OnOk result (Extends out.old.items out.new.items) }
+{
+    out.push(opcode)?;
+    if opcode == MEMORY_SIZE || opcode == MEMORY_GROW {
+        out.push(0x00)?;
+    }
+    Ok(())
+}
+
+/// An instruction that is its opcode and a number: a label (5.4.1), a function, a local or a global (5.4.3).
+fn indexed(out: &mut Vec<u8>, opcode: u8, index: u32) -> Result<(), NoMemory>
+    ensures { OnOk result (Extends out.old.items out.new.items) }
+{
+    out.push(opcode)?;
+    number(out, &index)
+}
+
+/// `br_table` (5.4.1): the labels, and the default.
+fn br_table(out: &mut Vec<u8>, labels: &[u32], default: u32) -> Result<(), NoMemory>
+    ensures { OnOk result (Extends out.old.items out.new.items) }
+{
+    out.push(BR_TABLE)?;
+    vector(out, labels, number)?;
+    number(out, &default)
+}
+
+/// `call_indirect` (5.4.1): the number of the type, and a byte 0, the number of the table in later versions of the standard.
+fn call_indirect(out: &mut Vec<u8>, ty: u32) -> Result<(), NoMemory>
+    ensures { OnOk result (Extends out.old.items out.new.items) }
+{
+    indexed(out, CALL_INDIRECT, ty)?;
+    out.push(0x00)?;
+    Ok(())
+}
+
+/// A load or a store (5.4.4): its alignment, as a power of two, and its offset.
+fn load_or_store(out: &mut Vec<u8>, opcode: u8, align: u32, offset: u32) -> Result<(), NoMemory>
+    ensures { OnOk result (Extends out.old.items out.new.items) }
+{
+    indexed(out, opcode, align)?;
+    number(out, &offset)
+}
+
+/// `i32.const` (5.4.5), whose bits are spelled as a number with a sign (5.2.2).
+fn i32_const(out: &mut Vec<u8>, bits: u32) -> Result<(), NoMemory>
+    ensures { OnOk result (Extends out.old.items out.new.items) }
+{
+    out.push(I32_CONST)?;
+    write_i32(out, bits.cast_signed())
+}
+
+/// `i64.const` (5.4.5), whose bits are spelled as a number with a sign (5.2.2).
+fn i64_const(out: &mut Vec<u8>, bits: u64) -> Result<(), NoMemory>
+    ensures { OnOk result (Extends out.old.items out.new.items) }
+{
+    out.push(I64_CONST)?;
+    write_i64(out, bits.cast_signed())
+}

@@ -1,0 +1,53 @@
+//! Values (section 5.2) and vectors (section 5.1.3).
+
+ghost use Rattle.std.specs.Prelude.{◌≡◌, ◌++◌, length, OnOk};
+ghost use Rattle.wa_syntax.specs.Leb128.{Appends};
+ghost use Rattle.wa_encode.specs.Spelling.{IsNumber, IsCounted, Begins, Extends};
+
+use wa_syntax::{Name, NoMemory, write_u32};
+
+/// A number without a sign (5.2.2), as the index of a type, a function or a label (5.4.1, 5.5.1).
+pub fn number(out: &mut Vec<u8>, n: &u32) -> Result<(), NoMemory>
+    ensures { OnOk result (Appends IsNumber out.old.items out.new.items n.now) }
+{
+    write_u32(out, *n)
+}
+
+/// How many entries or bytes follow. `NoMemory` comes too where 32 bits can't hold it.
+pub fn count(out: &mut Vec<u8>, n: usize) -> Result<(), NoMemory>
+    ensures { OnOk result (Appends IsNumber out.old.items out.new.items n) }
+{
+    let n = u32::try_from(n).map_err(|_| NoMemory)?;
+    write_u32(out, n)
+}
+
+/// A vector (5.1.3): how many entries there are, and the entries one after another.
+pub fn vector<T, F>(out: &mut Vec<u8>, entries: &[T], entry: F) -> Result<(), NoMemory>
+where
+    F: Fn(&mut Vec<u8>, &T) -> Result<(), NoMemory>,
+    requires callable { F.IsAlwaysCallable entry }
+    requires extends { (old : _) (x : _) (r : _) (new : _) → F.post entry old x r new → OnOk r (Extends old.now.items new.now.items) }
+    ensures { OnOk result (Begins IsNumber out.old.items out.new.items (length entries.now)) }
+{
+    count(out, entries.len())?;
+    for value in entries {
+        entry(out, value)?;
+    }
+    Ok(())
+}
+
+/// Bytes behind their number: a vector of bytes (5.2.1), or a part whose size stands before it (5.5.2, 5.5.13).
+pub fn bytes(out: &mut Vec<u8>, content: &[u8]) -> Result<(), NoMemory>
+    ensures { OnOk result (Appends IsCounted out.old.items out.new.items content.now) }
+{
+    count(out, content.len())?;
+    out.extend_from_slice(content)?;
+    Ok(())
+}
+
+/// A name (5.2.4).
+pub fn name(out: &mut Vec<u8>, name: &Name) -> Result<(), NoMemory>
+    ensures { OnOk result (Appends IsCounted out.old.items out.new.items name.now) }
+{
+    bytes(out, name.as_slice())
+}
