@@ -3,9 +3,9 @@
 ghost use Rattle.std.specs.Prelude.{◌≡◌, ◌==◌, ◌+◌, ◌-◌, OnOk, IfErr, vec_len};
 ghost use Rattle.wa_exec.specs.Tells.{IsInside};
 
-use crate::code::Body;
 use crate::halt::Halt;
 use std::alloc::Global;
+use wa_code::Body;
 use wa_region::Region;
 
 /// The most activations at a time.

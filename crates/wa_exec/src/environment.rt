@@ -1,12 +1,13 @@
 //! The functions of the host: `env.put`, `env.get` and `env.stop`.
 
 ghost use Rattle.std.specs.Prelude.{◌≡◌, ◌≤◌, ℕ, IfErr, vec_len};
+ghost use Rattle.sa_outside.specs.Output.{Grew};
 ghost use Rattle.wa_exec.specs.Tells.{Tells, faults_of};
 
 use crate::calls::Calls;
-use crate::code::HostCall;
 use crate::halt::Halt;
 use crate::host::Host;
+use crate::link::HostCall;
 use crate::words::low;
 use sa_outside::{Outage, Sink, Source, Take};
 
@@ -14,6 +15,7 @@ use sa_outside::{Outage, Sink, Source, Take};
 fn hand_on<O: Sink>(host: &mut Host, out: &mut O) -> Result<(), Halt>
     ensures tells { IfErr result (λ h. (i steps fuel : ℕ) → Tells h (faults_of i (O.faults out.old)) (faults_of i (O.faults out.new)) steps fuel) }
     ensures count { O.faults out.old ≤ O.faults out.new }
+    ensures output { Grew (O.output out.old) (O.output out.new) }
 {
     match host.flush(out) {
         Ok(()) => Ok(()),
@@ -26,6 +28,7 @@ fn hand_on<O: Sink>(host: &mut Host, out: &mut O) -> Result<(), Halt>
 fn put<O: Sink>(word: u64, host: &mut Host, out: &mut O) -> Result<(), Halt>
     ensures tells { IfErr result (λ h. (i steps fuel : ℕ) → Tells h (faults_of i (O.faults out.old)) (faults_of i (O.faults out.new)) steps fuel) }
     ensures count { O.faults out.old ≤ O.faults out.new }
+    ensures output { Grew (O.output out.old) (O.output out.new) }
 {
     if host.hold((word % (1 << 8)) as u8).is_err() {
         return Err(Halt::NoMemory);
@@ -42,6 +45,7 @@ fn get<I: Source, O: Sink>(host: &mut Host, input: &mut I, out: &mut O) -> Resul
     ensures tells { IfErr result (λ h. (steps fuel : ℕ) → Tells h (faults_of (I.faults input.old) (O.faults out.old)) (faults_of (I.faults input.new) (O.faults out.new)) steps fuel) }
     ensures source { I.faults input.old ≤ I.faults input.new }
     ensures sink { O.faults out.old ≤ O.faults out.new }
+    ensures output { Grew (O.output out.old) (O.output out.new) }
 {
     hand_on(host, out)?;
     match input.take() {
@@ -62,6 +66,7 @@ pub(crate) fn call_host<I: Source, O: Sink>(
     ensures tells { IfErr result (λ h. (steps fuel : ℕ) → Tells h (faults_of (I.faults input.old) (O.faults out.old)) (faults_of (I.faults input.new) (O.faults out.new)) steps fuel) }
     ensures source { I.faults input.old ≤ I.faults input.new }
     ensures sink { O.faults out.old ≤ O.faults out.new }
+    ensures output { Grew (O.output out.old) (O.output out.new) }
     ensures calls { vec_len calls.new.callers ≡ vec_len calls.old.callers }
 {
     match call {

@@ -2,7 +2,8 @@
 
 use std::alloc::{AllocError, AllocFailed};
 use thiserror::Error;
-use wa_syntax::TrapKind;
+use wa_code::InstanceFault;
+use wa_syntax::{NoMemory, TrapKind};
 
 /// How a call of [`Machine::step_until`](crate::Machine::step_until) ended.
 #[derive(Clone, Copy, Debug, PartialEq, Eq)]
@@ -38,6 +39,21 @@ pub enum StartFault {
     Segment,
     #[error("out of memory")]
     NoMemory,
+}
+
+impl From<InstanceFault> for StartFault {
+    fn from(fault: InstanceFault) -> StartFault {
+        match fault {
+            InstanceFault::Segment => StartFault::Segment,
+            InstanceFault::NoMemory => StartFault::NoMemory,
+        }
+    }
+}
+
+impl From<NoMemory> for StartFault {
+    fn from(_: NoMemory) -> StartFault {
+        StartFault::NoMemory
+    }
 }
 
 impl From<AllocError> for StartFault {

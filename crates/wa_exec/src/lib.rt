@@ -3,21 +3,15 @@
 
 mod activation;
 mod calls;
-mod code;
-mod decode;
 mod environment;
 mod halt;
 mod host;
-mod labels;
 mod link;
 mod machine;
 mod memory;
 mod numeric;
-mod op;
-mod prepare;
 mod run;
 mod state;
-mod store;
 mod words;
 
 pub use halt::{Halt, StartFault};

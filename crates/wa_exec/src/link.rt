@@ -1,9 +1,58 @@
-//! What a module is linked to: the functions of the host, and its `main`.
+//! What a module is linked to (section 4.5.4 of the WebAssembly Core Specification 1.0): the functions of the host, and its
+//! `main`.
 
-use crate::code::HostCall;
 use crate::halt::StartFault;
-use crate::words::number;
-use wa_syntax::{Export, ExportKind, FuncTy, Import, ImportKind, Module, ValTy};
+use std::alloc::Global;
+use wa_code::{Body, Code};
+use wa_syntax::{Export, ExportKind, FuncTy, Import, ImportKind, Module, NoMemory, ValTy};
+
+/// A function of the host: `env.put`, `env.get` or `env.stop`.
+#[derive(Clone, Copy, Debug, PartialEq, Eq)]
+pub(crate) enum HostCall {
+    Put,
+    Get,
+    Stop,
+}
+
+/// What is called.
+#[derive(Clone, Copy)]
+pub(crate) enum Callee {
+    Host(HostCall),
+    Own(Body),
+}
+
+/// A module's code, and what its functions are, by their numbers.
+#[derive(Drop)]
+pub(crate) struct Linked {
+    pub code: Code,
+    pub callees: Vec<Callee>,
+}
+
+impl Linked {
+    /// The code of a module whose imports are these functions of the host.
+    pub(crate) fn new(code: Code, mut callees: Vec<Callee>) -> Result<Linked, NoMemory> {
+        for body in code.bodies.as_slice() {
+            callees.push(Callee::Own(*body))?;
+        }
+        Ok(Linked { code, callees })
+    }
+
+    /// Whether a function is of the type with this number, by content.
+    pub(crate) fn is_of_type(&self, func: u32, ty: u32) -> bool {
+        match (
+            self.code.func_types.get(func as usize),
+            self.code.first_types.get(ty as usize),
+        ) {
+            (Some(own), Some(wanted)) => own == wanted,
+            _ => false,
+        }
+    }
+}
+
+/// The number of an import, or of all.
+fn unlinked(at: usize) -> StartFault {
+    StartFault::Unlinked(u32::try_from(at).unwrap_or(u32::MAX))
+}
 
 /// The function of the host that an import asks for, if it is one with its type.
 fn host_call(module: &Module, import: &Import) -> Option<HostCall> {
@@ -27,9 +76,18 @@ fn named(name: &[u8], ty: &FuncTy) -> Option<HostCall> {
     }
 }
 
-/// The function of the host that the import of this number asks for.
-pub(crate) fn linked(module: &Module, import: &Import, at: usize) -> Result<HostCall, StartFault> {
-    host_call(module, import).ok_or(StartFault::Unlinked(number(at)))
+/// The functions of the host that the imports ask for.
+///
+/// # Errors
+///
+/// `Unlinked` with the number of the first import that is none of them, and `NoMemory`.
+pub(crate) fn imported(alloc: Global, module: &Module) -> Result<Vec<Callee>, StartFault> {
+    let mut callees = Vec::new(alloc);
+    for (at, import) in module.imports.as_slice().iter().enumerate() {
+        let call = host_call(module, import).ok_or(unlinked(at))?;
+        callees.push(Callee::Host(call))?;
+    }
+    Ok(callees)
 }
 
 /// The number of the type of a function of the module's own, by the function's number.
@@ -68,5 +126,5 @@ pub(crate) fn main_of(module: &Module) -> Result<u32, StartFault> {
     {
         return Ok(func);
     }
-    Err(StartFault::Unlinked(number(module.imports.len())))
+    Err(unlinked(module.imports.len()))
 }

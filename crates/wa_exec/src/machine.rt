@@ -2,20 +2,19 @@
 
 ghost use Rattle.std.specs.Prelude.{◌≡◌, ◌≤◌, ◌<◌, max, IfOk};
 ghost use Rattle.wa_exec.specs.Progress.{Stays, halted};
+ghost use Rattle.sa_outside.specs.Output.{Grew};
 ghost use Rattle.wa_exec.specs.Tells.{Tells, faults_of};
 
 use crate::calls::Calls;
-use crate::code::Code;
 use crate::halt::{Halt, StartFault};
 use crate::host::Host;
-use crate::link::main_of;
-use crate::prepare::code;
+use crate::link::{Linked, imported, main_of};
 use crate::run::run;
 use crate::state::State;
-use crate::store::{globals, memory, most_pages, table};
 use sa_outside::{Sink, Source};
 use std::alloc::Global;
 use std::marker::Model;
+use wa_code::{Code, Instance};
 use wa_syntax::Module;
 use wa_valid::Valid;
 
@@ -23,7 +22,7 @@ use wa_valid::Valid;
 #[derive(Drop)]
 pub struct Machine<'a> {
     module: &'a Module,
-    code: Code,
+    linked: Linked,
     state: State,
     steps: u64,
     halt: Option<Halt>,
@@ -48,12 +47,13 @@ impl<'a> Machine<'a> {
         ensures { IfOk result (λ machine. machine ≡ record { steps = 0; halt = None }) }
     {
         let module = v.module();
-        let code = code(alloc, module)?;
+        let callees = imported(alloc, module)?;
         let main = main_of(module)?;
-        let state = beginning(alloc, module, main)?;
+        let linked = Linked::new(Code::new(alloc, v)?, callees)?;
+        let state = beginning(alloc, v, main)?;
         Ok(Machine {
             module,
-            code,
+            linked,
             state,
             steps: 0,
             halt: None,
@@ -94,6 +94,9 @@ impl<'a> Machine<'a> {
         ensures tells { self.old.halt ≡ None → Tells result (faults_of (I.faults input.old) (O.faults out.old)) (faults_of (I.faults input.new) (O.faults out.new)) self.new.steps fuel }
         ensures source { I.faults input.old ≤ I.faults input.new }
         ensures sink { O.faults out.old ≤ O.faults out.new }
+
+        // What out has is behind what it had.
+        ensures output { Grew (O.output out.old) (O.output out.new) }
     {
         if let Some(halt) = self.halt {
             return halt;
@@ -102,7 +105,7 @@ impl<'a> Machine<'a> {
             return Halt::Spent;
         }
         let outcome = run(
-            &self.code,
+            &self.linked,
             &mut self.state,
             self.steps,
             fuel,
@@ -137,11 +140,14 @@ fn waiting(alloc: Global, module: &Module, main: u32) -> Result<Vec<u32>, StartF
 }
 
 /// What a run begins with.
-fn beginning(alloc: Global, module: &Module, main: u32) -> Result<State, StartFault> {
-    let waiting = waiting(alloc, module, main)?;
-    let globals = globals(alloc, module.globals.as_slice())?;
-    let table = table(alloc, module, globals.as_slice())?;
-    let bytes = memory(alloc, module, globals.as_slice())?;
+fn beginning(alloc: Global, v: &Valid, main: u32) -> Result<State, StartFault> {
+    let waiting = waiting(alloc, v.module(), main)?;
+    let Instance {
+        globals,
+        table,
+        bytes,
+        most_pages,
+    } = Instance::new(alloc, v)?;
     Ok(State {
         calls: Calls::new(alloc),
         waiting,
@@ -149,6 +155,6 @@ fn beginning(alloc: Global, module: &Module, main: u32) -> Result<State, StartFa
         globals,
         table,
         bytes,
-        most_pages: most_pages(module),
+        most_pages,
     })
 }

@@ -4,9 +4,6 @@
 use crate::words::{low, read, write};
 use wa_syntax::{TrapKind, opcode};
 
-/// Bytes in a page of the linear memory.
-pub(crate) const PAGE: usize = 65_536;
-
 /// Where an access begins.
 #[inline(always)]
 fn place(base: u64, offset: u32) -> usize {

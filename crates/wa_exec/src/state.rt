@@ -5,9 +5,9 @@ ghost use Rattle.wa_exec.specs.Stretch.{IsPaid};
 
 use crate::activation::{Pause, Stretch, pages, run_activation};
 use crate::calls::Calls;
-use crate::code::Code;
-use crate::memory::PAGE;
+use crate::link::Linked;
 use crate::words::low;
+use wa_code::{Code, PAGE};
 use wa_syntax::TrapKind;
 
 /// What a run changes.
@@ -61,7 +61,7 @@ impl State {
     }
 
     /// The function that an indirect call through the table calls, whose number is the top operand.
-    pub(crate) fn callee(&mut self, code: &Code, ty: u32) -> Result<u32, TrapKind>
+    pub(crate) fn callee(&mut self, linked: &Linked, ty: u32) -> Result<u32, TrapKind>
         ensures calls { vec_len self.new.calls.callers ≡ vec_len self.old.calls.callers }
         ensures waiting { vec_len self.new.waiting ≡ vec_len self.old.waiting }
     {
@@ -70,7 +70,7 @@ impl State {
             None => Err(TrapKind::Element),
             Some(None) => Err(TrapKind::Uninitialised),
             Some(Some(func)) => {
-                if is_of_type(code, *func, ty) {
+                if linked.is_of_type(*func, ty) {
                     Ok(*func)
                 } else {
                     Err(TrapKind::Mismatch)
@@ -100,16 +100,5 @@ impl State {
         }
         self.calls.give(old);
         true
-    }
-}
-
-/// Whether a function is of the type with this number, by content.
-fn is_of_type(code: &Code, func: u32, ty: u32) -> bool {
-    match (
-        code.func_types.get(func as usize),
-        code.first_types.get(ty as usize),
-    ) {
-        (Some(own), Some(wanted)) => own == wanted,
-        _ => false,
     }
 }

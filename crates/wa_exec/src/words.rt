@@ -32,11 +32,6 @@ pub(crate) fn low(word: u64) -> u32
     (word % (1 << 32)) as u32
 }
 
-/// The number of a place in a row, which has fewer than 2^32 places, or the greatest `u32`.
-pub(crate) fn number(at: usize) -> u32 {
-    u32::try_from(at).unwrap_or(u32::MAX)
-}
-
 /// Puts a word on the operands, and gives their new height.
 #[inline(always)]
 pub(crate) fn push(words: &mut [u64], height: usize, word: u64) -> usize {

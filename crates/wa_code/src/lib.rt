@@ -1,0 +1,17 @@
+//! A valid module of WebAssembly Core 1.0, in its integer part, in the form that a machine runs: the instructions of all its
+//! functions in one row, in which a branch names the place that it goes on at, and what its globals, table and memory begin
+//! with.
+#![tactic(auto)]
+
+mod code;
+mod draft;
+mod functions;
+mod instance;
+mod labels;
+mod layout;
+mod number;
+mod op;
+
+pub use code::{Body, Code};
+pub use instance::{Instance, InstanceFault, PAGE};
+pub use op::{Op, Target};
