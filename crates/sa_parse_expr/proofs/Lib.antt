@@ -1,0 +1,2 @@
+mod Innermost
+mod Taken

@@ -1,0 +1,6 @@
+pub mod Expressions
+pub mod Level
+pub mod Lexemes
+pub mod Nests
+pub mod Places
+pub mod Types

@@ -1,0 +1,32 @@
+-- What stands at a place among a file's tokens. The places past the last token are the end of the file.
+use Rattle.std.specs.Prelude.{◌≡◌, ◌<◌, ◌≤◌, ⊤, ℕ, List, [], length, Option, slice_get, slice_range}
+use Rattle.std.specs.Option.{option_map, option_map_or}
+use Rattle.sa_lex.specs.declared.token.Token.{Token}
+use Rattle.sa_lex.specs.declared.token.TokenKind.{TokenKind}
+use Rattle.sa_tree.specs.declared.refusal.FrontFault.{FrontFault}
+use Rattle.sa_tree.specs.declared.refusal.FrontFault.TheVariants.{Refused, NoMemory}
+
+-- what stands there
+unfoldable pub kind_at : List Token → ℕ → Option TokenKind
+kind_at tokens at = option_map (λ (token : Token). token.kind) (slice_get tokens at)
+
+-- its bytes, and none at the end
+unfoldable pub bytes_at : List ℕ → List Token → ℕ → List ℕ
+bytes_at text tokens at = option_map_or (λ (token : Token). slice_range text token.start token.end) (slice_get tokens at) []
+
+-- the place of its first byte; the end of the file is behind the last byte of the text
+unfoldable pub start_at : List ℕ → List Token → ℕ → ℕ
+start_at text tokens at = option_map_or (λ (token : Token). token.start) (slice_get tokens at) (length text)
+
+-- a token that can't stand where it does, in this file: E06
+abbrev pub IsUnexpected : ℕ → FrontFault → Type 0
+IsUnexpected file (Refused refusal) = (refusal.code ≡ 6) × (refusal.pos.file ≡ file)
+IsUnexpected file NoMemory = ⊤
+
+-- a place behind this one, up to the end of the file
+abbrev pub IsBehind : List Token → ℕ → ℕ → Type 0
+IsBehind tokens from next = (from < next) × (next ≤ length tokens)
+
+-- this place, or one behind it
+abbrev pub IsFrom : List Token → ℕ → ℕ → Type 0
+IsFrom tokens from next = (from ≤ next) × (next ≤ length tokens)

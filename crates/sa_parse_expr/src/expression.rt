@@ -1,0 +1,43 @@
+//! Expressions.
+
+ghost use Rattle.std.specs.Prelude.{◌<◌, All, IfErr, IfOk, length};
+ghost use Rattle.sa_lex.specs.Token.{IsWithin};
+ghost use Rattle.sa_parse_expr.specs.Places.{IsBehind, IsUnexpected};
+
+use crate::grammar::{Around, Form, read_form};
+use crate::tokens::Tokens;
+use sa_lex::Token;
+use sa_tree::{Expr, FrontFault};
+use std::alloc::Global;
+
+/// The expression that begins at a place among a file's tokens, and the place behind it: the longest one.
+///
+/// E06 stands at the first token with which the tokens from the place on begin no expression, or at the end of the file.
+pub fn read_expr(alloc: Global, tokens: &Tokens<'_>, from: u32) -> Result<(Expr, u32), FrontFault>
+    ensures next { IfOk result (λ read. IsBehind tokens.now.list.now from read.1) }
+    ensures refused { IfErr result (IsUnexpected tokens.now.file) }
+{
+    read_form(alloc, tokens, Form::Expr(Around::Open), from)
+}
+
+/// `read_expr` over the tokens `tokens` of the text `src`, which is that of file `file`.
+pub fn expr(
+    alloc: Global,
+    tokens: &[Token],
+    src: &[u8],
+    file: u32,
+    from: u32,
+) -> Result<(Expr, u32), FrontFault>
+    requires within { All (IsWithin src.now) tokens.now }
+    requires few { length tokens.now < 4294967295 }
+    requires short { length src.now < 4294967295 }
+    ensures next { IfOk result (λ read. IsBehind tokens.now from read.1) }
+    ensures refused { IfErr result (IsUnexpected file) }
+{
+    let tokens = Tokens {
+        list: tokens,
+        src,
+        file,
+    };
+    read_expr(alloc, &tokens, from)
+}

@@ -1,0 +1,254 @@
+//! The levels of nesting of a file's tokens.
+//!
+//! A stack of counters goes over the tokens. Its sum is the level, which bounds how deep the constructs at a place nest,
+//! and with it the recursion of all that reads or walks a tree.
+
+ghost use Rattle.std.specs.Prelude.{◌≡◌, ◌+◌, ◌≤◌, [], ◌∷◌, IfErr, IfNone, IfSome, OnOk, drop, false, length, reverse, true};
+ghost use Rattle.sa_parse_expr.specs.Level.{AreTaken, Refuses, added, after, at_bar, is_refused, level_of, opened, set_to_one, step_of, step_of_sign, step_of_word};
+
+use sa_lex::{Token, TokenKind, sign, word};
+use sa_tree::{FrontFault, Pos, Refusal};
+use std::alloc::{AllocError, Global};
+
+/// The greatest level that is taken.
+const MAX_LEVEL: u32 = 200;
+
+/// Constructs are nested too deep.
+const NESTED_TOO_DEEP: u8 = 7;
+
+/// A word that the profile refuses.
+const WORD_NOT_TAKEN: u8 = 8;
+
+/// An open construct.
+#[derive(Clone, Copy)]
+pub(crate) struct Counter {
+    /// How much it adds to the level.
+    pub level: u32,
+    /// Whether a `|` opened it.
+    pub of_bar: bool,
+}
+
+/// What a token does to the open counters.
+#[derive(Clone, Copy, Debug, PartialEq, Eq)]
+pub(crate) enum Step {
+    /// Opens a counter.
+    Open,
+    /// Closes the innermost one.
+    Close,
+    /// Adds 1 to the innermost one.
+    Add,
+    /// Adds 1 to the innermost one, and opens another one.
+    AddAndOpen,
+    /// Sets the innermost one to 1.
+    Reset,
+    /// Closes the innermost one where a `|` opened it, and opens another one elsewhere.
+    Bar,
+    /// Closes all.
+    Clear,
+    /// Nothing.
+    Keep,
+}
+
+fn step_of_sign(sign: u8) -> Step
+    ensures { result ≡ step_of_sign sign }
+{
+    match sign {
+        sign::LPAREN | sign::LBRACE => Step::Open,
+        sign::LBRACKET => Step::AddAndOpen,
+        sign::BAR => Step::Bar,
+        sign::RPAREN | sign::RBRACKET | sign::RBRACE => Step::Close,
+        sign::PLUS
+        | sign::MINUS
+        | sign::STAR
+        | sign::SLASH
+        | sign::PERCENT
+        | sign::CARET
+        | sign::TILDE
+        | sign::EQUAL
+        | sign::NOT_EQUAL
+        | sign::LESS
+        | sign::LESS_EQUAL
+        | sign::GREATER
+        | sign::GREATER_EQUAL
+        | sign::DOT
+        | sign::DOUBLE_COLON
+        | sign::HASH => Step::Add,
+        sign::COMMA | sign::SEMICOLON | sign::ASSIGN | sign::DECLARE => Step::Reset,
+        _ => Step::Keep,
+    }
+}
+
+fn step_of_word(word: u8) -> Step
+    ensures { result ≡ step_of_word word }
+{
+    match word {
+        word::IS | word::IF | word::LOOP | word::CASE | word::TYPECASE | word::PROTECT =>
+            Step::Open,
+        word::END => Step::Close,
+        word::AND | word::OR | word::ROUT | word::ITER => Step::Add,
+        word::THEN | word::ELSE | word::ELSIF | word::WHEN => Step::Reset,
+        word::CLASS => Step::Clear,
+        _ => Step::Keep,
+    }
+}
+
+fn step_of(kind: &TokenKind) -> Step
+    ensures { result ≡ step_of kind.now }
+{
+    match kind {
+        TokenKind::Sign(sign) => step_of_sign(*sign),
+        TokenKind::Word(word) => step_of_word(*word),
+        _ => Step::Keep,
+    }
+}
+
+/// The counters that are open at a place, the innermost one last, and their sum.
+#[derive(Drop)]
+struct Levels {
+    counters: Vec<Counter>,
+    level: u32,
+    ghost sum: { level ≡ level_of (reverse counters.items) },
+}
+
+impl Levels {
+    fn new(alloc: Global) -> Levels
+        ensures { reverse result.counters.items ≡ [] }
+    {
+        Levels {
+            counters: Vec::new(alloc),
+            level: 0,
+        }
+    }
+
+    /// The place of the innermost counter, if one is open.
+    fn innermost(&self) -> Option<usize>
+        ensures none { IfNone result (self.now.counters.items ≡ []) }
+        ensures last { IfSome result (λ at. at + 1 ≡ length self.now.counters.items) }
+    {
+        self.counters.len().checked_sub(1)
+    }
+
+    fn push(&mut self, of_bar: bool) -> Result<(), AllocError>
+        requires { self.old.level ≤ 201 }
+        ensures counters { OnOk result (reverse self.new.counters.items ≡ opened of_bar ∷ reverse self.old.counters.items) }
+        ensures level { self.new.level ≤ self.old.level + 1 }
+    {
+        self.counters.push(Counter { level: 1, of_bar })?;
+        self.level += 1;
+        Ok(())
+    }
+
+    fn pop(&mut self)
+        ensures { reverse self.new.counters.items ≡ drop 1 (reverse self.old.counters.items) }
+    {
+        if let Some(counter) = self.counters.pop() {
+            self.level -= counter.level;
+        }
+    }
+
+    fn add(&mut self) -> Result<(), AllocError>
+        requires { self.old.level ≤ 200 }
+        ensures counters { OnOk result (reverse self.new.counters.items ≡ added (reverse self.old.counters.items)) }
+        ensures level { self.new.level ≤ self.old.level + 1 }
+    {
+        let Some(innermost) = self.innermost() else {
+            return self.push(false);
+        };
+        self.counters[innermost].level += 1;
+        self.level += 1;
+        Ok(())
+    }
+
+    fn reset(&mut self)
+        requires { self.old.level ≤ 200 }
+        ensures { reverse self.new.counters.items ≡ set_to_one (reverse self.old.counters.items) }
+    {
+        if let Some(innermost) = self.innermost() {
+            let counter = &mut self.counters[innermost];
+            self.level = self.level - counter.level + 1;
+            counter.level = 1;
+        }
+    }
+
+    fn clear(&mut self)
+        ensures { reverse self.new.counters.items ≡ [] }
+    {
+        self.counters.clear();
+        self.level = 0;
+    }
+
+    fn bar(&mut self) -> Result<(), AllocError>
+        requires { self.old.level ≤ 200 }
+        ensures { OnOk result (reverse self.new.counters.items ≡ at_bar (reverse self.old.counters.items)) }
+    {
+        if let Some(innermost) = self.innermost()
+            && self.counters[innermost].of_bar
+        {
+            self.pop();
+            return Ok(());
+        }
+        self.push(true)
+    }
+
+    fn step(&mut self, step: Step) -> Result<(), AllocError>
+        requires { self.old.level ≤ 200 }
+        ensures { OnOk result (reverse self.new.counters.items ≡ after step (reverse self.old.counters.items)) }
+    {
+        match step {
+            Step::Open => self.push(false),
+            Step::Close => {
+                self.pop();
+                Ok(())
+            }
+            Step::Add => self.add(),
+            Step::AddAndOpen => {
+                self.add()?;
+                self.push(false)
+            }
+            Step::Reset => {
+                self.reset();
+                Ok(())
+            }
+            Step::Bar => self.bar(),
+            Step::Clear => {
+                self.clear();
+                Ok(())
+            }
+            Step::Keep => Ok(()),
+        }
+    }
+}
+
+/// Whether the profile refuses the word.
+fn is_refused(kind: &TokenKind) -> bool
+    ensures { result ≡ is_refused kind.now }
+{
+    matches!(kind, TokenKind::Word(word) if *word >= word::FIRST_REFUSED)
+}
+
+/// Whether a parser may go over these tokens, which are those of file `file`.
+///
+/// `Refused` names the first token that is a word which the profile refuses (E08), or at which the level passes 200
+/// (E07). `NoMemory` means that memory has run out.
+pub fn scan(alloc: Global, tokens: &[Token], file: u32) -> Result<(), FrontFault>
+    ensures taken { OnOk result (AreTaken tokens.now (length tokens.now)) }
+    ensures refused { IfErr result (Refuses tokens.now file) }
+{
+    let mut levels = Levels::new(alloc);
+    for token in tokens {
+        let pos = Pos {
+            file,
+            at: token.start,
+        };
+        if is_refused(&token.kind) {
+            let code = WORD_NOT_TAKEN;
+            return Err(FrontFault::Refused(Refusal { code, pos }));
+        }
+        levels.step(step_of(&token.kind))?;
+        if levels.level > MAX_LEVEL {
+            let code = NESTED_TOO_DEEP;
+            return Err(FrontFault::Refused(Refusal { code, pos }));
+        }
+    }
+    Ok(())
+}

@@ -1,0 +1,18 @@
+//! Types and expressions from the tokens of a file, and the levels of nesting of its tokens.
+#![tactic(auto)]
+
+mod expression;
+mod grammar;
+mod levels;
+mod operators;
+mod postfix;
+mod primary;
+#[cfg(test)]
+mod tests;
+mod tokens;
+mod types;
+
+pub use expression::{expr, read_expr};
+pub use levels::scan;
+pub use tokens::Tokens;
+pub use types::{read_mode, read_type, read_types};

@@ -1,0 +1,148 @@
+//! What follows a first: calls on it and indexes, and the arguments of calls. One function for each production.
+//!
+//! ```text
+//! post  = first {"." F [args] | "[" exprs "]"}
+//! args  = "(" arg {"," arg} ")"
+//! arg   = ["out" | "inout"] expr | "_" [":" type]
+//! exprs = expr {"," expr}
+//! ```
+//!
+//! F is a lower name or an iter name. A call stands at this name, and an index at the first token of the whole form, a
+//! parenthesis among them.
+
+ghost use Rattle.std.specs.Prelude.{◌<◌, ◌≤◌, IfErr, IfOk, length};
+ghost use Rattle.sa_parse_expr.specs.Nests.{Nests};
+ghost use Rattle.sa_parse_expr.specs.Places.{IsBehind, IsFrom, IsUnexpected};
+
+use crate::grammar::{Around, Form, Grammar};
+use crate::tokens::Tokens;
+use crate::types::read_type;
+use sa_lex::{TokenKind, sign, word};
+use sa_tree::{Expr, FrontFault, Given, Mode, Recv};
+use sqlite_items::{Boxed, Items};
+use std::alloc::Global;
+
+impl<F: Fn(Global, &Tokens<'_>, Form, u32) -> Result<(Expr, u32), FrontFault>> Grammar<'_, F> {
+    /// `first {"." F [args] | "[" exprs "]"}`
+    pub(crate) fn post(&self, around: Around, from: u32) -> Result<(Expr, u32), FrontFault>
+        requires nested { Nests self.now.from (F.pre self.now.nested) (F.post self.now.nested) }
+        requires from { self.now.from ≤ from }
+        ensures next { IfOk result (λ read. IsBehind self.now.tokens.list.now from read.1) }
+        ensures refused { IfErr result (IsUnexpected self.now.tokens.file) }
+    {
+        let (mut of, mut next) = self.first(around, from)?;
+        'more: loop {
+            if self.tokens.is_sign(next, sign::DOT) {
+                let on = Recv::Of(Boxed::new(self.alloc, of)?);
+                (of, next) = self.call(on, next + 1)?;
+            } else if self.tokens.is_sign(next, sign::LBRACKET) {
+                let (places, end) = self.index(next)?;
+                let on = Some(Boxed::new(self.alloc, of)?);
+                of = Expr::Index(on, places, self.tokens.pos(from));
+                next = end;
+            } else {
+                return Ok((of, next));
+            }
+        }
+    }
+
+    /// `F [args]`
+    pub(crate) fn call(&self, on: Recv, from: u32) -> Result<(Expr, u32), FrontFault>
+        requires nested { Nests self.now.from (F.pre self.now.nested) (F.post self.now.nested) }
+        requires from { self.now.from ≤ from }
+        ensures next { IfOk result (λ read. IsBehind self.now.tokens.list.now from read.1) }
+        ensures refused { IfErr result (IsUnexpected self.now.tokens.file) }
+    {
+        if !self.tokens.is_feature_name(from) {
+            return Err(self.tokens.unexpected(from));
+        }
+        let name = self.tokens.name(self.alloc, from)?;
+        let (given, next) = self.args(from + 1)?;
+        Ok((Expr::Call(on, name, given, self.tokens.pos(from)), next))
+    }
+
+    /// `[args]`
+    pub(crate) fn args(&self, from: u32) -> Result<(Items<Given>, u32), FrontFault>
+        requires nested { Nests self.now.from (F.pre self.now.nested) (F.post self.now.nested) }
+        requires from { self.now.from ≤ from }
+        requires within { from ≤ length self.now.tokens.list.now }
+        ensures next { IfOk result (λ read. IsFrom self.now.tokens.list.now from read.1) }
+        ensures refused { IfErr result (IsUnexpected self.now.tokens.file) }
+    {
+        let mut args = Items::new(self.alloc);
+        if !self.tokens.is_sign(from, sign::LPAREN) {
+            return Ok((args, from));
+        }
+        let (first, mut next) = self.arg(from + 1)?;
+        args.push(first)?;
+        'more: while self.tokens.is_sign(next, sign::COMMA) {
+            let (one, end) = self.arg(next + 1)?;
+            args.push(one)?;
+            next = end;
+        }
+        Ok((args, self.tokens.after_sign(next, sign::RPAREN)?))
+    }
+
+    /// `["out" | "inout"] expr | "_" [":" type]`
+    fn arg(&self, from: u32) -> Result<(Given, u32), FrontFault>
+        requires nested { Nests self.now.from (F.pre self.now.nested) (F.post self.now.nested) }
+        requires from { self.now.from < from }
+        ensures next { IfOk result (λ read. IsBehind self.now.tokens.list.now from read.1) }
+        ensures refused { IfErr result (IsUnexpected self.now.tokens.file) }
+    {
+        if self.tokens.is_sign(from, sign::UNDERSCORE) {
+            return left_open(self.alloc, &self.tokens, from);
+        }
+        let (mode, next) = match self.tokens.kind(from) {
+            Some(TokenKind::Word(word::OUT)) => (Mode::Out, from + 1),
+            Some(TokenKind::Word(word::INOUT)) => (Mode::Inout, from + 1),
+            _ => (Mode::In, from),
+        };
+        let (value, next) = self.inner(Form::Expr(Around::Open), next)?;
+        Ok((Given::Value(mode, value), next))
+    }
+
+    /// `"[" exprs "]"`
+    pub(crate) fn index(&self, from: u32) -> Result<(Items<Expr>, u32), FrontFault>
+        requires nested { Nests self.now.from (F.pre self.now.nested) (F.post self.now.nested) }
+        requires from { self.now.from ≤ from }
+        requires within { from < length self.now.tokens.list.now }
+        ensures next { IfOk result (λ read. IsBehind self.now.tokens.list.now from read.1) }
+        ensures refused { IfErr result (IsUnexpected self.now.tokens.file) }
+    {
+        let (places, next) = self.exprs(Around::Open, from + 1)?;
+        Ok((places, self.tokens.after_sign(next, sign::RBRACKET)?))
+    }
+
+    /// `expr {"," expr}`
+    pub(crate) fn exprs(&self, around: Around, from: u32) -> Result<(Items<Expr>, u32), FrontFault>
+        requires nested { Nests self.now.from (F.pre self.now.nested) (F.post self.now.nested) }
+        requires from { self.now.from < from }
+        ensures next { IfOk result (λ read. IsBehind self.now.tokens.list.now from read.1) }
+        ensures refused { IfErr result (IsUnexpected self.now.tokens.file) }
+    {
+        let (first, mut next) = self.inner(Form::Expr(around), from)?;
+        let mut exprs = Items::new(self.alloc);
+        exprs.push(first)?;
+        'more: while self.tokens.is_sign(next, sign::COMMA) {
+            let (one, end) = self.inner(Form::Expr(around), next + 1)?;
+            exprs.push(one)?;
+            next = end;
+        }
+        Ok((exprs, next))
+    }
+}
+
+/// `"_" [":" type]`, where the `_` stands.
+fn left_open(alloc: Global, tokens: &Tokens<'_>, from: u32) -> Result<(Given, u32), FrontFault>
+    requires { from < length tokens.now.list.now }
+    ensures next { IfOk result (λ read. IsBehind tokens.now.list.now from read.1) }
+    ensures refused { IfErr result (IsUnexpected tokens.now.file) }
+{
+    let pos = tokens.pos(from);
+    if !tokens.is_sign(from + 1, sign::COLON) {
+        return Ok((Given::Left(None, pos), from + 1));
+    }
+    let (ty, next) = read_type(alloc, tokens, from + 2)?;
+    Ok((Given::Left(Some(ty), pos), next))
+}

@@ -1,0 +1,221 @@
+//! What an expression can begin with: one function for each alternative.
+//!
+//! ```text
+//! first = number | char | text {text} | "true" | "false" | "self" | "exception" | "(" expr ")"
+//!       | "void" ["(" expr ")"] | "new" ["(" expr ")"] | F [args] | type "::" F [args]
+//!       | "#" [type] [args] | "|" exprs "|" | "bind" "(" post ")" | "[" exprs "]"
+//! ```
+//!
+//! A call stands at its name, and every other form at its first token. Parentheses leave no trace in the tree.
+
+ghost use Rattle.std.specs.Prelude.{◌<◌, ◌≤◌, IfErr, IfOk, length};
+ghost use Rattle.sa_parse_expr.specs.Nests.{Nests};
+ghost use Rattle.sa_parse_expr.specs.Places.{IsBehind, IsFrom, IsUnexpected};
+
+use crate::grammar::{Around, Form, Grammar};
+use crate::tokens::Tokens;
+use crate::types::{begins_type, read_type};
+use sa_lex::{TokenKind, sign, word};
+use sa_tree::{Expr, FrontFault, Name, Recv, Ty};
+use sqlite_items::Boxed;
+use std::alloc::{AllocError, Global};
+
+impl<F: Fn(Global, &Tokens<'_>, Form, u32) -> Result<(Expr, u32), FrontFault>> Grammar<'_, F> {
+    /// A form that is no operator, call on an expression or index of one.
+    pub(crate) fn first(&self, around: Around, from: u32) -> Result<(Expr, u32), FrontFault>
+        requires nested { Nests self.now.from (F.pre self.now.nested) (F.post self.now.nested) }
+        requires from { self.now.from ≤ from }
+        ensures next { IfOk result (λ read. IsBehind self.now.tokens.list.now from read.1) }
+        ensures refused { IfErr result (IsUnexpected self.now.tokens.file) }
+    {
+        let pos = self.tokens.pos(from);
+        match self.tokens.kind(from) {
+            Some(TokenKind::Int(value)) => Ok((Expr::Int(*value, pos), from + 1)),
+            Some(TokenKind::Char(byte)) => Ok((Expr::Char(*byte, pos), from + 1)),
+            Some(TokenKind::Text(text)) => {
+                let (text, next) = texts(self.alloc, &self.tokens, text, from + 1)?;
+                Ok((Expr::Text(text, pos), next))
+            }
+            Some(TokenKind::Lower | TokenKind::IterName) => self.call(Recv::Implied, from),
+            Some(TokenKind::ClassName | TokenKind::AbstractName) => self.class_call(from),
+            Some(TokenKind::Word(word)) => self.first_word(*word, from),
+            Some(TokenKind::Sign(sign)) => self.first_sign(around, *sign, from),
+            None => Err(self.tokens.unexpected(from)),
+        }
+    }
+
+    /// A first that begins with this word.
+    fn first_word(&self, word: u8, from: u32) -> Result<(Expr, u32), FrontFault>
+        requires nested { Nests self.now.from (F.pre self.now.nested) (F.post self.now.nested) }
+        requires from { self.now.from ≤ from }
+        requires within { from < length self.now.tokens.list.now }
+        ensures next { IfOk result (λ read. IsBehind self.now.tokens.list.now from read.1) }
+        ensures refused { IfErr result (IsUnexpected self.now.tokens.file) }
+    {
+        let pos = self.tokens.pos(from);
+        match word {
+            word::TRUE => Ok((Expr::Bool(true, pos), from + 1)),
+            word::FALSE => Ok((Expr::Bool(false, pos), from + 1)),
+            word::SELF => Ok((Expr::Me(pos), from + 1)),
+            word::EXCEPTION => Ok((Expr::Exception(pos), from + 1)),
+            word::VOID => self.void(from),
+            word::NEW => self.new(from),
+            word::BIND => self.bind(from),
+            word::SAME | word::ROUT | word::ITER => self.class_call(from),
+            _ => Err(self.tokens.unexpected(from)),
+        }
+    }
+
+    /// A first that begins with this sign.
+    fn first_sign(&self, around: Around, sign: u8, from: u32) -> Result<(Expr, u32), FrontFault>
+        requires nested { Nests self.now.from (F.pre self.now.nested) (F.post self.now.nested) }
+        requires from { self.now.from ≤ from }
+        requires within { from < length self.now.tokens.list.now }
+        ensures next { IfOk result (λ read. IsBehind self.now.tokens.list.now from read.1) }
+        ensures refused { IfErr result (IsUnexpected self.now.tokens.file) }
+    {
+        match sign {
+            sign::LPAREN => self.parenthesised(from),
+            sign::HASH => self.create(from),
+            sign::LBRACKET => {
+                let (places, next) = self.index(from)?;
+                Ok((Expr::Index(None, places, self.tokens.pos(from)), next))
+            }
+            sign::BAR if around == Around::Open => self.items(from),
+            _ => Err(self.tokens.unexpected(from)),
+        }
+    }
+
+    /// `"(" expr ")"`
+    fn parenthesised(&self, from: u32) -> Result<(Expr, u32), FrontFault>
+        requires nested { Nests self.now.from (F.pre self.now.nested) (F.post self.now.nested) }
+        requires from { self.now.from ≤ from }
+        ensures next { IfOk result (λ read. IsBehind self.now.tokens.list.now from read.1) }
+        ensures refused { IfErr result (IsUnexpected self.now.tokens.file) }
+    {
+        let next = self.tokens.after_sign(from, sign::LPAREN)?;
+        let (inner, next) = self.inner(Form::Expr(Around::Open), next)?;
+        Ok((inner, self.tokens.after_sign(next, sign::RPAREN)?))
+    }
+
+    /// `"void" ["(" expr ")"]`
+    fn void(&self, from: u32) -> Result<(Expr, u32), FrontFault>
+        requires nested { Nests self.now.from (F.pre self.now.nested) (F.post self.now.nested) }
+        requires from { self.now.from ≤ from }
+        requires within { from < length self.now.tokens.list.now }
+        ensures next { IfOk result (λ read. IsBehind self.now.tokens.list.now from read.1) }
+        ensures refused { IfErr result (IsUnexpected self.now.tokens.file) }
+    {
+        let pos = self.tokens.pos(from);
+        if !self.tokens.is_sign(from + 1, sign::LPAREN) {
+            return Ok((Expr::Void(pos), from + 1));
+        }
+        let (of, next) = self.parenthesised(from + 1)?;
+        Ok((Expr::IsVoid(Boxed::new(self.alloc, of)?, pos), next))
+    }
+
+    /// `"new" ["(" expr ")"]`
+    fn new(&self, from: u32) -> Result<(Expr, u32), FrontFault>
+        requires nested { Nests self.now.from (F.pre self.now.nested) (F.post self.now.nested) }
+        requires from { self.now.from ≤ from }
+        requires within { from < length self.now.tokens.list.now }
+        ensures next { IfOk result (λ read. IsBehind self.now.tokens.list.now from read.1) }
+        ensures refused { IfErr result (IsUnexpected self.now.tokens.file) }
+    {
+        let pos = self.tokens.pos(from);
+        if !self.tokens.is_sign(from + 1, sign::LPAREN) {
+            return Ok((Expr::New(None, pos), from + 1));
+        }
+        let (count, next) = self.parenthesised(from + 1)?;
+        Ok((Expr::New(Some(Boxed::new(self.alloc, count)?), pos), next))
+    }
+
+    /// `type "::" F [args]`
+    fn class_call(&self, from: u32) -> Result<(Expr, u32), FrontFault>
+        requires nested { Nests self.now.from (F.pre self.now.nested) (F.post self.now.nested) }
+        requires from { self.now.from ≤ from }
+        ensures next { IfOk result (λ read. IsBehind self.now.tokens.list.now from read.1) }
+        ensures refused { IfErr result (IsUnexpected self.now.tokens.file) }
+    {
+        let (class, next) = read_type(self.alloc, &self.tokens, from)?;
+        let next = self.tokens.after_sign(next, sign::DOUBLE_COLON)?;
+        self.call(Recv::OfClass(class), next)
+    }
+
+    /// `"#" [type] [args]`
+    fn create(&self, from: u32) -> Result<(Expr, u32), FrontFault>
+        requires nested { Nests self.now.from (F.pre self.now.nested) (F.post self.now.nested) }
+        requires from { self.now.from ≤ from }
+        requires within { from < length self.now.tokens.list.now }
+        ensures next { IfOk result (λ read. IsBehind self.now.tokens.list.now from read.1) }
+        ensures refused { IfErr result (IsUnexpected self.now.tokens.file) }
+    {
+        let (class, next) = class_of_new(self.alloc, &self.tokens, from + 1)?;
+        let (given, next) = self.args(next)?;
+        Ok((Expr::Create(class, given, self.tokens.pos(from)), next))
+    }
+
+    /// `"|" exprs "|"`
+    fn items(&self, from: u32) -> Result<(Expr, u32), FrontFault>
+        requires nested { Nests self.now.from (F.pre self.now.nested) (F.post self.now.nested) }
+        requires from { self.now.from ≤ from }
+        requires within { from < length self.now.tokens.list.now }
+        ensures next { IfOk result (λ read. IsBehind self.now.tokens.list.now from read.1) }
+        ensures refused { IfErr result (IsUnexpected self.now.tokens.file) }
+    {
+        let (items, next) = self.exprs(Around::Items, from + 1)?;
+        let next = self.tokens.after_sign(next, sign::BAR)?;
+        Ok((Expr::Items(items, self.tokens.pos(from)), next))
+    }
+
+    /// `"bind" "(" post ")"`
+    fn bind(&self, from: u32) -> Result<(Expr, u32), FrontFault>
+        requires nested { Nests self.now.from (F.pre self.now.nested) (F.post self.now.nested) }
+        requires from { self.now.from ≤ from }
+        requires within { from < length self.now.tokens.list.now }
+        ensures next { IfOk result (λ read. IsBehind self.now.tokens.list.now from read.1) }
+        ensures refused { IfErr result (IsUnexpected self.now.tokens.file) }
+    {
+        let next = self.tokens.after_sign(from + 1, sign::LPAREN)?;
+        let (head, next) = self.inner(Form::Post, next)?;
+        let next = self.tokens.after_sign(next, sign::RPAREN)?;
+        let head = Boxed::new(self.alloc, head)?;
+        Ok((Expr::Bind(head, self.tokens.pos(from)), next))
+    }
+}
+
+/// `[type]` behind a `#`
+fn class_of_new(
+    alloc: Global,
+    tokens: &Tokens<'_>,
+    from: u32,
+) -> Result<(Option<Ty>, u32), FrontFault>
+    requires { from ≤ length tokens.now.list.now }
+    ensures next { IfOk result (λ read. IsFrom tokens.now.list.now from read.1) }
+    ensures refused { IfErr result (IsUnexpected tokens.now.file) }
+{
+    if !begins_type(tokens, from) {
+        return Ok((None, from));
+    }
+    let (class, next) = read_type(alloc, tokens, from)?;
+    Ok((Some(class), next))
+}
+
+/// `{text}` behind a first text: one text of the bytes of all.
+fn texts(
+    alloc: Global,
+    tokens: &Tokens<'_>,
+    first: &Name,
+    from: u32,
+) -> Result<(Name, u32), AllocError>
+    requires { from ≤ length tokens.now.list.now }
+    ensures { IfOk result (λ read. IsFrom tokens.now.list.now from read.1) }
+{
+    let mut bytes = Vec::from_slice(alloc, first.as_slice())?;
+    let mut next = from;
+    'more: while let Some(TokenKind::Text(text)) = tokens.kind(next) {
+        bytes.extend_from_slice(text.as_slice())?;
+        next += 1;
+    }
+    Ok((Name::from_slice(alloc, bytes.as_slice())?, next))
+}

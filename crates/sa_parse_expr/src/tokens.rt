@@ -1,0 +1,136 @@
+//! The tokens of a file together with its text.
+
+ghost use Rattle.std.specs.Prelude.{◌≡◌, ◌+◌, ◌<◌, ◌↔◌, All, IfErr, IfOk, IsTrue, OnSome, Some, length};
+ghost use Rattle.std.specs.Option.{option_copied};
+ghost use Rattle.std.specs.Bool.{OnTrue};
+ghost use Rattle.sa_lex.specs.Token.{IsWithin};
+ghost use Rattle.sa_lex.specs.declared.token.TokenKind.TheVariants.{Sign, Word};
+ghost use Rattle.sa_tree.specs.declared.refusal.FrontFault.TheVariants.{Refused};
+ghost use Rattle.sa_parse_expr.specs.Places.{IsUnexpected, bytes_at, kind_at, start_at};
+
+use sa_lex::{Token, TokenKind, slice_of};
+use sa_tree::{FrontFault, Name, Pos, Refusal};
+use std::alloc::{AllocError, Global};
+
+/// A token that can't stand where it does.
+const UNEXPECTED: u8 = 6;
+
+/// A file's tokens with its text. A place among the tokens is their number from 0; each place past the last token is
+/// the end of the file, where no token stands.
+#[derive(Clone, Copy)]
+pub struct Tokens<'a> {
+    pub list: &'a [Token],
+    pub src: &'a [u8],
+    /// The number of the file, for positions.
+    pub file: u32,
+    pub ghost within: { All (IsWithin src.now) list.now },
+    pub ghost few: { length list.now < 4294967295 },
+    pub ghost short: { length src.now < 4294967295 },
+}
+
+impl Tokens<'_> {
+    /// What stands at a place, and nothing at the end of the file.
+    #[tactic(auto, unfolding(crate::specs::Places::kind_at))]
+    pub fn kind(&self, at: u32) -> Option<&TokenKind>
+        ensures value { option_copied result ≡ kind_at self.now.list.now at }
+        ensures within { OnSome result (at < length self.now.list.now) }
+    {
+        match self.list.get(at as usize) {
+            Some(token) => Some(&token.kind),
+            None => None,
+        }
+    }
+
+    /// Whether this sign, of `sa_lex::sign`, stands there.
+    pub fn is_sign(&self, at: u32, sign: u8) -> bool
+        ensures value { IsTrue result ↔ (kind_at self.now.list.now at ≡ Some (Sign sign)) }
+        ensures within { OnTrue result (at < length self.now.list.now) }
+    {
+        matches!(self.kind(at), Some(TokenKind::Sign(there)) if *there == sign)
+    }
+
+    /// Whether this word, of `sa_lex::word`, stands there.
+    pub fn is_word(&self, at: u32, word: u8) -> bool
+        ensures value { IsTrue result ↔ (kind_at self.now.list.now at ≡ Some (Word word)) }
+        ensures within { OnTrue result (at < length self.now.list.now) }
+    {
+        matches!(self.kind(at), Some(TokenKind::Word(there)) if *there == word)
+    }
+
+    /// Whether a lower name stands there, which no `!` follows.
+    pub fn is_lower(&self, at: u32) -> bool
+        ensures { OnTrue result (at < length self.now.list.now) }
+    {
+        matches!(self.kind(at), Some(TokenKind::Lower))
+    }
+
+    /// Whether the name of a feature stands there: a lower name or the name of an iter.
+    pub fn is_feature_name(&self, at: u32) -> bool
+        ensures { OnTrue result (at < length self.now.list.now) }
+    {
+        matches!(self.kind(at), Some(TokenKind::Lower | TokenKind::IterName))
+    }
+
+    /// The position of the token's first byte. The end of the file is behind the last byte of the text.
+    #[tactic(auto, unfolding(crate::specs::Places::start_at))]
+    pub fn pos(&self, at: u32) -> Pos
+        ensures { result ≡ record { file = self.now.file; at = start_at self.now.src.now self.now.list.now at } }
+    {
+        let place = match self.list.get(at as usize) {
+            Some(token) => token.start,
+            None => self.src.len() as u32,
+        };
+        Pos {
+            file: self.file,
+            at: place,
+        }
+    }
+
+    /// The bytes of the token, and no bytes at the end of the file. It fails only where memory runs out.
+    #[tactic(auto, unfolding(crate::specs::Places::bytes_at))]
+    pub fn name(&self, alloc: Global, at: u32) -> Result<Name, AllocError>
+        ensures { IfOk result (λ name. name ≡ bytes_at self.now.src.now self.now.list.now at) }
+    {
+        match self.list.get(at as usize) {
+            Some(token) => Name::from_slice(alloc, slice_of(self.src, token)),
+            None => Name::from_slice(alloc, &[]),
+        }
+    }
+
+    /// E06 at the token, or at the end of the file.
+    pub fn unexpected(&self, at: u32) -> FrontFault
+        ensures value { result ≡ Refused (record { code = 6; pos = record { file = self.now.file; at = start_at self.now.src.now self.now.list.now at } }) }
+        ensures unexpected { IsUnexpected self.now.file result }
+    {
+        FrontFault::Refused(Refusal {
+            code: UNEXPECTED,
+            pos: self.pos(at),
+        })
+    }
+
+    /// The place behind this sign, or E06 where another token or none stands.
+    pub fn after_sign(&self, at: u32, sign: u8) -> Result<u32, FrontFault>
+        ensures next { IfOk result (λ next. (next ≡ at + 1) × (at < length self.now.list.now)) }
+        ensures sign { IfOk result (λ _. kind_at self.now.list.now at ≡ Some (Sign sign)) }
+        ensures refused { IfErr result (IsUnexpected self.now.file) }
+    {
+        if self.is_sign(at, sign) {
+            Ok(at + 1)
+        } else {
+            Err(self.unexpected(at))
+        }
+    }
+
+    /// The place behind this word, or E06 where another token or none stands.
+    pub fn after_word(&self, at: u32, word: u8) -> Result<u32, FrontFault>
+        ensures next { IfOk result (λ next. (next ≡ at + 1) × (at < length self.now.list.now)) }
+        ensures word { IfOk result (λ _. kind_at self.now.list.now at ≡ Some (Word word)) }
+        ensures refused { IfErr result (IsUnexpected self.now.file) }
+    {
+        if self.is_word(at, word) {
+            Ok(at + 1)
+        } else {
+            Err(self.unexpected(at))
+        }
+    }
+}
