@@ -1,0 +1,6 @@
+pub mod Classes
+pub mod Features
+pub mod Names
+pub mod Refusals
+pub mod Signatures
+pub mod Statements
