@@ -1,0 +1,14 @@
+use Rattle.std.proofs.Common.{◌∙◌, ap, ap₂}
+use Rattle.std.proofs.lemmas.Result.{IfOk-weaker}
+use Rattle.clap.specs.Words.{App, Shape, with_subcommand}
+use Rattle.sa_words.proofs.program.program.Goals as goal
+
+abbrev top_of : App → Shape
+top_of a = a.top
+
+pub returns : goal.returns
+returns c =
+    let with_run = c.in_ok-subcommand.ensures.shape c.in_ok-run.ensures.1 ∙ ap₂ with_subcommand c.sather.ensures.app (ap top_of c.in_ok-run.ensures.0) in
+    let with_build = c.in_ok-subcommand-2.ensures.shape c.in_ok-build.ensures.1 ∙ ap₂ with_subcommand with_run (ap top_of c.in_ok-build.ensures.0) in
+    let with_check = c.in_ok-subcommand-3.ensures.shape c.in_ok-check.ensures.1 ∙ ap₂ with_subcommand with_build (ap top_of c.in_ok-check.ensures.0) in
+    IfOk-weaker c.subcommand-4.result _ _ (λ r h. h.shape c.in_ok-exec.ensures.1 ∙ ap₂ with_subcommand with_check (ap top_of c.in_ok-exec.ensures.0)) c.subcommand-4.ensures

@@ -1,0 +1,65 @@
+-- Which command a line of words is.
+use Rattle.std.specs.Prelude.{◌^◌, ◌-◌, ◌&&◌, ℕ, Bool, false, List, [], Option, None, Some, codes, length, map, if◌then◌else◌, nat_le, option_map, option_and_then, unwrap_or}
+use Rattle.std.specs.Option.{option_map_or}
+use Rattle.std.specs.Str.{bytes_eq}
+use Rattle.clap.specs.Words.{Row, Text, all_of, first_of, subcommand_of}
+use Rattle.clap.specs.Faults.{fault_of}
+use Rattle.clap.specs.Walk.{is_empty}
+use Rattle.sa_words.specs.Numbers.{number_or}
+use Rattle.sa_words.specs.Program.{program}
+use Rattle.sa_words.specs.declared.command.Command.{Command}
+use Rattle.sa_words.specs.declared.command.Command.TheVariants as command
+
+-- a command with its texts and numbers
+pub data Line : Type 0 where
+  Run : (fuel : ℕ) → (room : ℕ) → (stats : Bool) → (files : List Text) → Line
+  Build : (room : ℕ) → (out : Text) → (files : List Text) → Line
+  Check : (files : List Text) → Line
+  Exec : (fuel : ℕ) → (stats : Bool) → (file : Text) → Line
+
+-- what a command says
+abbrev pub line_of : Command → Line
+line_of (command.Run run) = Run run.fuel run.room run.stats (map (λ file. file.now) run.files.items)
+line_of (command.Build build) = Build build.room build.out.now (map (λ file. file.now) build.files.items)
+line_of (command.Check check) = Check (map (λ file. file.now) check.files.items)
+line_of (command.Exec exec) = Exec exec.fuel exec.stats exec.«module».now
+
+-- the fuel, which has no limit but that of its type, and else that limit
+abbrev pub fuel_in : List Row → Option ℕ
+fuel_in rows = number_or (2 ^ 64 - 1) 0 (2 ^ 64 - 1) (first_of (codes "fuel") rows)
+
+-- the room in KiB
+abbrev pub room_in : List Row → Option ℕ
+room_in rows = number_or 65536 64 1048576 (first_of (codes "room") rows)
+
+abbrev pub stats_in : List Row → Bool
+stats_in rows = option_map_or (λ text. bytes_eq text (codes "true")) (first_of (codes "stats") rows) false
+
+abbrev pub files_in : List Row → List Text
+files_in rows = unwrap_or (all_of (codes "file") rows) []
+
+abbrev pub run_in : List Row → Option Line
+run_in rows = option_and_then (λ fuel. option_map (λ room. Run fuel room (stats_in rows) (files_in rows)) (room_in rows)) (fuel_in rows)
+
+abbrev pub build_in : List Row → Option Line
+build_in rows = option_and_then (λ room. option_map (λ out. Build room out (files_in rows)) (first_of (codes "out") rows)) (room_in rows)
+
+abbrev pub exec_in : List Row → Option Line
+exec_in rows = option_and_then (λ fuel. option_map (λ file. Exec fuel (stats_in rows) file) (first_of (codes "module") rows)) (fuel_in rows)
+
+-- the command of this name with these matches
+abbrev pub named_line : Text → List Row → Option Line
+named_line name rows =
+    if bytes_eq name (codes "run") then run_in rows
+    else (if bytes_eq name (codes "build") then build_in rows
+    else (if bytes_eq name (codes "check") then Some (Check (files_in rows))
+    else (if bytes_eq name (codes "exec") then exec_in rows else None)))
+
+-- there are at most 65,535 words, and `clap` finds no fault in them
+abbrev pub are_taken : List Text → Bool
+are_taken words = nat_le (length words) 65535 && is_empty (fault_of program words)
+
+-- the command that the words are
+abbrev pub line_in : List Text → Option Line
+line_in words =
+    if are_taken words then option_and_then (λ found. named_line found.0 found.1) (subcommand_of program words) else None

@@ -1,0 +1,51 @@
+-- The program's command line, as `clap` reads it.
+use Rattle.std.specs.Prelude.{true, codes, Some}
+use Rattle.clap.specs.Words.{App, Rule, Text, new_app, new_rule, with_rule, with_subcommand}
+use Rattle.clap.specs.declared.builder.action.ArgAction.TheVariants.{Append, SetTrue}
+
+-- an option with a value: `--fuel N`
+abbrev pub option : Text → Rule
+option name = record (new_rule name) { long = Some name }
+
+-- an option without a value: `--stats`
+abbrev pub flag : Text → Rule
+flag name = record (new_rule name) { long = Some name; action = Some SetTrue }
+
+-- the file that is written: `-o OUT`
+abbrev pub out : Rule
+out = record (new_rule (codes "out")) { short = Some 111; required = true }
+
+-- one or more files that are read
+abbrev pub files : Rule
+files = record (new_rule (codes "file")) { action = Some Append; required = true }
+
+-- the file of a module
+abbrev pub module_file : Rule
+module_file = record (new_rule (codes "module")) { required = true }
+
+abbrev pub run : App
+run = with_rule (with_rule (with_rule (with_rule (new_app (codes "run")) (option (codes "fuel"))) (option (codes "room"))) (flag (codes "stats"))) files
+
+abbrev pub build : App
+build = with_rule (with_rule (with_rule (new_app (codes "build")) (option (codes "room"))) out) files
+
+abbrev pub check : App
+check = with_rule (new_app (codes "check")) files
+
+abbrev pub exec : App
+exec = with_rule (with_rule (with_rule (new_app (codes "exec")) (option (codes "fuel"))) (flag (codes "stats"))) module_file
+
+-- a command without arguments of its own: a subcommand is needed, and `help` is none
+abbrev pub sather : App
+sather =
+    let plain = new_app (codes "sather") in
+    record plain {
+      top = record plain.top {
+        no_binary_name = true;
+        disable_help_subcommand = true;
+        subcommand_required = true;
+      };
+    }
+
+abbrev pub program : App
+program = with_subcommand (with_subcommand (with_subcommand (with_subcommand sather run.top) build.top) check.top) exec.top

@@ -1,0 +1,52 @@
+//! What a command line asks for.
+
+/// What a command line asks for.
+#[derive(Debug, Drop)]
+pub enum Command<'a> {
+    Run(Run<'a>),
+    Build(Build<'a>),
+    Check(Check<'a>),
+    Exec(Exec<'a>),
+}
+
+/// The program in the files is to be compiled and run.
+#[derive(Debug, Drop)]
+pub struct Run<'a> {
+    /// The greatest number of steps.
+    pub fuel: u64,
+    /// The bytes that the program may charge, in KiB.
+    pub room: u32,
+    /// Whether the steps and the module's length are told at the end.
+    pub stats: bool,
+    /// The files' names: one or more.
+    pub files: Vec<&'a str>,
+}
+
+/// The program in the files is to be compiled, and its module written.
+#[derive(Debug, Drop)]
+pub struct Build<'a> {
+    /// The bytes that the program may charge, in KiB.
+    pub room: u32,
+    /// The name of the module's file.
+    pub out: &'a str,
+    /// The files' names: one or more.
+    pub files: Vec<&'a str>,
+}
+
+/// It is to be told whether the program in the files is accepted.
+#[derive(Debug, Drop)]
+pub struct Check<'a> {
+    /// The files' names: one or more.
+    pub files: Vec<&'a str>,
+}
+
+/// The module in the file is to be run.
+#[derive(Clone, Copy, Debug)]
+pub struct Exec<'a> {
+    /// The greatest number of steps.
+    pub fuel: u64,
+    /// Whether the steps and the module's length are told at the end.
+    pub stats: bool,
+    /// The name of the module's file.
+    pub module: &'a str,
+}

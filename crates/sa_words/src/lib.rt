@@ -1,0 +1,16 @@
+//! The words of a command line: which command they are, with its numbers and names.
+//!
+//! `clap` reads the words, by the description in `program.rt`; the numbers are read here, since they are decimal digits
+//! alone and have limits of their own.
+#![tactic(auto)]
+
+mod command;
+mod fault;
+mod number;
+mod program;
+mod read;
+mod subcommand;
+
+pub use command::{Build, Check, Command, Exec, Run};
+pub use fault::WordsFault;
+pub use read::command_of;

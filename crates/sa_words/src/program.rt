@@ -1,0 +1,111 @@
+//! The program's command line, described to `clap`.
+
+ghost use Rattle.std.specs.Prelude.{◌≡◌, IfOk, false};
+ghost use Rattle.clap.specs.Words.{app_of, rule_of};
+ghost use Rattle.clap.specs.declared.builder.command.Command.TheViews.{out-Command};
+ghost use Rattle.sa_words.specs.Program as line;
+
+use clap::{Arg, ArgAction, Command};
+use std::alloc::{AllocError, Global};
+
+/// An option with a value.
+fn option<'a>(alloc: Global, name: &'a str) -> Arg<'a>
+    ensures rule { rule_of result ≡ line.option name.entry.now }
+    ensures own { result.global ≡ false }
+{
+    Arg::new(alloc, name).long(name)
+}
+
+/// An option without a value.
+fn flag<'a>(alloc: Global, name: &'a str) -> Arg<'a>
+    ensures rule { rule_of result ≡ line.flag name.entry.now }
+    ensures own { result.global ≡ false }
+{
+    Arg::new(alloc, name).long(name).action(ArgAction::SetTrue)
+}
+
+/// The file that is written.
+fn out<'a>(alloc: Global) -> Arg<'a>
+    ensures rule { rule_of result ≡ line.out }
+    ensures own { result.global ≡ false }
+{
+    Arg::new(alloc, "out").short('o').required(true)
+}
+
+/// One or more files that are read.
+fn files<'a>(alloc: Global) -> Arg<'a>
+    ensures rule { rule_of result ≡ line.files }
+    ensures own { result.global ≡ false }
+{
+    Arg::new(alloc, "file")
+        .action(ArgAction::Append)
+        .required(true)
+}
+
+/// The file of a module.
+fn module_file<'a>(alloc: Global) -> Arg<'a>
+    ensures rule { rule_of result ≡ line.module_file }
+    ensures own { result.global ≡ false }
+{
+    Arg::new(alloc, "module").required(true)
+}
+
+/// `run [--fuel N] [--room KIB] [--stats] FILE..`
+fn run<'a>(alloc: Global) -> Result<Command<'a>, AllocError>
+    ensures { IfOk result (λ c. (app_of c ≡ line.run) × ((out-Command c).has_globals ≡ false)) }
+{
+    Command::new(alloc, "run")
+        .arg(option(alloc, "fuel"))?
+        .arg(option(alloc, "room"))?
+        .arg(flag(alloc, "stats"))?
+        .arg(files(alloc))
+}
+
+/// `build [--room KIB] -o OUT FILE..`
+fn build<'a>(alloc: Global) -> Result<Command<'a>, AllocError>
+    ensures { IfOk result (λ c. (app_of c ≡ line.build) × ((out-Command c).has_globals ≡ false)) }
+{
+    Command::new(alloc, "build")
+        .arg(option(alloc, "room"))?
+        .arg(out(alloc))?
+        .arg(files(alloc))
+}
+
+/// `check FILE..`
+fn check<'a>(alloc: Global) -> Result<Command<'a>, AllocError>
+    ensures { IfOk result (λ c. (app_of c ≡ line.check) × ((out-Command c).has_globals ≡ false)) }
+{
+    Command::new(alloc, "check").arg(files(alloc))
+}
+
+/// `exec [--fuel N] [--stats] MODULE`
+fn exec<'a>(alloc: Global) -> Result<Command<'a>, AllocError>
+    ensures { IfOk result (λ c. (app_of c ≡ line.exec) × ((out-Command c).has_globals ≡ false)) }
+{
+    Command::new(alloc, "exec")
+        .arg(option(alloc, "fuel"))?
+        .arg(flag(alloc, "stats"))?
+        .arg(module_file(alloc))
+}
+
+/// A command of the program's name without arguments of its own, of which a subcommand is needed.
+fn sather<'a>(alloc: Global) -> Command<'a>
+    ensures app { app_of result ≡ line.sather }
+    ensures own { (out-Command result).has_globals ≡ false }
+{
+    Command::new(alloc, "sather")
+        .no_binary_name(true)
+        .disable_help_subcommand(true)
+        .subcommand_required(true)
+}
+
+/// The program's command line.
+pub(crate) fn program<'a>(alloc: Global) -> Result<Command<'a>, AllocError>
+    ensures { IfOk result (λ c. app_of c ≡ line.program) }
+{
+    sather(alloc)
+        .subcommand(run(alloc)?)?
+        .subcommand(build(alloc)?)?
+        .subcommand(check(alloc)?)?
+        .subcommand(exec(alloc)?)
+}

@@ -1,0 +1,60 @@
+//! Words that are read as a command.
+
+ghost use Rattle.std.specs.Prelude.{◌≡◌, ◌≢◌, [], None, Some, IfOk, IsErrOf, map, string_bytes};
+ghost use Rattle.clap.specs.Words.{subcommand_of, subcommand_rows_of};
+ghost use Rattle.clap.specs.Faults.{fault_of};
+ghost use Rattle.sa_words.specs.Line.{line_in, line_of};
+ghost use Rattle.sa_words.specs.Program as line;
+
+use crate::command::Command;
+use crate::fault::WordsFault;
+use crate::program::program;
+use crate::subcommand::named;
+use clap::ArgMatches;
+use clap::error::ErrorKind;
+use std::alloc::Global;
+
+/// How many words are taken at most.
+const MOST_WORDS: usize = 65_535;
+
+/// What the words of a command line, without the program's name, ask for.
+///
+/// # Errors
+///
+/// `Usage` where they are no command: more than 65,535 words, words that `clap` finds a fault in, or a number out of its
+/// range; and `NoMemory`.
+pub fn command_of<'a>(alloc: Global, words: &'a [String]) -> Result<Command<'a>, WordsFault>
+    ensures taken { IfOk result (λ command. line_in (map string_bytes words.now) ≡ Some (line_of command)) }
+    ensures usage { IsErrOf result WordsFault.Usage → line_in (map string_bytes words.now) ≡ None }
+{
+    if words.len() > MOST_WORDS {
+        return Err(WordsFault::Usage);
+    }
+    let matches = matches(alloc, words)?;
+    let Some((name, matches)) = matches.subcommand() else {
+        return Err(WordsFault::Usage);
+    };
+    named(alloc, name, matches)?.ok_or(WordsFault::Usage)
+}
+
+/// What `clap` matches the words with.
+fn matches<'a>(alloc: Global, words: &'a [String]) -> Result<ArgMatches<'a>, WordsFault>
+    ensures free { IfOk result (λ m. fault_of line.program (map string_bytes words.now) ≡ []) }
+    ensures subcommand { IfOk result (λ m. subcommand_rows_of m ≡ subcommand_of line.program (map string_bytes words.now)) }
+    ensures usage { IsErrOf result WordsFault.Usage → fault_of line.program (map string_bytes words.now) ≢ [] }
+{
+    match program(alloc)?.try_get_matches_from(words) {
+        Ok(matches) => Ok(matches),
+        Err(error) => Err(fault(error.kind())),
+    }
+}
+
+/// The fault that an error of `clap` stands for. `--help` is none of the commands, and so the usage too.
+fn fault(kind: ErrorKind) -> WordsFault
+    ensures { result ≡ WordsFault.Usage → kind ≢ ErrorKind.OutOfMemory }
+{
+    match kind {
+        ErrorKind::OutOfMemory => WordsFault::NoMemory,
+        _ => WordsFault::Usage,
+    }
+}

@@ -1,0 +1,124 @@
+//! A subcommand with its matches, as a command.
+
+ghost use Rattle.std.specs.Prelude.{◌≡◌, IfOk, map, option_map};
+ghost use Rattle.clap.specs.Words.{all_of, first_of, found_of, rows_of};
+ghost use Rattle.sa_words.specs.Line.{build_in, exec_in, files_in, fuel_in, line_of, named_line, room_in, run_in, stats_in};
+
+use crate::command::{Build, Check, Command, Exec, Run};
+use crate::number::number_or;
+use clap::ArgMatches;
+use std::alloc::{AllocError, Global};
+
+/// The fuel and the room where none is given.
+const MOST_FUEL: u64 = u64::MAX;
+
+const ROOM: u64 = 65_536;
+
+const LEAST_ROOM: u64 = 64;
+
+const MOST_ROOM: u64 = 1_048_576;
+
+/// The value of the argument with this name, or its first one.
+fn value<'a>(matches: &ArgMatches<'a>, name: &str) -> Option<&'a str>
+    ensures { option_map (λ text. text.now) result ≡ first_of name.now (rows_of (found_of matches.now)) }
+{
+    matches.get_str(name)
+}
+
+/// The values of the argument with this name, or none where it has no entry.
+fn values<'m, 'a>(matches: &'m ArgMatches<'a>, name: &str) -> Option<&'m [&'a str]>
+    ensures { option_map (λ texts. map (λ text. text.now) texts.now) result ≡ all_of name.now (rows_of (found_of matches.now)) }
+{
+    matches.get_strs(name)
+}
+
+/// The fuel in steps, if it is in its range.
+fn fuel(matches: &ArgMatches<'_>) -> Option<u64>
+    ensures { result ≡ fuel_in (rows_of (found_of matches.now)) }
+{
+    number_or(MOST_FUEL, value(matches, "fuel"), 0, MOST_FUEL)
+}
+
+/// The room in KiB, if it is in its range.
+fn room(matches: &ArgMatches<'_>) -> Option<u32>
+    ensures { result ≡ room_in (rows_of (found_of matches.now)) }
+{
+    let room = number_or(ROOM, value(matches, "room"), LEAST_ROOM, MOST_ROOM)?;
+    Some(room as u32)
+}
+
+/// Whether the statistics are asked for. `clap` gives a flag that is used the value `true`.
+fn stats(matches: &ArgMatches<'_>) -> bool
+    ensures { result ≡ stats_in (rows_of (found_of matches.now)) }
+{
+    value(matches, "stats") == Some("true")
+}
+
+/// The names of the files.
+fn files<'a>(alloc: Global, matches: &ArgMatches<'a>) -> Result<Vec<&'a str>, AllocError>
+    ensures { IfOk result (λ files. map (λ file. file.now) files.items ≡ files_in (rows_of (found_of matches.now))) }
+{
+    match values(matches, "file") {
+        Some(files) => Vec::from_slice(alloc, files),
+        None => Ok(Vec::new(alloc)),
+    }
+}
+
+fn run<'a>(alloc: Global, matches: &ArgMatches<'a>) -> Result<Option<Command<'a>>, AllocError>
+    ensures { IfOk result (λ command. option_map line_of command ≡ run_in (rows_of (found_of matches.now))) }
+{
+    let files = files(alloc, matches)?;
+    let (Some(fuel), Some(room)) = (fuel(matches), room(matches)) else {
+        return Ok(None);
+    };
+    let stats = stats(matches);
+    Ok(Some(Command::Run(Run {
+        fuel,
+        room,
+        stats,
+        files,
+    })))
+}
+
+fn build<'a>(alloc: Global, matches: &ArgMatches<'a>) -> Result<Option<Command<'a>>, AllocError>
+    ensures { IfOk result (λ command. option_map line_of command ≡ build_in (rows_of (found_of matches.now))) }
+{
+    let files = files(alloc, matches)?;
+    let (Some(room), Some(out)) = (room(matches), value(matches, "out")) else {
+        return Ok(None);
+    };
+    Ok(Some(Command::Build(Build { room, out, files })))
+}
+
+fn exec<'a>(matches: &ArgMatches<'a>) -> Option<Command<'a>>
+    ensures { option_map line_of result ≡ exec_in (rows_of (found_of matches.now)) }
+{
+    let fuel = fuel(matches)?;
+    let module = value(matches, "module")?;
+    let stats = stats(matches);
+    Some(Command::Exec(Exec {
+        fuel,
+        stats,
+        module,
+    }))
+}
+
+/// The command of this name with these matches, or none where a number is out of its range.
+pub(crate) fn named<'a>(
+    alloc: Global,
+    name: &str,
+    matches: &ArgMatches<'a>,
+) -> Result<Option<Command<'a>>, AllocError>
+    ensures { IfOk result (λ command. option_map line_of command ≡ named_line name.now (rows_of (found_of matches.now))) }
+{
+    match name {
+        "run" => run(alloc, matches),
+        "build" => build(alloc, matches),
+        "check" => {
+            let files = files(alloc, matches)?;
+            Ok(Some(Command::Check(Check { files })))
+        }
+        "exec" => Ok(exec(matches)),
+        _ => Ok(None),
+    }
+}
