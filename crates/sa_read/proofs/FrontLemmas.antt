@@ -1,0 +1,80 @@
+-- The texts of a program, phase by phase.
+use Rattle.std.proofs.Common.{◌≡◌, ◌⊎◌, ℕ, ◌+◌, ◌<◌, ◌≤◌, List, [], ◌∷◌, ◌++◌, length, slice_index_or, sym, subst, ◌∙◌, arith, inl, inr}
+use Rattle.std.proofs.lemmas.List.{get_or_append_left, get_or_default, get_or_push, length-append}
+use Rattle.std.proofs.lemmas.Bool.{cases_lt}
+use Rattle.sa_lex.specs.declared.token.Token.{Token}
+use Rattle.sa_lex.specs.Tokens.{AreTokensOf, Follow, IsFaultOf, Refuses as RefusesText}
+use Rattle.sa_parse_expr.specs.Level.{Refuses as RefusesTokens}
+use Rattle.sa_parse.specs.Refusals.{IsRefusal}
+use Rattle.sa_tree.specs.declared.refusal.FrontFault.{FrontFault}
+use Rattle.sa_tree.specs.declared.refusal.FrontFault.TheVariants.{Refused, NoMemory}
+use Rattle.sa_read.specs.Front.{AreTokensOfTexts, AreTokenizedUpTo, IsTakenUpTo, Refuses}
+use Rattle.sa_read.specs.Program.{at}
+
+-- what holds up to a number and of it holds up to the next one
+pub up_to_next : (P : ℕ → Type 0) (n : ℕ) → ((k : ℕ) → k < n → P k) → P n → (k : ℕ) → k < n + 1 → P k
+up_to_next P n before here k lt = elim (cases_lt k n) [
+  | inl less ↦ before k less
+  | inr past ↦
+      let same : n ≡ k = omega arith in
+      subst P same here
+]
+
+-- one more list of tokens
+pub tokens_more : (texts : List (List ℕ)) (lists : List (List Token)) (tokens : List Token) (n : ℕ) → AreTokensOfTexts texts lists n → AreTokensOf (at texts n) tokens → AreTokensOfTexts texts (lists ++ tokens ∷ []) (n + 1)
+tokens_more texts lists tokens n (count, each) here = (
+  omega (arith, length-append lists (tokens ∷ []), count),
+  up_to_next (λ k. AreTokensOf (at texts k) (slice_index_or (lists ++ tokens ∷ []) k [])) n
+      (λ k lt. subst (AreTokensOf (at texts k)) (sym (get_or_append_left lists (tokens ∷ []) [] k (omega (arith, count)))) (each k lt))
+      (subst (AreTokensOf (at texts n)) (sym (get_or_push lists tokens [] n count)) here),
+)
+
+tokenized : (texts : List (List ℕ)) (lists : List (List Token)) (n : ℕ) → AreTokensOfTexts texts lists n → AreTokenizedUpTo texts n
+tokenized texts lists n (count, each) k lt = (slice_index_or lists k [], each k lt)
+
+-- a text without tokens behind texts that have them
+pub lexical : (texts : List (List ℕ)) (lists : List (List Token)) (n : ℕ) (fault : FrontFault) → AreTokensOfTexts texts lists n → n < length texts → RefusesText (at texts n) n fault → Refuses texts fault
+lexical texts lists n NoMemory each there refused = tt
+lexical texts lists n (Refused refusal) each there (fault, file) = inl (record {
+  within = rw file there;
+  before = rw file (tokenized texts lists n each);
+  fault = subst (λ number. IsFaultOf (at texts number) refusal) (sym file) fault;
+})
+
+-- a text whose tokens break a rule behind texts whose tokens don't
+pub breach : (texts : List (List ℕ)) (lists : List (List Token)) (n : ℕ) (fault : FrontFault) → AreTokensOfTexts texts lists (length texts) → n < length texts → IsTakenUpTo texts n → RefusesTokens (slice_index_or lists n []) n fault → Refuses texts fault
+breach texts lists n NoMemory each there before refused = tt
+breach texts lists n (Refused refusal) each there before (broken, file) = inr (inl (record {
+  tokenized = tokenized texts lists (length texts) each;
+  within = rw file there;
+  before = rw file before;
+  tokens = slice_index_or lists n [];
+  of_text = rw file (each.1 n there);
+  breach = broken;
+}))
+
+-- a text that the grammar refuses
+pub grammar : (texts : List (List ℕ)) (lists : List (List Token)) (n : ℕ) (fault : FrontFault) → AreTokensOfTexts texts lists (length texts) → n < length texts → IsTakenUpTo texts (length texts) → IsRefusal (slice_index_or lists n []) n fault → Refuses texts fault
+grammar texts lists n fault each there taken (inl broken) = breach texts lists n fault each there (λ k lt. taken k (omega arith)) broken
+grammar texts lists n NoMemory each there taken (inr (none, unexpected)) = tt
+grammar texts lists n (Refused refusal) each there taken (inr (none, (code, file))) = inr (inr (record {
+  taken = taken;
+  within = rw file there;
+  code = code;
+}))
+
+-- tokens are at most as many as the bytes of their text
+tokens_fit : (text : List ℕ) (place : ℕ) (tokens : List Token) → place ≤ length text → Follow text place tokens → place + length tokens ≤ length text
+tokens_fit text place [] inside follow = omega arith
+tokens_fit text place (token ∷ tokens) inside (stands, follow) =
+    omega (arith, tokens_fit text token.end tokens stands.in_text follow, stands.start, stands.not_empty)
+
+pub few_tokens : (text : List ℕ) (tokens : List Token) → AreTokensOf text tokens → length tokens ≤ length text
+few_tokens text tokens are = omega (arith, tokens_fit text 0 tokens (omega arith) are.follow)
+
+-- the tokens of the text with a number, found in the lists
+pub of_text : (texts : List (List ℕ)) (lists : List (List Token)) (n : ℕ) (text : List ℕ) (tokens : List Token) → AreTokensOfTexts texts lists (length texts) → n < length texts → (d : List ℕ) (e : List Token) → text ≡ slice_index_or texts n d → tokens ≡ slice_index_or lists n e → AreTokensOf text tokens
+of_text texts lists n text tokens (count, each) there d e of_number list =
+    let the_text : at texts n ≡ text = get_or_default texts n [] d there ∙ sym of_number in
+    let the_tokens : slice_index_or lists n [] ≡ tokens = get_or_default lists n [] e (omega (arith, count)) ∙ sym list in
+    subst (λ text. AreTokensOf text tokens) the_text (subst (AreTokensOf (at texts n)) the_tokens (each n there))

@@ -1,0 +1,62 @@
+-- The texts of a program.
+use Rattle.std.specs.Prelude.{◌≡◌, ℕ, ◌+◌, ◌<◌, ◌≤◌, List, [], ◌∷◌, codes, length, suc, sum_by, take, Option, None, Some, slice_index_or}
+use Rattle.sa_outside.specs.Files.{Files, Lacks}
+use Rattle.sa_tree.specs.declared.pos.Sources.{Sources}
+use Rattle.sa_tree.specs.declared.refusal.Refusal.{Refusal}
+use Rattle.sa_read.specs.Read.{HasFile, HasLonger}
+use Rattle.sa_read.specs.declared.program.Program.{Program}
+use Rattle.sa_read.specs.declared.program.TheConstants.{MOST_BYTES}
+
+-- the item at a place, from 0
+abbrev pub at : List (List ℕ) → ℕ → List ℕ
+at items place = slice_index_or items place []
+
+-- how many bytes these texts have together
+abbrev pub size : List (List ℕ) → ℕ
+size texts = sum_by length texts
+
+-- the prelude's text alone, which is empty
+abbrev pub no_files : Sources
+no_files = record { names = codes "prelude" ∷ []; texts = [] ∷ [] }
+
+-- the refusal of the file with this number, which is too large from this byte on
+abbrev pub too_large : ℕ → ℕ → Refusal
+too_large number room = record { code = 50; pos = record { file = number; at = room } }
+
+-- the first n files have their texts behind the prelude's
+abbrev pub HaveTexts : Option Files → List (List ℕ) → List (List ℕ) → ℕ → Type 0
+HaveTexts files names texts n = (k : ℕ) → k < n → HasFile files (at names k) (at texts (suc k))
+
+-- the first n names name the texts behind the prelude's, which are that many
+pub record AreNamed (names : List (List ℕ)) (sources : Sources) (n : ℕ) : Type 0 where
+  pub named : sources.names ≡ codes "prelude" ∷ take n names
+  pub count : length sources.texts ≡ suc n
+  pub there : n ≤ length names
+
+-- each file was read to its end, and they are small enough together
+pub record IsWhole (files : Option Files) (names : List (List ℕ)) (sources : Sources) : Type 0 where
+  pub named : AreNamed names sources (length names)
+  pub texts : HaveTexts files names sources.texts (length names)
+  pub small : size sources.texts ≤ MOST_BYTES
+
+-- the files were read to the byte at which they are too large together, which is one of the last text's file
+pub record IsCut (files : Option Files) (names : List (List ℕ)) (sources : Sources) (refusal : Refusal) : Type 0 where
+  pub last : ℕ
+  pub there : last < length names
+  pub named : AreNamed names sources (suc last)
+  pub texts : HaveTexts files names sources.texts last
+  pub longer : HasLonger files (at names last) refusal.pos.at (at sources.texts (suc last))
+  pub room : size (take (suc last) sources.texts) + refusal.pos.at ≡ MOST_BYTES
+  pub cut : refusal ≡ too_large (suc last) refusal.pos.at
+
+abbrev pub IsReadAs : Option Files → List (List ℕ) → Sources → Option Refusal → Type 0
+IsReadAs files names sources None = IsWhole files names sources
+IsReadAs files names sources (Some refusal) = IsCut files names sources refusal
+
+-- the program was read from these files
+abbrev pub IsReadFrom : Option Files → List (List ℕ) → Program → Type 0
+IsReadFrom files names program = IsReadAs files names program.sources program.cut
+
+-- the store tells that it lacks one of these files
+abbrev pub LacksOneOf : Option Files → List (List ℕ) → Type 0
+LacksOneOf files names = (k : ℕ) × (k < length names) × Lacks files (at names k)
