@@ -1,0 +1,10 @@
+//! Runs a module from its bytes: they are decoded and validated, the module is linked to the functions of a host, and a
+//! machine runs it.
+#![tactic(auto)]
+
+mod answer;
+mod load;
+mod module_run;
+
+pub use answer::Answer;
+pub use module_run::{Run, run_bytes};

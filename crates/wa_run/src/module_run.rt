@@ -1,0 +1,121 @@
+//! The run of a module.
+
+ghost use Rattle.std.specs.Prelude.{◌≡◌, ◌<◌, ◌≤◌, ◌⊎◌, None, length};
+ghost use Rattle.sa_outside.specs.Faults.{Rose};
+ghost use Rattle.sa_outside.specs.Output.{Grew};
+ghost use Rattle.wa_run.specs.Answers.{IsBeforeRun, IsOutage, IsTold};
+
+use crate::answer::{Answer, answer_of_halt, answer_of_start};
+use crate::load::load;
+use sa_outside::{Outage, Sink, Source};
+use std::alloc::Global;
+use wa_exec::{Host, Machine};
+use wa_valid::Valid;
+
+/// The answer of a run, and how many steps the machine made.
+#[derive(Clone, Copy, Debug, PartialEq, Eq)]
+pub struct Run {
+    pub answer: Answer,
+    pub steps: u64,
+}
+
+/// Runs the module that these bytes spell, with at most `fuel` steps. Its output goes to `out` and its input comes from
+/// `input`; all that it put before its end, a trap or the end of its fuel is handed on.
+pub fn run_bytes<I: Source, O: Sink>(
+    alloc: Global,
+    bytes: &[u8],
+    fuel: u64,
+    input: &mut I,
+    out: &mut O,
+) -> Run
+    requires size { length bytes.now < 4294967295 }
+    // A fault is answered only where the source or the sink counted one, and Spent only at the fuel.
+    ensures told { IsTold result.answer (Rose (I.faults input.old) (I.faults input.new)) (Rose (O.faults out.old) (O.faults out.new)) }
+    ensures spent { result.answer ≡ Answer.Spent → result.steps ≡ fuel }
+    ensures within { result.steps ≤ fuel }
+    // What out has is behind what it had, and nothing where the answer comes before the run.
+    ensures output { Grew (O.output out.old) (O.output out.new) }
+    ensures untouched { IsBeforeRun result.answer → (out.new ≡ out.old) × (input.new ≡ input.old) }
+    ensures source { I.faults input.old ≤ I.faults input.new }
+    ensures sink { O.faults out.old ≤ O.faults out.new }
+{
+    match load(alloc, bytes) {
+        Ok(valid) => run_valid(alloc, &valid, fuel, input, out),
+        Err(answer) => Run { answer, steps: 0 },
+    }
+}
+
+/// Runs a valid module.
+fn run_valid<I: Source, O: Sink>(
+    alloc: Global,
+    valid: &Valid,
+    fuel: u64,
+    input: &mut I,
+    out: &mut O,
+) -> Run
+    ensures told { IsTold result.answer (Rose (I.faults input.old) (I.faults input.new)) (Rose (O.faults out.old) (O.faults out.new)) }
+    ensures spent { result.answer ≡ Answer.Spent → result.steps ≡ fuel }
+    ensures within { result.steps ≤ fuel }
+    ensures output { Grew (O.output out.old) (O.output out.new) }
+    ensures untouched { IsBeforeRun result.answer → (out.new ≡ out.old) × (input.new ≡ input.old) }
+    ensures source { I.faults input.old ≤ I.faults input.new }
+    ensures sink { O.faults out.old ≤ O.faults out.new }
+{
+    let mut host = match Host::new(alloc) {
+        Ok(host) => host,
+        Err(_no_memory) => {
+            return Run {
+                answer: Answer::NoMemory,
+                steps: 0,
+            };
+        }
+    };
+    match Machine::new(alloc, valid) {
+        Ok(machine) => run_machine(machine, fuel, &mut host, input, out),
+        Err(fault) => Run {
+            answer: answer_of_start(fault),
+            steps: 0,
+        },
+    }
+}
+
+/// Runs a machine that has made no step.
+fn run_machine<I: Source, O: Sink>(
+    mut machine: Machine<'_>,
+    fuel: u64,
+    host: &mut Host,
+    input: &mut I,
+    out: &mut O,
+) -> Run
+    requires new { machine ≡ record { steps = 0; halt = None } }
+    ensures told { IsTold result.answer (Rose (I.faults input.old) (I.faults input.new)) (Rose (O.faults out.old) (O.faults out.new)) }
+    ensures spent { result.answer ≡ Answer.Spent → result.steps ≡ fuel }
+    ensures within { result.steps ≤ fuel }
+    ensures runs { IsBeforeRun result.answer → ⊥ }
+    ensures output { Grew (O.output out.old) (O.output out.new) }
+    ensures source { I.faults input.old ≤ I.faults input.new }
+    ensures sink { O.faults out.old ≤ O.faults out.new }
+{
+    let halt = machine.step_until(fuel, host, input, out);
+    Run {
+        answer: handed_on(answer_of_halt(halt), host, out),
+        steps: machine.steps(),
+    }
+}
+
+/// The answer after the output that is held is handed on. After a fault of the sink, or where it had no memory, nothing
+/// more is handed on: the sink has taken a front of what is held.
+fn handed_on<O: Sink>(answer: Answer, host: &mut Host, out: &mut O) -> Answer
+    ensures same { result ≡ answer ⊎ IsOutage result (Rose (O.faults out.old) (O.faults out.new)) }
+    ensures output { Grew (O.output out.old) (O.output out.new) }
+    ensures sink { O.faults out.old ≤ O.faults out.new }
+{
+    match answer {
+        Answer::OutFault | Answer::NoMemory => answer,
+        _ => match host.flush(out) {
+            Ok(()) => answer,
+            Err(Outage::Failed) => Answer::OutFault,
+            Err(Outage::NoMemory) => Answer::NoMemory,
+        },
+    }
+}
