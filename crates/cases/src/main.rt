@@ -13,7 +13,14 @@ use std::fs::{self, Files};
 use std::process::ExitCode;
 
 /// The files of the table, one for each subject.
-const TABLES: [&str; 2] = ["hello.json", "tokens.json"];
+const TABLES: [&str; 6] = [
+    "hello.json",
+    "commands.json",
+    "tokens.json",
+    "grammar.json",
+    "modules.json",
+    "machine.json",
+];
 
 fn main(rt: HostRuntime) -> Result<ExitCode> {
     let mut status = ExitCode::SUCCESS;

@@ -1,3 +1,2 @@
+pub mod EndLemmas
 pub mod OutputLemmas
-pub mod ReadLemmas
-pub mod WordLemmas

@@ -1,9 +1,8 @@
 pub mod Answer
+pub mod Ends
+pub mod Files
 pub mod Lines
-pub mod Read
 pub mod Report
-pub mod Run
-pub mod Sources
+pub mod Seen
 pub mod Status
 pub mod Texts
-pub mod Words

@@ -3,6 +3,8 @@ use Rattle.std.specs.Prelude.{ℕ, ◌+◌, ◌<◌, ⊤, List, [], ◌++◌, �
 use Rattle.sa_tree.specs.declared.pos.Pos.{Pos}
 use Rattle.sa_tree.specs.declared.pos.Sources.{Sources}
 use Rattle.sa_tree.specs.Sources.{text_of}
+use Rattle.std.specs.Prelude.{Option, None, Some}
+use Rattle.sa_drive.specs.declared.outcome.Outcome.{Outcome}
 use Rattle.sa_drive.specs.Texts.{refusal_text, fault_text}
 use Rattle.sa_drive.specs.declared.cause.Cause.{Cause}
 use Rattle.sa_drive.specs.declared.cause.Cause.TheVariants.{Done, Refused, Fault, Stopped, Spent, StoreFault, InFault, OutFault, Usage, Malformed, Invalid, Unlinked, Segment, Trap, TooDeep, NotListing, NotBuilt, NoMemory}
@@ -57,3 +59,16 @@ abbrev pub IsPlaced : Sources → Cause → Type 0
 IsPlaced sources (Refused refusal) = IsInside sources refusal.pos
 IsPlaced sources (Fault kind pos) = IsInside sources pos
 IsPlaced sources _ = ⊤
+
+-- `steps S, bytes B`
+abbrev pub statistics : ℕ → ℕ → List ℕ
+statistics steps bytes = codes "steps " ++ decimal steps ++ codes ", bytes " ++ decimal bytes ++ codes "\n"
+
+-- the line of the statistics, where the steps are told
+abbrev pub told_statistics : Option ℕ → ℕ → List ℕ
+told_statistics None bytes = []
+told_statistics (Some steps) bytes = statistics steps bytes
+
+-- the lines of an outcome with this cause
+abbrev pub lines_of : Outcome → Cause → List ℕ
+lines_of outcome cause = line_of_cause outcome.sources outcome.file.now cause ++ told_statistics outcome.steps (length outcome.«module».items)

@@ -1,22 +1,43 @@
 //! The lines on err.
 
-ghost use Rattle.std.specs.Prelude.{◌≡◌, ◌++◌, ◌∷◌, [], ◌<◌, ◌^◌, codes, map, decimal, length, slice_get, unwrap_or, IfOk};
-ghost use Rattle.sa_drive.specs.Lines.{about_place, about_file, stop_line, listing_line, line_of_cause, IsPlaced, IsInside};
+ghost use Rattle.std.specs.Prelude.{◌≡◌, ◌++◌, ◌∷◌, [], ◌<◌, ◌^◌, codes, map, decimal, length, slice_get, unwrap_or, IfOk, OnOk};
+ghost use Rattle.sa_drive.specs.Lines.{about_place, about_file, stop_line, listing_line, line_of_cause, lines_of, statistics, IsPlaced, IsInside};
 
 use crate::cause::Cause;
+use crate::outcome::Outcome;
 use crate::texts::{fault_text, refusal_text};
 use itoa::Buffer;
 use sa_tree::{Pos, Sources, line_of};
 use std::alloc::{AllocError, Global};
 
+/// The lines of an outcome: that of its cause, and that of the statistics where they are told.
+pub fn lines(alloc: Global, outcome: &Outcome<'_>) -> Result<Vec<u8>, AllocError>
+    requires { IsPlaced outcome.now.sources outcome.now.cause }
+    ensures { IfOk result (λ lines. lines.items ≡ lines_of outcome.now outcome.now.cause) }
+{
+    let mut lines = line(alloc, &outcome.sources, outcome.file, &outcome.cause)?;
+    if let Some(steps) = outcome.steps {
+        add_statistics(&mut lines, steps, outcome.module.len() as u64)?;
+    }
+    Ok(lines)
+}
+
+/// Adds `steps S, bytes B` to the lines.
+fn add_statistics(lines: &mut Vec<u8>, steps: u64, bytes: u64) -> Result<(), AllocError>
+    ensures { OnOk result (lines.new.items ≡ lines.old.items ++ statistics steps bytes) }
+{
+    let mut number = Buffer::new();
+    lines.extend_from_slice(b"steps ")?;
+    lines.extend_from_slice(number.format(steps).as_bytes())?;
+    lines.extend_from_slice(b", bytes ")?;
+    lines.extend_from_slice(number.format(bytes).as_bytes())?;
+    lines.push(b'\n')?;
+    Ok(())
+}
+
 /// The line of a cause, ended by a line feed, or nothing for `Done`. The sources are the program's, and the file is
 /// that of the module or the listing.
-pub fn line(
-    alloc: Global,
-    sources: &Sources,
-    file: &str,
-    cause: &Cause,
-) -> Result<Vec<u8>, AllocError>
+fn line(alloc: Global, sources: &Sources, file: &str, cause: &Cause) -> Result<Vec<u8>, AllocError>
     requires { IsPlaced sources.now cause.now }
     ensures { IfOk result (λ line. line.items ≡ line_of_cause sources.now file.now cause.now) }
 {

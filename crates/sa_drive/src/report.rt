@@ -3,40 +3,34 @@
 ghost use Rattle.std.specs.Prelude.{◌≡◌, ◌≢◌, ◌⊎◌, ◌≤◌};
 ghost use Rattle.sa_outside.specs.Faults.{Rose};
 ghost use Rattle.sa_outside.specs.Output.{TookFront};
-ghost use Rattle.sa_drive.specs.Lines.{IsPlaced, line_of_cause};
+ghost use Rattle.sa_drive.specs.Lines.{IsPlaced, lines_of};
 ghost use Rattle.sa_drive.specs.Report.{Tells};
 ghost use Rattle.sa_drive.specs.declared.cause.Cause.{Cause as Causes};
 
 use crate::cause::Cause;
-use crate::lines::{NO_MEMORY, line};
+use crate::lines::{NO_MEMORY, lines};
+use crate::outcome::Outcome;
 use sa_outside::{Outage, Sink};
-use sa_tree::Sources;
 use std::alloc::{AllocError, Global};
 
-/// Puts the line of the cause on err, and gives the cause that stands then: want of memory in its place where the line
+/// Puts the lines of an outcome on err, and gives the cause that stands then: want of memory in its place where the lines
 /// can't be made or err has no memory. Where err fails the cause stands.
-pub fn report<E: Sink>(
-    alloc: Global,
-    sources: &Sources,
-    file: &str,
-    cause: Cause,
-    err: &mut E,
-) -> Cause
-    requires { IsPlaced sources.now cause }
-    ensures stands { result ≢ Cause.NoMemory → result ≡ cause }
-    ensures told { result ≢ Cause.NoMemory → Tells (E.output err.old) (E.output err.new) (E.faults err.old) (E.faults err.new) (line_of_cause sources.now file.now result) }
-    ensures told_part { result ≡ Cause.NoMemory → (told : Causes) × TookFront (E.output err.old) (E.output err.new) (line_of_cause sources.now file.now told) }
+pub fn report<E: Sink>(alloc: Global, outcome: &Outcome<'_>, err: &mut E) -> Cause
+    requires { IsPlaced outcome.now.sources outcome.now.cause }
+    ensures stands { (result ≡ Cause.NoMemory) ⊎ (result ≡ outcome.now.cause) }
+    ensures told { result ≢ Cause.NoMemory → Tells (E.output err.old) (E.output err.new) (E.faults err.old) (E.faults err.new) (lines_of outcome.now result) }
+    ensures told_part { result ≡ Cause.NoMemory → (told : Causes) × TookFront (E.output err.old) (E.output err.new) (lines_of outcome.now told) }
     ensures count { E.faults err.old ≤ E.faults err.new }
 {
-    match line(alloc, sources, file, &cause) {
-        Ok(line) => tell(line.as_slice(), cause, err),
+    match lines(alloc, outcome) {
+        Ok(lines) => tell(lines.as_slice(), outcome.cause, err),
         Err(AllocError) => tell(NO_MEMORY, Cause::NoMemory, err),
     }
 }
 
 /// Puts the line on err, and gives the cause, or want of memory where err has none.
 fn tell<E: Sink>(line: &[u8], cause: Cause, err: &mut E) -> Cause
-    ensures stands { result ≢ Cause.NoMemory → result ≡ cause }
+    ensures stands { (result ≡ Cause.NoMemory) ⊎ (result ≡ cause) }
     ensures told { result ≢ Cause.NoMemory → Tells (E.output err.old) (E.output err.new) (E.faults err.old) (E.faults err.new) line.now }
     ensures told_part { TookFront (E.output err.old) (E.output err.new) line.now }
     ensures count { E.faults err.old ≤ E.faults err.new }

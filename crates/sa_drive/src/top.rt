@@ -1,22 +1,27 @@
 //! The top call.
 
-ghost use Rattle.std.specs.Prelude.{◌≡◌, ◌≢◌, ℕ, ◌⊎◌, List, [], map, string_bytes};
-ghost use Rattle.sa_outside.specs.Faults.{Rose};
-ghost use Rattle.sa_outside.specs.Output.{Took, TookFront};
-ghost use Rattle.sa_tree.specs.declared.pos.Sources.{Sources as Texts};
-ghost use Rattle.sa_drive.specs.Answer.{ComesOf};
-ghost use Rattle.sa_drive.specs.Lines.{IsPlaced, line_of_cause};
+ghost use Rattle.std.specs.Prelude.{◌≡◌, ◌≢◌, ◌⊎◌, ◌&&◌, [], None, Some, is_some, map, string_bytes};
+ghost use Rattle.sa_outside.specs.Output.{Grew, TookFront};
+ghost use Rattle.sa_words.specs.Line.{line_in, line_of};
+ghost use Rattle.sa_drive.specs.Answer.{ComesOf, ComesOfLine, IsTold, LeavesFiles, TakesNoInput, asks_stats, has_steps, module_file};
+ghost use Rattle.sa_drive.specs.Ends.{ComesBeforeOutput};
+ghost use Rattle.sa_drive.specs.Lines.{IsPlaced, lines_of};
 ghost use Rattle.sa_drive.specs.Report.{Tells};
-ghost use Rattle.sa_drive.specs.Run.{ComesBeforeOutput};
+ghost use Rattle.sa_drive.specs.Seen.{count, seen};
 ghost use Rattle.sa_drive.specs.Status.{status_of};
-ghost use Rattle.sa_drive.specs.Words.{TakesNone};
-ghost use Rattle.sa_drive.specs.declared.cause.Cause.{Cause as AnyCause};
+ghost use Rattle.sa_drive.specs.declared.cause.Cause.{Cause as Causes};
+ghost use Rattle.sa_drive.specs.declared.outcome.Outcome.{Outcome as Outcomes};
 
+use crate::build::build;
 use crate::cause::{Cause, Exit};
+use crate::check::check;
+use crate::compile::no_sources;
+use crate::exec::exec;
+use crate::outcome::Outcome;
 use crate::report::report;
-use crate::run::{Outcome, run, without_texts};
-use crate::words::run_file;
+use crate::run::run;
 use sa_outside::{Sink, Source, Store};
+use sa_words::{Command, WordsFault, command_of};
 use sqlite_items::Items;
 use std::alloc::Global;
 
@@ -29,45 +34,92 @@ pub fn sather<S: Store, I: Source, O: Sink, E: Sink>(
     out: &mut O,
     err: &mut E,
 ) -> Exit
-    // There are texts of which the cause comes, and whose line err takes, whole unless it fails.
-    ensures answer { (texts : Texts)
-        × (ComesOf (S.files store.old) (map string_bytes words.now) (Rose (S.faults store.old) (S.faults store.new)) (Rose (O.faults out.old) (O.faults out.new)) texts result.cause
-        × (result.cause ≢ Cause.NoMemory → Tells (E.output err.old) (E.output err.new) (E.faults err.old) (E.faults err.new) (line_of_cause texts [] result.cause))) }
+    // There is an outcome that says where the cause comes from, and whose lines err takes, whole unless it fails. They name
+    // the module's file of `exec`, and the steps where they are asked for and the module ended by itself or at its fuel.
+    ensures answer { (outcome : Outcomes) × ComesOf (seen (S.files store.old) (count (S.faults store.old) (S.faults store.new)) (count (I.faults input.old) (I.faults input.new)) (count (O.faults out.old) (O.faults out.new))) (map string_bytes words.now) outcome.sources result.cause × (result.cause ≢ Cause.NoMemory → IsTold (line_in (map string_bytes words.now)) outcome result.cause (Tells (E.output err.old) (E.output err.new) (E.faults err.old) (E.faults err.new))) }
 
-    // With want of memory err takes a front of some cause's line.
-    ensures told_part { result.cause ≡ Cause.NoMemory → (texts : Texts) × (cause : AnyCause) × TookFront (E.output err.old) (E.output err.new) (line_of_cause texts [] cause) }
-    ensures untaken { TakesNone (map string_bytes words.now) → (result.cause ≡ Cause.Usage) ⊎ (result.cause ≡ Cause.NoMemory) }
-    ensures status { result.status ≡ status_of result.cause }
-    ensures no_module { result.module ≡ [] }
+    // With want of memory err takes a front of some cause's lines.
+    ensures told_part { result.cause ≡ Cause.NoMemory → (outcome : Outcomes) × (told : Causes) × TookFront (E.output err.old) (E.output err.new) (lines_of outcome told) }
+    ensures untaken { line_in (map string_bytes words.now) ≡ None → (result.cause ≡ Cause.Usage) ⊎ (result.cause ≡ Cause.NoMemory) }
+    ensures status { result.cause ≢ Cause.Done → result.status ≡ status_of result.cause }
 
-    // Nothing is taken from the input, and nothing is written to the store.
-    ensures input { input.new ≡ input.old }
-    ensures files { S.files store.new ≡ S.files store.old }
+    // `run` and `exec` alone take from the input, and `build` alone writes to the store, under its own name alone.
+    ensures input { TakesNoInput (line_in (map string_bytes words.now)) → input.new ≡ input.old }
+    ensures files { LeavesFiles (line_in (map string_bytes words.now)) result.cause result.«module» (S.files store.old) (S.files store.new) }
 
     // What out has is behind what it had, and nothing where the cause stands before any output.
-    ensures output { (more : List ℕ) × Took (O.output out.old) (O.output out.new) more }
+    ensures output { Grew (O.output out.old) (O.output out.new) }
     ensures untouched { ComesBeforeOutput result.cause → out.new ≡ out.old }
 {
-    let Outcome { cause, sources } = obey(alloc, words, store, out);
-    let cause = report(alloc, &sources, "", cause, err);
+    let outcome = obey(alloc, words, store, input, out);
+    let cause = report(alloc, &outcome, err);
+    let status = match cause {
+        Cause::Done => outcome.done,
+        _ => cause.status(),
+    };
     Exit {
-        status: cause.status(),
+        status,
         cause,
-        module: Items::new(alloc),
+        module: Items::from_vec(outcome.module),
     }
 }
 
-/// Does what the words ask for, but for the line on err.
-fn obey<S: Store, O: Sink>(alloc: Global, words: &[String], store: &mut S, out: &mut O) -> Outcome
-    ensures comes { ComesOf (S.files store.old) (map string_bytes words.now) (Rose (S.faults store.old) (S.faults store.new)) (Rose (O.faults out.old) (O.faults out.new)) result.sources result.cause }
+/// Does what the words ask for, but for the lines on err.
+fn obey<'a, S: Store, I: Source, O: Sink>(
+    alloc: Global,
+    words: &'a [String],
+    store: &mut S,
+    input: &mut I,
+    out: &mut O,
+) -> Outcome<'a>
+    ensures comes { ComesOf (seen (S.files store.old) (count (S.faults store.old) (S.faults store.new)) (count (I.faults input.old) (I.faults input.new)) (count (O.faults out.old) (O.faults out.new))) (map string_bytes words.now) result.sources result.cause }
+    ensures untaken { line_in (map string_bytes words.now) ≡ None → (result.cause ≡ Cause.Usage) ⊎ (result.cause ≡ Cause.NoMemory) }
+    ensures file { result.cause ≢ Cause.NoMemory → result.file.now ≡ module_file (line_in (map string_bytes words.now)) }
+    ensures told { is_some result.steps ≡ (asks_stats (line_in (map string_bytes words.now)) && has_steps result.cause) }
+    ensures input { TakesNoInput (line_in (map string_bytes words.now)) → input.new ≡ input.old }
+    ensures files { LeavesFiles (line_in (map string_bytes words.now)) result.cause result.«module».items (S.files store.old) (S.files store.new) }
     ensures placed { IsPlaced result.sources result.cause }
-    ensures untaken { TakesNone (map string_bytes words.now) → result.cause ≡ Cause.Usage }
-    ensures files { S.files store.new ≡ S.files store.old }
-    ensures output { (more : List ℕ) × Took (O.output out.old) (O.output out.new) more }
+    ensures output { Grew (O.output out.old) (O.output out.new) }
     ensures untouched { ComesBeforeOutput result.cause → out.new ≡ out.old }
 {
-    match run_file(words) {
-        Some(file) => run(alloc, file, store, out),
-        None => without_texts(alloc, Cause::Usage),
+    let command = match command_of(alloc, words) {
+        Ok(command) => command,
+        Err(WordsFault::Usage) => return without_command(alloc, Cause::Usage),
+        Err(WordsFault::NoMemory) => return without_command(alloc, Cause::NoMemory),
+    };
+    do_command(alloc, command, store, input, out)
+}
+
+/// Does what a command asks for.
+fn do_command<'a, S: Store, I: Source, O: Sink>(
+    alloc: Global,
+    command: Command<'a>,
+    store: &mut S,
+    input: &mut I,
+    out: &mut O,
+) -> Outcome<'a>
+    ensures comes { ComesOfLine (seen (S.files store.old) (count (S.faults store.old) (S.faults store.new)) (count (I.faults input.old) (I.faults input.new)) (count (O.faults out.old) (O.faults out.new))) (line_of command.entry) result.sources result.cause }
+    ensures file { result.file.now ≡ module_file (Some (line_of command.entry)) }
+    ensures told { is_some result.steps ≡ (asks_stats (Some (line_of command.entry)) && has_steps result.cause) }
+    ensures input { TakesNoInput (Some (line_of command.entry)) → input.new ≡ input.old }
+    ensures files { LeavesFiles (Some (line_of command.entry)) result.cause result.«module».items (S.files store.old) (S.files store.new) }
+    ensures placed { IsPlaced result.sources result.cause }
+    ensures output { Grew (O.output out.old) (O.output out.new) }
+    ensures untouched { ComesBeforeOutput result.cause → out.new ≡ out.old }
+{
+    match command {
+        Command::Run(line) => run(alloc, &line, store, input, out),
+        Command::Build(line) => build(alloc, &line, store),
+        Command::Check(line) => check(alloc, &line, store, out),
+        Command::Exec(line) => exec(alloc, &line, store, input, out),
     }
+}
+
+/// The outcome where the words give no command.
+fn without_command<'a>(alloc: Global, cause: Cause) -> Outcome<'a>
+    ensures cause { result.cause ≡ cause }
+    ensures file { result.file.now ≡ [] }
+    ensures steps { result.steps ≡ None }
+{
+    Outcome::without_run(cause, no_sources(alloc), Vec::new(alloc))
 }

@@ -1,0 +1,8 @@
+use Rattle.sa_drive.specs.Seen.{count}
+use Rattle.sa_drive.proofs.top.do_command.Goals as goal
+
+pub returns-in-Build-clause-comes : goal.returns-in-Build-clause-comes
+returns-in-Build-clause-comes g c = rw c.in-Build.is (c.build.ensures.comes (count (g.I.Source.faults c.args.input.now) (g.I.Source.faults c.args.input.now)) (count (g.O.Sink.faults c.args.out.now) (g.O.Sink.faults c.args.out.now)))
+
+pub returns-in-Check-clause-comes : goal.returns-in-Check-clause-comes
+returns-in-Check-clause-comes g c = rw c.in-Check.is (c.check.ensures.comes (count (g.I.Source.faults c.args.input.now) (g.I.Source.faults c.args.input.now)))

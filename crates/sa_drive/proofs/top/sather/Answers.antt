@@ -1,0 +1,18 @@
+use Rattle.std.proofs.Common.{◌∙◌, inl, inr}
+use Rattle.sa_drive.proofs.EndLemmas.{reported}
+use Rattle.sa_drive.proofs.top.sather.Goals as goal
+
+pub returns-clause-answer : goal.returns-clause-answer
+returns-clause-answer g c = (
+  c.obey-outcome.result,
+  reported _ _ _ _ _ c.report-cause.ensures.stands c.obey-outcome.ensures.comes,
+  λ other. elim c.report-cause.ensures.stands [
+    | inl memory ↦ absurd (other memory)
+    | inr same ↦ (c.obey-outcome.ensures.file (λ memory. other (same ∙ memory)), rw same c.obey-outcome.ensures.told, c.report-cause.ensures.told other)
+  ],
+)
+
+pub returns-clause-told_part : goal.returns-clause-told_part
+returns-clause-told_part g c = λ memory.
+    let told = c.report-cause.ensures.told_part memory in
+    (c.obey-outcome.result, told.0, told.1)

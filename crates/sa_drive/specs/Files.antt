@@ -1,0 +1,37 @@
+-- What a cause says of the files of a program.
+use Rattle.std.specs.Prelude.{◌≡◌, ◌⊎◌, ⊤, ℕ, List, length, Option, None, Some}
+use Rattle.sa_tree.specs.declared.pos.Sources.{Sources}
+use Rattle.sa_tree.specs.declared.refusal.Refusal.{Refusal}
+use Rattle.sa_outside.specs.Files.{Files}
+use Rattle.sa_read.specs.Front.{IsRefusalOf, IsTakenUpTo}
+use Rattle.sa_read.specs.Program.{IsReadAs, LacksOneOf}
+use Rattle.sa_read.specs.declared.program.Program.{Program}
+use Rattle.sa_drive.specs.declared.cause.Cause.{Cause}
+use Rattle.sa_drive.specs.declared.cause.Cause.TheVariants as cause
+
+-- these are the texts of the files, and a parser may go over the tokens of each
+abbrev pub IsTakenProgram : Option Files → List (List ℕ) → Sources → Type 0
+IsTakenProgram files names sources = IsReadAs files names sources None × IsTakenUpTo sources.texts (length sources.texts)
+
+-- the refusal is that of the files: they are too large together, or it is the first of their texts
+abbrev pub IsRefusedFor : Option Files → List (List ℕ) → Sources → Refusal → Type 0
+IsRefusedFor files names sources refusal = IsReadAs files names sources (Some refusal) ⊎ (IsReadAs files names sources None × IsRefusalOf sources.texts refusal)
+
+-- why texts give no module
+abbrev pub Explains : List (List ℕ) → Cause → Type 0
+Explains texts (cause.Refused refusal) = IsRefusalOf texts refusal
+Explains texts cause.NotBuilt = IsTakenUpTo texts (length texts)
+Explains texts cause.NoMemory = ⊤
+Explains texts _ = ⊥
+
+-- why a program that was read gives no module: it was cut, or its texts give none
+abbrev pub ExplainsProgram : Program → Cause → Type 0
+ExplainsProgram program ends = ((refusal : Refusal) × (program.cut ≡ Some refusal) × (ends ≡ cause.Refused refusal)) ⊎ ((program.cut ≡ None) × Explains program.sources.texts ends)
+
+-- why files give no module, where this says that the store failed
+abbrev pub ComesOfFiles : Option Files → Type 0 → List (List ℕ) → Sources → Cause → Type 0
+ComesOfFiles files store_failed names sources (cause.Refused refusal) = IsRefusedFor files names sources refusal
+ComesOfFiles files store_failed names sources cause.NotBuilt = IsTakenProgram files names sources
+ComesOfFiles files store_failed names sources cause.StoreFault = store_failed ⊎ LacksOneOf files names
+ComesOfFiles files store_failed names sources cause.NoMemory = ⊤
+ComesOfFiles files store_failed names sources _ = ⊥

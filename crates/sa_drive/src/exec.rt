@@ -1,0 +1,160 @@
+//! The command `exec`: a module is read from its file and run.
+
+ghost use Rattle.std.specs.Prelude.{◌≡◌, ◌<◌, ◌&&◌, None, Option, is_some, length};
+ghost use Rattle.sa_outside.specs.Files.{Files};
+ghost use Rattle.sa_outside.specs.Output.{Grew};
+ghost use Rattle.sa_drive.specs.Answer.{ComesOfModule, has_steps};
+ghost use Rattle.sa_drive.specs.Ends.{ComesBeforeOutput, RunEnds, cause_of};
+ghost use Rattle.sa_drive.specs.Lines.{IsPlaced};
+ghost use Rattle.sa_drive.specs.Seen.{Count, count, seen};
+
+use crate::cause::Cause;
+use crate::compile::{no_sources, unread};
+use crate::outcome::Outcome;
+use sa_outside::{Sink, Source, Store};
+use sa_read::{Read, read_file};
+use sa_tree::Sources;
+use sa_words::Exec;
+use std::alloc::Global;
+use wa_run::{Answer, run_bytes};
+
+/// How many bytes a module's file has at most.
+const MOST_MODULE_BYTES: usize = 67_108_864;
+
+/// How the run of a module ended.
+#[derive(Clone, Copy)]
+pub struct Ended {
+    pub cause: Cause,
+    /// The status where the cause is `Done`: the low 8 bits of what `main` returned.
+    pub done: u8,
+    /// How many steps the machine made.
+    pub steps: u64,
+}
+
+impl Ended {
+    /// The outcome of a command that ran this module. The steps are told where they are asked for and the module ended
+    /// by itself or at its fuel.
+    pub fn outcome<'a>(
+        self,
+        sources: Sources,
+        file: &'a str,
+        module: Vec<u8>,
+        stats: bool,
+    ) -> Outcome<'a>
+        ensures cause { result.cause ≡ self.cause }
+        ensures sources { result.sources ≡ sources }
+        ensures file { result.file.now ≡ file.entry.now }
+        ensures told { is_some result.steps ≡ (stats && has_steps self.cause) }
+    {
+        let steps = (stats && has_steps(&self.cause)).then_some(self.steps);
+        Outcome {
+            cause: self.cause,
+            done: self.done,
+            sources,
+            file,
+            module,
+            steps,
+        }
+    }
+}
+
+/// Whether the steps of a run that ended so may be told.
+fn has_steps(cause: &Cause) -> bool
+    ensures { result ≡ has_steps cause.now }
+{
+    matches!(
+        cause,
+        Cause::Done | Cause::Fault(_, _) | Cause::Stopped(_, _) | Cause::Spent(_)
+    )
+}
+
+/// Runs the module in the file.
+pub fn exec<'a, S: Store, I: Source, O: Sink>(
+    alloc: Global,
+    line: &Exec<'a>,
+    store: &mut S,
+    input: &mut I,
+    out: &mut O,
+) -> Outcome<'a>
+    ensures comes { ComesOfModule (seen (S.files store.old) (count (S.faults store.old) (S.faults store.new)) (count (I.faults input.old) (I.faults input.new)) (count (O.faults out.old) (O.faults out.new))) line.now.«module».now line.now.fuel result.cause }
+    ensures placed { IsPlaced result.sources result.cause }
+    ensures told { is_some result.steps ≡ (line.now.stats && has_steps result.cause) }
+    ensures file { result.file.now ≡ line.now.«module».now }
+    ensures files { S.files store.new ≡ S.files store.old }
+    ensures output { Grew (O.output out.old) (O.output out.new) }
+    ensures untouched { ComesBeforeOutput result.cause → out.new ≡ out.old }
+{
+    match read_file(alloc, store, line.module, MOST_MODULE_BYTES) {
+        Ok(Read::Whole(bytes)) => {
+            let ended = run_module(alloc, bytes.as_slice(), line.fuel, input, out);
+            ended.outcome(no_sources(alloc), line.module, bytes, line.stats)
+        }
+        Ok(Read::Cut(_bytes)) => without_module(alloc, line.module, Cause::Malformed),
+        Err(fault) => without_module(alloc, line.module, unread(fault)),
+    }
+}
+
+/// The outcome where no module was read.
+fn without_module<'a>(alloc: Global, file: &'a str, cause: Cause) -> Outcome<'a>
+    ensures cause { result.cause ≡ cause }
+    ensures file { result.file.now ≡ file.entry.now }
+    ensures steps { result.steps ≡ None }
+{
+    Outcome {
+        cause,
+        done: 0,
+        sources: no_sources(alloc),
+        file,
+        module: Vec::new(alloc),
+        steps: None,
+    }
+}
+
+/// Runs the module of these bytes.
+pub fn run_module<I: Source, O: Sink>(
+    alloc: Global,
+    bytes: &[u8],
+    fuel: u64,
+    input: &mut I,
+    out: &mut O,
+) -> Ended
+    requires { length bytes.now < 4294967295 }
+    ensures ends { (files : Option Files) (store : Count) → RunEnds (seen files store (count (I.faults input.old) (I.faults input.new)) (count (O.faults out.old) (O.faults out.new))) fuel result.cause }
+    ensures output { Grew (O.output out.old) (O.output out.new) }
+    ensures untouched { ComesBeforeOutput result.cause → out.new ≡ out.old }
+{
+    let run = run_bytes(alloc, bytes, fuel, input, out);
+    Ended {
+        cause: cause_of(run.answer, fuel),
+        done: status_of(run.answer),
+        steps: run.steps,
+    }
+}
+
+/// The cause of an answer.
+fn cause_of(answer: Answer, fuel: u64) -> Cause
+    ensures { result ≡ cause_of fuel answer }
+{
+    match answer {
+        Answer::Malformed => Cause::Malformed,
+        Answer::Invalid(func) => Cause::Invalid(func),
+        Answer::Unlinked(import) => Cause::Unlinked(import),
+        Answer::Segment => Cause::Segment,
+        Answer::Ended(_) => Cause::Done,
+        Answer::Stopped(code, site) => Cause::Stopped(code, site),
+        Answer::Trap(kind) => Cause::Trap(kind),
+        Answer::TooDeep => Cause::TooDeep,
+        Answer::Spent => Cause::Spent(fuel),
+        Answer::InFault => Cause::InFault,
+        Answer::OutFault => Cause::OutFault,
+        Answer::NoMemory => Cause::NoMemory,
+    }
+}
+
+/// The status of a module that ended: the low 8 bits of what `main` returned, and 0 where it returned nothing.
+fn status_of(answer: Answer) -> u8 {
+    match answer {
+        Answer::Ended(Some(value)) => (value & 0xff) as u8,
+        _ => 0,
+    }
+}

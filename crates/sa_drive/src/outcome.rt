@@ -1,0 +1,42 @@
+//! How a command ended.
+
+ghost use Rattle.std.specs.Prelude.{◌≡◌, [], None};
+
+use crate::cause::Cause;
+use sa_tree::Sources;
+
+/// How a command ended, and what is told of it.
+#[derive(Drop)]
+pub struct Outcome<'a> {
+    pub cause: Cause,
+    /// The status where the cause is `Done`.
+    pub done: u8,
+    /// The texts that the cause's position is in.
+    pub sources: Sources,
+    /// The name of the module's file, where the command reads one.
+    pub file: &'a str,
+    /// The bytes of the module that was encoded or read.
+    pub module: Vec<u8>,
+    /// How many steps the machine made, where they are to be told.
+    pub steps: Option<u64>,
+}
+
+impl<'a> Outcome<'a> {
+    /// The outcome of a command that has run no module.
+    pub fn without_run(cause: Cause, sources: Sources, module: Vec<u8>) -> Outcome<'a>
+        ensures cause { result.cause ≡ cause }
+        ensures sources { result.sources ≡ sources }
+        ensures bytes { result.«module».items ≡ «module».items }
+        ensures file { result.file.now ≡ [] }
+        ensures steps { result.steps ≡ None }
+    {
+        Outcome {
+            cause,
+            done: 0,
+            sources,
+            file: "",
+            module,
+            steps: None,
+        }
+    }
+}
