@@ -28,6 +28,14 @@ def cases(folder):
     yield 'a file that is missing is a store fault', run(['run', 'g.sa'], folder), (b'', b'store fault\n', 123)
     yield 'a folder is a store fault', run(['run', 'folder'], folder), (b'', b'store fault\n', 123)
     yield 'without words the usage is told', run([], folder), (b'', USAGE, 124)
+    yield 'a program is accepted', run(['check', 'f.sa'], folder), (b'accepted\n', b'', 0)
+    yield 'a module is written', run(['build', '-o', 'm', 'f.sa'], folder), (b'', b'', 0)
+    told = run(['run', '--stats', 'f.sa'], folder)
+    yield 'the module that is written does what the program does', run(['exec', '--stats', 'm'], folder), told
+    yield 'the program prints its text with the statistics', (told[0], told[2]), (b'Hello\n', 0)
+    full = run(['build', '-o', '/dev/full', 'f.sa'], folder)
+    yield 'a module that can\'t be written is a store fault', full, (b'', b'store fault\n', 123)
+    yield 'a text is no module', run(['exec', 'f.sa'], folder), (b'', b'f.sa: malformed\n', 126)
     os.chmod(folder, 0o755)
     os.chmod(os.path.join(folder, 'f.sa'), 0)
     someone = {'user': 65534} if os.geteuid() == 0 else {}

@@ -1,0 +1,108 @@
+"""Runs a module in the program that is tried, in V8 and in wabt, and says alike how each run ended.
+
+An end is one of the words 'malformed', 'invalid', 'unlinked N', 'segment', 'trap', 'too deep', 'spent', 'stop CODE at SITE'
+and 'done STATUS'."""
+import json
+import os
+import re
+import shutil
+import subprocess
+
+HERE = os.path.dirname(os.path.abspath(__file__))
+SECONDS = 60
+OWN_LINE = re.compile(rb'm: (malformed|invalid|unlinked \d+|segment|trap|too deep)\n')
+STOPPED = re.compile(rb'm: (stop \d+ at \d+)\n')
+STATS = re.compile(rb'steps (\d+), bytes (\d+)\n$')
+CALLED = re.compile(r'called host env\.(\w+)\((?:i32:(\d+))?')
+# What WebAssembly 1.0 doesn't have.
+WABT_FEATURES = ['--disable-saturating-float-to-int', '--disable-sign-extension', '--disable-simd', '--disable-multi-value',
+                 '--disable-bulk-memory', '--disable-reference-types']
+
+
+class Run:
+    """How a run ended and what it wrote, with its steps where they were counted."""
+
+    def __init__(self, end, output=b'', steps=None):
+        self.end, self.output, self.steps = end, output, steps
+
+    def __eq__(self, other):
+        return (self.end, self.output) == (other.end, other.output)
+
+    def __str__(self):
+        steps = '' if self.steps is None else ' after %d steps' % self.steps
+        return '%s%s, output %r' % (self.end, steps, self.output)
+
+
+def end_of(line, status):
+    """The end that a line on err and a status tell, or a text that is no end where they don't fit together."""
+    own, stopped = OWN_LINE.fullmatch(line), STOPPED.fullmatch(line)
+    if line == b'':
+        return 'done %d' % status
+    if line == b'fuel spent\n' and status == 122:
+        return 'spent'
+    if own and status == 126:
+        return own.group(1).decode()
+    if stopped and status == 121:
+        return stopped.group(1).decode()
+    return 'status %d with %r' % (status, line)
+
+
+def sather(program, folder, module, given=b'', words=()):
+    """Runs the module by `exec`."""
+    with open(os.path.join(folder, 'm'), 'wb') as file:
+        file.write(module)
+    try:
+        ended = subprocess.run([program, 'exec', *words, 'm'], cwd=folder, input=given, capture_output=True, timeout=SECONDS)
+    except subprocess.TimeoutExpired:
+        return Run('no end within %d seconds' % SECONDS)
+    line, steps = ended.stderr, None
+    stats = STATS.search(line)
+    if stats:
+        line, steps = line[:stats.start()], int(stats.group(1))
+        if int(stats.group(2)) != len(module):
+            return Run('another length of the module: %r' % stats.group(0), ended.stdout)
+    return Run(end_of(line, ended.returncode), ended.stdout, steps)
+
+
+def v8(tasks):
+    """Judges modules by one process of node. A task is a module, an input, and whether to run it. Gives for each whether it
+    is valid, and its run or None; or None for all where node is missing."""
+    node = shutil.which('node')
+    if node is None:
+        return None
+    lines = [json.dumps({'module': module.hex(), 'input': given.hex(), 'run': run}) for module, given, run in tasks]
+    ended = subprocess.run([node, os.path.join(HERE, 'v8.js')], input='\n'.join(lines) + '\n', capture_output=True,
+                           text=True, timeout=SECONDS + len(tasks))
+    answers = [json.loads(line) for line in ended.stdout.splitlines()]
+    if len(answers) != len(tasks):
+        raise RuntimeError('node answered %d of %d modules: %s' % (len(answers), len(tasks), ended.stderr))
+    return [(answer['valid'], Run(answer['end'], bytes.fromhex(answer['output'])) if 'end' in answer else None)
+            for answer in answers]
+
+
+def has_wabt():
+    """Whether wabt is there."""
+    return shutil.which('wasm-validate') is not None and shutil.which('wasm-interp') is not None
+
+
+def wabt_accepts(folder):
+    """Whether wabt finds the module `m` valid without the features that came after 1.0."""
+    ended = subprocess.run(['wasm-validate', *WABT_FEATURES, 'm'], cwd=folder, capture_output=True, timeout=SECONDS)
+    return ended.returncode == 0
+
+
+def wabt_run(folder):
+    """Runs the module `m` by wabt's interpreter, which has no host: it prints each call of an import, and gives zeros. Gives
+    None where the run read input or was to stop, since wabt then goes another way."""
+    ended = subprocess.run(['wasm-interp', *WABT_FEATURES, '--dummy-import-func', '--run-all-exports', 'm'], cwd=folder,
+                           capture_output=True, text=True, timeout=SECONDS)
+    output = bytearray()
+    for called in CALLED.finditer(ended.stdout):
+        if called.group(1) != 'put':
+            return None
+        output.append(int(called.group(2)) & 255)
+    last = ended.stdout.splitlines()[-1] if ended.stdout else ended.stderr
+    done = re.fullmatch(r'main\(\) =>(?: i32:(\d+))?', last)
+    if done:
+        return Run('done %d' % (int(done.group(1) or 0) & 255), bytes(output))
+    return Run('too deep' if 'call stack exhausted' in last else 'trap', bytes(output))
