@@ -3,6 +3,7 @@
 
 ghost use Rattle.std.specs.Prelude.{◌≡◌, IfOk, length, vec_len};
 
+use crate::table::Table;
 use std::alloc::{AllocError, AllocFailed, Global};
 use thiserror::Error;
 use wa_syntax::{Elem, GlobalDef, Init, Limits, Module, Segment};
@@ -16,8 +17,8 @@ pub const PAGE: usize = 65_536;
 pub struct Instance {
     /// The values of the module's own globals, each as the bits of its type.
     pub globals: Vec<u64>,
-    /// The functions in the table, by their numbers.
-    pub table: Vec<Option<u32>>,
+    /// The functions in the table.
+    pub table: Table,
     /// The bytes of the memory.
     pub bytes: Vec<u8>,
     /// The most pages that the memory may have.
@@ -114,34 +115,33 @@ fn room(offset: u64, count: usize, len: usize) -> Option<usize> {
 }
 
 /// Puts the functions of a segment into the table.
-fn fill_table(
-    table: &mut [Option<u32>],
-    elem: &Elem,
-    globals: &[u64],
-) -> Result<(), InstanceFault> {
+fn fill_table(table: &mut Table, elem: &Elem, globals: &[u64]) -> Result<(), InstanceFault> {
     let funcs = elem.funcs.as_slice();
-    let from = room(value(elem.offset, globals), funcs.len(), table.len()).ok_or(
+    let from = room(value(elem.offset, globals), funcs.len(), table.size()).ok_or(
         InstanceFault::Segment,
     )?;
     for (i, func) in funcs.iter().enumerate() {
-        let at = from.wrapping_add(i);
-        if at < table.len() {
-            table[at] = Some(*func);
-        }
+        let at = u32::try_from(from.wrapping_add(i)).map_err(|_| InstanceFault::Segment)?;
+        table.put(at, *func)?;
     }
     Ok(())
 }
 
+/// How many places the segments fill, those that are filled twice counted twice.
+fn filled(elems: &[Elem]) -> usize {
+    let mut filled: usize = 0;
+    for elem in elems {
+        filled = filled.saturating_add(elem.funcs.len());
+    }
+    filled
+}
+
 /// The table with the functions of its segments.
-fn table(
-    alloc: Global,
-    module: &Module,
-    globals: &[u64],
-) -> Result<Vec<Option<u32>>, InstanceFault> {
-    let mut table = Vec::new(alloc);
-    table.resize(least(module.tables.as_slice()), None)?;
-    for elem in module.elems.as_slice() {
-        fill_table(table.as_mut_slice(), elem, globals)?;
+fn table(alloc: Global, module: &Module, globals: &[u64]) -> Result<Table, InstanceFault> {
+    let elems = module.elems.as_slice();
+    let mut table = Table::new(alloc, least(module.tables.as_slice()), filled(elems))?;
+    for elem in elems {
+        fill_table(&mut table, elem, globals)?;
     }
     Ok(table)
 }

@@ -11,7 +11,9 @@ mod labels;
 mod layout;
 mod number;
 mod op;
+mod table;
 
 pub use code::{Body, Code};
 pub use instance::{Instance, InstanceFault, PAGE};
 pub use op::{Op, Target};
+pub use table::Table;

@@ -7,7 +7,7 @@ use crate::activation::{Pause, Stretch, pages, run_activation};
 use crate::calls::Calls;
 use crate::link::Linked;
 use crate::words::low;
-use wa_code::{Code, PAGE};
+use wa_code::{Code, PAGE, Table};
 use wa_syntax::TrapKind;
 
 /// What a run changes.
@@ -19,7 +19,7 @@ pub(crate) struct State {
     /// What the last of them returned.
     pub value: Option<u64>,
     pub globals: Vec<u64>,
-    pub table: Vec<Option<u32>>,
+    pub table: Table,
     pub bytes: Vec<u8>,
     /// The most pages that the memory may have.
     pub most_pages: usize,
@@ -65,13 +65,12 @@ impl State {
         ensures calls { vec_len self.new.calls.callers ≡ vec_len self.old.calls.callers }
         ensures waiting { vec_len self.new.waiting ≡ vec_len self.old.waiting }
     {
-        let index = low(self.calls.take()) as usize;
-        match self.table.get(index) {
+        match self.table.get(low(self.calls.take())) {
             None => Err(TrapKind::Element),
             Some(None) => Err(TrapKind::Uninitialised),
             Some(Some(func)) => {
-                if linked.is_of_type(*func, ty) {
-                    Ok(*func)
+                if linked.is_of_type(func, ty) {
+                    Ok(func)
                 } else {
                     Err(TrapKind::Mismatch)
                 }
