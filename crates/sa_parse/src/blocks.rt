@@ -36,7 +36,7 @@ pub(crate) fn if_block(
     ensures refused { IfErr result (IsUnexpected tokens.now.file) }
 {
     let pos = tokens.pos(from);
-    let mut arms = Items::new(alloc);
+    let mut arms = Vec::new(alloc);
     let (first, mut next) = arm(alloc, tokens, tokens.after_word(from, word::IF)?)?;
     arms.push(first)?;
     'more: while tokens.is_word(next, word::ELSIF) {
@@ -47,7 +47,8 @@ pub(crate) fn if_block(
     let (rest, next) = else_part(alloc, tokens, next)?;
     let rest = rest.unwrap_or(Items::new(alloc));
     let next = tokens.after_word(next, word::END)?;
-    Ok((Stmt::If(arms, rest, pos), next))
+    arms.shrink_to_fit();
+    Ok((Stmt::If(Items::from_vec(arms), rest, pos), next))
 }
 
 /// `expr "then" stmts`

@@ -12,7 +12,5 @@ mod sharing;
 mod signature;
 mod starts;
 mod statement;
-#[cfg(test)]
-mod tests;
 
 pub use file::parse;

@@ -93,5 +93,6 @@ pub(crate) fn lower_names(
         names.push(name)?;
         next = end;
     }
+    names.shrink_to_fit();
     Ok((names, next))
 }

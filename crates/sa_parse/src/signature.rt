@@ -79,12 +79,13 @@ fn formals(
     ensures next { IfOk result (λ read. IsBehind tokens.now.list.now from read.1) }
     ensures refused { IfErr result (IsUnexpected tokens.now.file) }
 {
-    let mut list = Items::new(alloc);
+    let mut list = Vec::new(alloc);
     let mut next = formal(alloc, tokens, sharing, of_iter, &mut list, from)?;
     'more: while tokens.is_sign(next, sign::COMMA) {
         next = formal(alloc, tokens, sharing, of_iter, &mut list, next + 1)?;
     }
-    Ok((list, next))
+    list.shrink_to_fit();
+    Ok((Items::from_vec(list), next))
 }
 
 /// `[mode] LNAME {"," LNAME} ":" type`: an argument for each name, put at the end of the list.
@@ -93,7 +94,7 @@ fn formal(
     tokens: &Tokens<'_>,
     sharing: &mut Sharing,
     of_iter: bool,
-    list: &mut Items<Formal>,
+    list: &mut Vec<Formal>,
     from: u32,
 ) -> Result<u32, FrontFault>
     ensures next { IfOk result (IsBehind tokens.now.list.now from) }

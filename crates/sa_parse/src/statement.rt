@@ -34,12 +34,13 @@ pub(crate) fn stmts(
     ensures next { IfOk result (λ read. IsFrom tokens.now.list.now from read.1) }
     ensures refused { IfErr result (IsUnexpected tokens.now.file) }
 {
-    let mut list = Items::new(alloc);
+    let mut list = Vec::new(alloc);
     let mut next = optional_stmt(alloc, tokens, &mut list, from)?;
     'more: while tokens.is_sign(next, sign::SEMICOLON) {
         next = optional_stmt(alloc, tokens, &mut list, next + 1)?;
     }
-    Ok((list, next))
+    list.shrink_to_fit();
+    Ok((Items::from_vec(list), next))
 }
 
 /// `[stmt]`, put at the end of the list.
@@ -47,7 +48,7 @@ pub(crate) fn stmts(
 fn optional_stmt(
     alloc: Global,
     tokens: &Tokens<'_>,
-    list: &mut Items<Stmt>,
+    list: &mut Vec<Stmt>,
     from: u32,
 ) -> Result<u32, FrontFault>
     requires { from ≤ length tokens.now.list.now }

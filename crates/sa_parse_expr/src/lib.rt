@@ -7,8 +7,6 @@ mod levels;
 mod operators;
 mod postfix;
 mod primary;
-#[cfg(test)]
-mod tests;
 mod tokens;
 mod types;
 

@@ -69,17 +69,19 @@ impl<F: Fn(Global, &Tokens<'_>, Form, u32) -> Result<(Expr, u32), FrontFault>> G
         ensures next { IfOk result (λ read. IsFrom self.now.tokens.list.now from read.1) }
         ensures refused { IfErr result (IsUnexpected self.now.tokens.file) }
     {
-        let mut args = Items::new(self.alloc);
         if !self.tokens.is_sign(from, sign::LPAREN) {
-            return Ok((args, from));
+            return Ok((Items::new(self.alloc), from));
         }
         let (first, mut next) = self.arg(from + 1)?;
+        let mut args = Vec::new(self.alloc);
         args.push(first)?;
         'more: while self.tokens.is_sign(next, sign::COMMA) {
             let (one, end) = self.arg(next + 1)?;
             args.push(one)?;
             next = end;
         }
+        args.shrink_to_fit();
+        let args = Items::from_vec(args);
         Ok((args, self.tokens.after_sign(next, sign::RPAREN)?))
     }
 
@@ -122,14 +124,15 @@ impl<F: Fn(Global, &Tokens<'_>, Form, u32) -> Result<(Expr, u32), FrontFault>> G
         ensures refused { IfErr result (IsUnexpected self.now.tokens.file) }
     {
         let (first, mut next) = self.inner(Form::Expr(around), from)?;
-        let mut exprs = Items::new(self.alloc);
+        let mut exprs = Vec::new(self.alloc);
         exprs.push(first)?;
         'more: while self.tokens.is_sign(next, sign::COMMA) {
             let (one, end) = self.inner(Form::Expr(around), next + 1)?;
             exprs.push(one)?;
             next = end;
         }
-        Ok((exprs, next))
+        exprs.shrink_to_fit();
+        Ok((Items::from_vec(exprs), next))
     }
 }
 
