@@ -9,6 +9,3 @@ mod types;
 mod value;
 
 pub use module::encode;
-
-#[cfg(test)]
-mod tests;
