@@ -1,10 +1,13 @@
-//! Runs a table of cases through the top call, over objects in memory, and prints what differs.
+//! Runs a table of cases through the top call, over objects in memory, and prints what differs; then checks sources that are
+//! nearly right.
 #![tactic(auto)]
 
 mod case;
+mod nearly;
 mod outcome;
 
 use crate::case::Case;
+use crate::nearly::try_neighbours;
 use crate::outcome::difference;
 use anyhow::{Context, Result};
 use serde_json::Value;
@@ -31,7 +34,25 @@ fn main(rt: HostRuntime) -> Result<ExitCode> {
             status = ExitCode::FAILURE;
         }
     }
+    let (tried, failed) = run_nearly_right(&rt, rt.alloc())?;
+    println!(rt; "{tried} sources that are nearly right, {failed} failed")?;
+    if failed > 0 {
+        status = ExitCode::FAILURE;
+    }
     Ok(status)
+}
+
+/// Tries the neighbours of each line of `nearly.txt`, and gives how many there were and how many failed.
+fn run_nearly_right(rt: &(impl Files + AllocGlobal), alloc: Global) -> Result<(u64, u64)> {
+    let text = fs::read_to_string(rt, "nearly.txt").context("reading the sources")?;
+    let mut tried = 0u64;
+    let mut failed = 0u64;
+    for line in text.lines() {
+        let (more, wrong) = try_neighbours(alloc, line.as_bytes())?;
+        tried = tried.saturating_add(more);
+        failed = failed.saturating_add(wrong);
+    }
+    Ok((tried, failed))
 }
 
 /// Runs each case of the file, prints what differs, and gives how many passed and how many failed.
