@@ -1,0 +1,2 @@
+pub mod BuiltinTable
+pub mod PreludeText

@@ -1,0 +1,103 @@
+//! The numbers of the features that the implementation gives.
+
+ghost use Rattle.std.specs.Prelude.{◌≡◌, slice_get, Some};
+
+use sqlite_items::at;
+
+/// A feature that the implementation gives.
+#[derive(Clone, Copy, Debug, PartialEq, Eq)]
+pub struct Builtin {
+    /// Its number: its place in `BUILTIN_FEATURES`, which has 33 entries.
+    pub number: u8,
+}
+
+/// A feature that the implementation gives, by the names of its class and of itself.
+#[derive(Clone, Copy, Debug, PartialEq, Eq, Hash)]
+pub enum BuiltinFeature {
+    BoolIsEq,
+    BoolNot,
+    IntPlus,
+    IntMinus,
+    IntTimes,
+    IntNegate,
+    IntDiv,
+    IntMod,
+    IntIsEq,
+    IntIsLt,
+    IntBand,
+    IntBor,
+    IntBxor,
+    IntStr,
+    IntChar,
+    CharIsEq,
+    CharIsLt,
+    CharInt,
+    CharStr,
+    StrSize,
+    StrAget,
+    StrCat,
+    StrSubstring,
+    StrOf,
+    OutPut,
+    OutPutInt,
+    OutPutChar,
+    InGetByte,
+    SysObEq,
+    ArefAsize,
+    ArefAget,
+    ArefAset,
+    ArrayCreate,
+}
+
+/// The features that the implementation gives, each at the place that is its number.
+pub const BUILTIN_FEATURES: [BuiltinFeature; 33] = [
+    BuiltinFeature::BoolIsEq,
+    BuiltinFeature::BoolNot,
+    BuiltinFeature::IntPlus,
+    BuiltinFeature::IntMinus,
+    BuiltinFeature::IntTimes,
+    BuiltinFeature::IntNegate,
+    BuiltinFeature::IntDiv,
+    BuiltinFeature::IntMod,
+    BuiltinFeature::IntIsEq,
+    BuiltinFeature::IntIsLt,
+    BuiltinFeature::IntBand,
+    BuiltinFeature::IntBor,
+    BuiltinFeature::IntBxor,
+    BuiltinFeature::IntStr,
+    BuiltinFeature::IntChar,
+    BuiltinFeature::CharIsEq,
+    BuiltinFeature::CharIsLt,
+    BuiltinFeature::CharInt,
+    BuiltinFeature::CharStr,
+    BuiltinFeature::StrSize,
+    BuiltinFeature::StrAget,
+    BuiltinFeature::StrCat,
+    BuiltinFeature::StrSubstring,
+    BuiltinFeature::StrOf,
+    BuiltinFeature::OutPut,
+    BuiltinFeature::OutPutInt,
+    BuiltinFeature::OutPutChar,
+    BuiltinFeature::InGetByte,
+    BuiltinFeature::SysObEq,
+    BuiltinFeature::ArefAsize,
+    BuiltinFeature::ArefAget,
+    BuiltinFeature::ArefAset,
+    BuiltinFeature::ArrayCreate,
+];
+
+impl BuiltinFeature {
+    /// The feature with this number, or None from 33 on.
+    pub fn of_number(number: u8) -> Option<BuiltinFeature>
+        ensures { result ≡ slice_get BUILTIN_FEATURES number }
+    {
+        at(&BUILTIN_FEATURES, usize::from(number)).copied()
+    }
+
+    /// The number of the feature, below 33.
+    pub fn number(self) -> u8
+        ensures { slice_get BUILTIN_FEATURES result ≡ Some self }
+    {
+        self as u8
+    }
+}
