@@ -1,0 +1,3 @@
+pub mod Abstract
+pub mod Substitution
+pub mod Table
