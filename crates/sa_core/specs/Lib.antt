@@ -1,0 +1,4 @@
+pub mod Copy
+pub mod Nodes
+pub mod PositionList
+pub mod Tree

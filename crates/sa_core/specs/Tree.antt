@@ -1,0 +1,75 @@
+-- Typed expressions and statements as the definitions see them: the trees of `src/`, with their lists written out, so that a
+-- definition goes down them by cases.
+use Rattle.std.specs.Prelude.{ℕ, ℤ, Bool, List, Option}
+use Rattle.sa_tree.specs.declared.pos.Pos.{Pos}
+use Rattle.sa_tree.specs.declared.ty.Mode.{Mode}
+use Rattle.sa_core.specs.declared.feature.CalledCore.{CalledCore}
+use Rattle.sa_core.specs.declared.feature.Target.{Target}
+
+mutual
+  pub data Expr : Type 0 where
+    Int : (value : ℤ) → Expr
+    Truth : (value : Bool) → Expr
+    Char : (byte : ℕ) → Expr
+    Text : (text : List ℕ) → Expr
+    VoidOf : (ty : ℕ) → Expr
+    Me : Expr
+    Var : (var : ℕ) → Expr
+    Exception : Expr
+    IsVoid : (of : Expr) → Expr
+    New : (ty : ℕ) → (pos : Pos) → Expr
+    NewArray : (ty : ℕ) → (size : Expr) → (pos : Pos) → Expr
+    Elements : (ty : ℕ) → (elements : Exprs) → (pos : Pos) → Expr
+    Call : (called : CalledCore) → (on : Expr) → (arguments : Args) → (pos : Pos) → Expr
+    IterCall : (site : ℕ) → (on : Expr) → (arguments : Args) → (pos : Pos) → Expr
+    Bind : (called : CalledCore) → (on : Expr) → (arguments : Args) → (ty : ℕ) → (pos : Pos) → Expr
+    Swapped : (target : Target) → (first : Expr) → (second : Expr) → (pos : Pos) → Expr
+    And : (first : Expr) → (second : Expr) → Expr
+    Or : (first : Expr) → (second : Expr) → Expr
+    Widen : (ty : ℕ) → (of : Expr) → (pos : Pos) → Expr
+
+  pub data Exprs : Type 0 where
+    no_exprs : Exprs
+    expr : Expr → Exprs → Exprs
+
+  pub data Arg : Type 0 where
+    Value : (mode : Mode) → (value : Expr) → Arg
+    Variable : (mode : Mode) → (var : ℕ) → Arg
+    Left : Arg
+
+  pub data Args : Type 0 where
+    no_args : Args
+    arg : Arg → Args → Args
+
+mutual
+  pub data Stmt : Type 0 where
+    Let : (var : ℕ) → (value : Expr) → Stmt
+    Do : (value : Expr) → Stmt
+    If : (tests : Tests) → (other : Stmts) → Stmt
+    Loop : (number : ℕ) → (body : Stmts) → Stmt
+    Leave : (kind : ℕ) → (test : Option Expr) → Stmt
+    TypeCase : (var : ℕ) → (arms : Arms) → (other : Else) → (pos : Pos) → Stmt
+    Protect : (body : Stmts) → (arms : Arms) → (other : Else) → Stmt
+    Return : (value : Option Expr) → Stmt
+    Yield : (value : Option Expr) → Stmt
+    Quit : Stmt
+    Raise : (value : Expr) → (pos : Pos) → Stmt
+    Stop : (kind : ℕ) → (pos : Pos) → Stmt
+
+  pub data Stmts : Type 0 where
+    no_stmts : Stmts
+    stmt : Stmt → Stmts → Stmts
+
+  -- tests, each list of which has its statements
+  pub data Tests : Type 0 where
+    no_tests : Tests
+    branch : (tests : Exprs) → (body : Stmts) → Tests → Tests
+
+  -- the branches of a typecase or a protect
+  pub data Arms : Type 0 where
+    no_arms : Arms
+    arm : (ty : ℕ) → (var : ℕ) → (body : Stmts) → Arms → Arms
+
+  pub data Else : Type 0 where
+    no_else : Else
+    otherwise : Stmts → Else
