@@ -53,10 +53,14 @@ name_token bs =
     then record { kind = IterName; len = length name + 1 }
     else record { kind = kind_of_name name; len = length name }
 
--- the token of a `$`, of which the bytes behind it are given: it stands directly before a name without a lower-case letter
+-- the longest class's name at the front, or nothing: the name there, up to its first lower-case letter
+unfoldable pub class_name_at : List ℕ → List ℕ
+class_name_at bs = take_while (λ b. not (is_ascii_lowercase b)) (name_at bs)
+
+-- the token of a `$`, of which the bytes behind it are given: it stands directly before a class's name
 unfoldable pub abstract_token : List ℕ → Result Found Fault
 abstract_token bs =
-    let name = name_at bs in
-    if nat_lt 0 (length name) && not (has_lower name)
+    let name = class_name_at bs in
+    if nat_lt 0 (length name)
     then Ok (record { kind = AbstractName; len = 1 + length name })
     else Err (record { code = BAD_BYTE; offset = 0 })

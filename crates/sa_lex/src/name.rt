@@ -1,12 +1,12 @@
 //! Names and words.
 
-ghost use Rattle.std.specs.Prelude.{◌≡◌, ◌+◌, ◌<◌, ◌≤◌, true, Ok, length, position, slice_index, IsTrue};
-ghost use Rattle.std.specs.Char.{is_ascii_alphabetic};
+ghost use Rattle.std.specs.Prelude.{◌≡◌, ◌+◌, ◌<◌, ◌≤◌, not, true, Ok, length, position, slice_index, IsTrue};
+ghost use Rattle.std.specs.Char.{is_ascii_alphabetic, is_ascii_lowercase};
 ghost use Rattle.std.specs.List.{prefix_len};
 ghost use Rattle.std.specs.Str.{bytes_eq};
 ghost use Rattle.sa_lex.specs.Bytes.{is_name_byte};
 ghost use Rattle.sa_lex.specs.Found.{IsAmong};
-ghost use Rattle.sa_lex.specs.Name.{name_at, words, has_lower, kind_of_name, is_iter_name, name_token, abstract_token};
+ghost use Rattle.sa_lex.specs.Name.{name_at, words, has_lower, kind_of_name, is_iter_name, class_name_at, name_token, abstract_token};
 
 use crate::byte::{begins_with, is_name_byte};
 use crate::found::{BAD_BYTE, Fault, Found};
@@ -32,6 +32,14 @@ fn name_at(bytes: &[u8]) -> &[u8]
         [first, rest @ ..] if first.is_ascii_alphabetic() => &bytes[..1 + run_len(rest)],
         _ => &bytes[..0],
     }
+}
+
+/// How many bytes stand before the first lower-case letter.
+fn capitals_len(name: &[u8]) -> usize
+    ensures capitals { result ≡ prefix_len (λ b. not (is_ascii_lowercase b)) name.now }
+    ensures within { result ≤ length name.now }
+{
+    name.iter().take_while(|b| !b.is_ascii_lowercase()).count()
 }
 
 fn has_lower(name: &[u8]) -> bool
@@ -100,14 +108,24 @@ pub(crate) fn name_token(bytes: &[u8]) -> Found
     }
 }
 
+/// The longest class's name at the front, or nothing: the name there, up to its first lower-case letter.
+#[tactic(auto, unfolding(crate::specs::Name::class_name_at))]
+fn class_name_at(bytes: &[u8]) -> &[u8]
+    ensures name { result.now ≡ class_name_at bytes.now }
+    ensures within { length result.now ≤ length bytes.now }
+{
+    let name = name_at(bytes);
+    &name[..capitals_len(name)]
+}
+
 /// The token of a `$` that the bytes follow.
 #[tactic(auto, unfolding(crate::specs::Name::abstract_token))]
 pub(crate) fn abstract_token(bytes: &[u8]) -> Result<Found, Fault>
     ensures token { result ≡ abstract_token bytes.now }
     ensures among { IsAmong (1 + length bytes.now) result }
 {
-    let name = name_at(bytes);
-    if name.is_empty() || has_lower(name) {
+    let name = class_name_at(bytes);
+    if name.is_empty() {
         return Err(Fault::at_front(BAD_BYTE));
     }
     Ok(Found {

@@ -67,7 +67,7 @@ const NAMES: [(&[u8], &str); 20] = [
     (b"$", "E01 at 0"),
     (b"$ OB", "E01 at 0"),
     (b"$ob", "E01 at 0"),
-    (b"x $Ob", "E01 at 2"),
+    (b"x $Ob", "lower 0..1, abstract 2..4, lower 4..5"),
     (b"$1", "E01 at 0"),
     (b"$A!", "E01 at 2"),
     (b"caf\xC3\xA9", "E01 at 3"),
