@@ -1,0 +1,71 @@
+//! The names of classes, each of which is defined once (E10), and the names of the parameters of a class.
+
+use indexmap::{IndexMap, IndexSet};
+use sa_graph::word;
+use sa_tree::{Class, FrontFault, Name, Param, Pos, Refusal, Ty};
+use std::alloc::{AllocError, Global};
+
+/// Two classes have one name.
+const DEFINED_TWICE: u8 = 10;
+
+/// The number of each class, its place in the program's list, by its name.
+#[derive(Drop)]
+pub(crate) struct ClassNumbers {
+    by_name: IndexMap<Name, u32>,
+}
+
+impl ClassNumbers {
+    /// The numbers of the classes, whose names must differ. The later of two classes with one name is refused.
+    pub(crate) fn new(alloc: Global, classes: &[Class]) -> Result<ClassNumbers, FrontFault> {
+        let mut numbers = ClassNumbers {
+            by_name: IndexMap::new(alloc),
+        };
+        for (place, class) in classes.iter().enumerate() {
+            numbers.add(alloc, class, word(place)?)?;
+        }
+        Ok(numbers)
+    }
+
+    fn add(&mut self, alloc: Global, class: &Class, number: u32) -> Result<(), FrontFault> {
+        let name = class.name.name.copy(alloc)?;
+        match self.by_name.insert(name, number)? {
+            None => Ok(()),
+            Some(_) => Err(refused(DEFINED_TWICE, class.name.pos)),
+        }
+    }
+
+    /// The number of the class with this name.
+    pub(crate) fn of(&self, name: &Name) -> Option<u32> {
+        self.by_name.get(name).copied()
+    }
+}
+
+/// A refusal at a position.
+pub(crate) fn refused(code: u8, pos: Pos) -> FrontFault {
+    FrontFault::Refused(Refusal { code, pos })
+}
+
+/// The names of a class's parameters. Inside the class such a name, written without parameters of its own, is the
+/// parameter, whatever class has the name.
+#[derive(Drop)]
+pub(crate) struct ParamNames {
+    names: IndexSet<Name>,
+}
+
+impl ParamNames {
+    pub(crate) fn new(alloc: Global, params: &[Param]) -> Result<ParamNames, AllocError> {
+        let mut names = IndexSet::new(alloc);
+        for param in params {
+            names.insert(param.name.name.copy(alloc)?)?;
+        }
+        Ok(ParamNames { names })
+    }
+
+    /// Whether a type is a parameter.
+    pub(crate) fn has(&self, ty: &Ty) -> bool {
+        match ty {
+            Ty::Named(name, given, _) => given.is_empty() && self.names.contains(name),
+            _ => false,
+        }
+    }
+}
