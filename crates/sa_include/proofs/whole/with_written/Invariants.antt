@@ -1,0 +1,7 @@
+use Rattle.std.proofs.Common.{take}
+use Rattle.std.specs.List.{All}
+use Rattle.sa_include.specs.Flattened.{Wins}
+use Rattle.sa_include.proofs.whole.with_written.Given as goal
+
+abbrev pub invariant-loop-place : goal.invariant-loop-place
+invariant-loop-place l = All (Wins l.features) (take l.place l.written)

@@ -1,0 +1,163 @@
+//! The classes of a program with their features flattened.
+
+ghost use Rattle.std.specs.Prelude.{IfOk};
+ghost use Rattle.sa_include.specs.Flattened.{AreFlattened};
+
+use crate::budget::Budget;
+use crate::class::flatten_class;
+use crate::resolved::{Flattened, Program};
+use crate::substitute::{Maker, is_open};
+use crate::weights::Weights;
+use crate::whole::whole_class;
+use sa_conflicts::item;
+use sa_names::Includes;
+use sa_tree::{Class, Feature, Flat, FrontFault, NoMemory, Pos, Ty};
+use sa_types::Substitution;
+use sqlite_items::Items;
+use std::alloc::Global;
+
+/// The classes with their features flattened: each class has the features that its includes bring, in the order of its
+/// include clauses, then those that it writes, and no include clauses. The classes begin with the prelude's, and stand in
+/// the order of the files and of their texts.
+///
+/// # Errors
+///
+/// The first refusal by the rules of classes: E10 for all classes, then E12 for all names in headers and include clauses,
+/// then E15, then per class in text order E16, E11, E17 and E22; or `NoMemory`, also where the includes bring more than
+/// [`MOST_FORMS`](crate::MOST_FORMS).
+pub fn flatten(alloc: Global, classes: &[Class]) -> Result<Flat, FrontFault>
+    ensures flattened { IfOk result (λ flat. AreFlattened classes.now flat.classes) }
+{
+    let includes = Includes::new(alloc, classes)?;
+    let resolved = resolved(alloc, classes, &includes)?;
+    Ok(Flat {
+        classes: whole_classes(alloc, classes, resolved)?,
+    })
+}
+
+/// The classes with their includes resolved, in the order of their numbers.
+///
+/// # Errors
+///
+/// The first refusal in text order.
+fn resolved(
+    alloc: Global,
+    classes: &[Class],
+    includes: &Includes,
+) -> Result<Vec<Flattened>, FrontFault> {
+    let params = all_params(alloc, classes)?;
+    let open = open_in_all(alloc, classes, &params)?;
+    let program = Program {
+        classes,
+        includes,
+        open: open.as_slice(),
+    };
+    let mut maker = Maker {
+        params: &params,
+        budget: Budget::new(),
+    };
+    resolve(alloc, &program, &mut maker)
+}
+
+/// Goes through the classes, each behind those that it includes.
+///
+/// # Errors
+///
+/// The first refusal in text order. A class may have one while a class before it isn't gone through yet; so a refusal is
+/// given as soon as all classes before it are, and the rest isn't gone through.
+fn resolve(
+    alloc: Global,
+    program: &Program<'_>,
+    maker: &mut Maker<'_>,
+) -> Result<Vec<Flattened>, FrontFault> {
+    let mut resolved = unresolved(alloc, program.classes.len())?;
+    let mut accepted = 0;
+    for number in program.includes.order() {
+        let flattened = flatten_class(alloc, program, resolved.as_slice(), maker, *number)?;
+        keep(&mut resolved, *number as usize, flattened)?;
+        accepted = accepted_up_to(resolved.as_slice(), accepted)?;
+    }
+    Ok(resolved)
+}
+
+fn unresolved(alloc: Global, classes: usize) -> Result<Vec<Flattened>, NoMemory> {
+    let mut list = Vec::new(alloc);
+    for _ in 0..classes {
+        list.push(Flattened::none(alloc))?;
+    }
+    Ok(list)
+}
+
+/// Puts a class at its place, which is there.
+fn keep(resolved: &mut [Flattened], at: usize, flattened: Flattened) -> Result<(), NoMemory> {
+    let place = resolved.get_mut(at).ok_or(NoMemory)?;
+    *place = flattened;
+    Ok(())
+}
+
+/// The parameters of all classes.
+fn all_params(alloc: Global, classes: &[Class]) -> Result<Weights, NoMemory> {
+    let mut params = Weights::new(alloc);
+    for class in classes {
+        params.add_all(alloc, class.params.as_slice())?;
+    }
+    Ok(params)
+}
+
+/// For each class and each feature that it writes whether its statements write a parameter of some class.
+fn open_in_all(
+    alloc: Global,
+    classes: &[Class],
+    params: &Weights,
+) -> Result<Vec<Vec<bool>>, NoMemory> {
+    let mut all = Vec::new(alloc);
+    for class in classes {
+        all.push(open_in(alloc, class.features.as_slice(), params)?)?;
+    }
+    Ok(all)
+}
+
+fn open_in(alloc: Global, features: &[Feature], params: &Weights) -> Result<Vec<bool>, NoMemory> {
+    let mut open = Vec::new(alloc);
+    for feature in features {
+        open.push(is_open(feature, params))?;
+    }
+    Ok(open)
+}
+
+/// The number of the first class from this one on that isn't gone through, or how many classes there are. The first class
+/// before it that has a refusal is refused.
+fn accepted_up_to(resolved: &[Flattened], from: usize) -> Result<usize, FrontFault> {
+    for number in from..resolved.len() {
+        let flattened = item(resolved, number)?;
+        if let Some(refusal) = flattened.refusal {
+            return Err(FrontFault::Refused(refusal));
+        }
+        if !flattened.done {
+            return Ok(number);
+        }
+    }
+    Ok(resolved.len())
+}
+
+/// The classes without includes, each with the features that its includes bring and those of its own that stay.
+fn whole_classes(
+    alloc: Global,
+    classes: &[Class],
+    resolved: Vec<Flattened>,
+) -> Result<Items<Class>, NoMemory>
+    ensures { IfOk result (λ whole. AreFlattened classes.now whole) }
+{
+    let mut last_first = resolved;
+    last_first.reverse();
+    let same = Ty::Same(Pos { file: 0, at: 0 });
+    let nothing = Substitution::make(alloc, &[], &[], &same)?;
+    let mut whole = Items::new(alloc);
+    for class in classes {
+        let Some(flattened) = last_first.pop() else {
+            return Err(NoMemory);
+        };
+        whole.push(whole_class(alloc, class, flattened, &nothing)?)?;
+    }
+    Ok(whole)
+}

@@ -1,0 +1,122 @@
+//! The changes of an include clause: what an included feature is called, and who sees it. A change is of a feature that the
+//! clause brings, and its two names are both those of iters or neither is (else E16).
+
+use indexmap::IndexMap;
+use sa_conflicts::is_set;
+use sa_graph::put;
+use sa_tree::{Access, Change, Include, Name, NoMemory, Refusal};
+use std::alloc::{AllocError, Global};
+
+/// A change names a feature that the include doesn't bring.
+const NOT_INCLUDED: u8 = 16;
+
+/// The changes of an include clause, found by the names that they change.
+#[derive(Drop)]
+pub(crate) struct Renaming {
+    /// The place of the first change of each name, which is the one that counts.
+    first: IndexMap<Name, usize>,
+    /// For each change whether the clause brings a feature of its name. It is kept at the first change of a name.
+    met: Vec<bool>,
+}
+
+impl Renaming {
+    pub(crate) fn new(alloc: Global, changes: &[Change]) -> Result<Renaming, NoMemory> {
+        let mut renaming = Renaming {
+            first: IndexMap::new(alloc),
+            met: vec![in alloc; false; changes.len()]?,
+        };
+        for (place, change) in changes.iter().enumerate() {
+            renaming.add(alloc, &change.from.name, place)?;
+        }
+        Ok(renaming)
+    }
+
+    fn add(&mut self, alloc: Global, name: &Name, place: usize) -> Result<(), NoMemory> {
+        if self.first.get(name).is_some() {
+            return Ok(());
+        }
+        self.first.insert(name.copy(alloc)?, place)?;
+        Ok(())
+    }
+
+    /// The change of the features of this name that the clause brings.
+    pub(crate) fn change_of<'a>(
+        &mut self,
+        name: &Name,
+        changes: &'a [Change],
+    ) -> Result<Option<&'a Change>, NoMemory> {
+        let Some(place) = self.first.get(name).copied() else {
+            return Ok(None);
+        };
+        put(&mut self.met, place, true)?;
+        Ok(changes.get(place))
+    }
+
+    /// The refusal of the first change, in text order, that isn't one of a feature that the clause brings.
+    pub(crate) fn refused(&self, changes: &[Change]) -> Option<Refusal> {
+        for change in changes {
+            if !self.is_met(&change.from.name) || !keeps_the_kind(change) {
+                return Some(Refusal {
+                    code: NOT_INCLUDED,
+                    pos: change.from.pos,
+                });
+            }
+        }
+        None
+    }
+
+    fn is_met(&self, name: &Name) -> bool {
+        match self.first.get(name).copied() {
+            Some(place) => is_set(&self.met, place),
+            None => false,
+        }
+    }
+}
+
+/// Whether the two names of a change are both those of iters, or neither is.
+fn keeps_the_kind(change: &Change) -> bool {
+    match &change.to {
+        Some(to) => is_iter(to) == is_iter(&change.from.name),
+        None => true,
+    }
+}
+
+fn is_iter(name: &Name) -> bool {
+    name.as_slice().last().copied() == Some(b'!')
+}
+
+/// Who sees an included feature. A change that names no access leaves it as it was, and a private clause makes private what
+/// no change of its own names.
+pub(crate) fn access_after(include: &Include, change: Option<&Change>, access: Access) -> Access {
+    match change {
+        Some(change) => {
+            if change.access == Access::Public {
+                access
+            } else {
+                change.access
+            }
+        }
+        None => {
+            if include.private {
+                Access::Private
+            } else {
+                access
+            }
+        }
+    }
+}
+
+/// The name of an included feature, or None where a change leaves it out.
+pub(crate) fn name_after(
+    alloc: Global,
+    change: Option<&Change>,
+    name: &Name,
+) -> Result<Option<Name>, AllocError> {
+    match change {
+        None => Ok(Some(name.copy(alloc)?)),
+        Some(change) => match &change.to {
+            Some(to) => Ok(Some(to.copy(alloc)?)),
+            None => Ok(None),
+        },
+    }
+}

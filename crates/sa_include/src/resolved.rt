@@ -1,0 +1,43 @@
+//! The classes of a program while their includes are gone through.
+
+use sa_names::Includes;
+use sa_tree::{Class, Feature, Refusal};
+use sqlite_items::Items;
+use std::alloc::Global;
+
+/// A class whose includes are resolved, without the features that it writes itself.
+#[derive(Drop)]
+pub(crate) struct Flattened {
+    /// The features that its includes bring and that stay.
+    pub(crate) brought: Items<Feature>,
+    /// For each of them whether its statements may write a parameter.
+    pub(crate) open: Vec<bool>,
+    /// For each feature that the class writes whether it stays.
+    pub(crate) stays: Vec<bool>,
+    /// The first refusal of the class.
+    pub(crate) refusal: Option<Refusal>,
+    /// Whether the class was gone through.
+    pub(crate) done: bool,
+}
+
+impl Flattened {
+    /// What stands for a class until it is gone through.
+    pub(crate) fn none(alloc: Global) -> Flattened {
+        Flattened {
+            brought: Items::new(alloc),
+            open: Vec::new(alloc),
+            stays: Vec::new(alloc),
+            refusal: None,
+            done: false,
+        }
+    }
+}
+
+/// What the features of classes are found in.
+#[derive(Drop)]
+pub(crate) struct Program<'a> {
+    pub(crate) classes: &'a [Class],
+    pub(crate) includes: &'a Includes,
+    /// For each class and each feature that it writes whether its statements may write a parameter.
+    pub(crate) open: &'a [Vec<bool>],
+}

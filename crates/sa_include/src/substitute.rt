@@ -1,0 +1,274 @@
+//! What an included feature is in the including class: types with the given ones in place of the included class's parameters,
+//! and statements that are shared where nothing in them changes.
+
+use crate::budget::{Budget, FEATURE_FORMS};
+use crate::size::{
+    size_of_formals, size_of_optional_type, size_of_stmts, size_of_type, size_of_value,
+};
+use crate::weights::{Weights, size_of_bytes};
+use sa_tree::{
+    Access, Body, Expr, Feature, Formal, Local, Name, NoMemory, Param, Part, Shared, Ty,
+};
+use sa_types::{Substitution, subst_expr, subst_stmts, subst_with};
+use sqlite_items::Items;
+use std::alloc::Global;
+
+/// What an include clause puts in place of the parameters of the class that it includes.
+#[derive(Drop)]
+pub(crate) struct TypeArguments<'a> {
+    by: Substitution<'a>,
+    /// Whether a given type differs from the parameter that it stands for.
+    changes: bool,
+    weights: Weights,
+}
+
+impl<'a> TypeArguments<'a> {
+    /// The given types in place of the parameters in order. A parameter without one stays, and one without a parameter is
+    /// dropped. SAME stays as it is, and means the including class then.
+    pub(crate) fn new(
+        alloc: Global,
+        params: &[Param],
+        given: &'a [Ty],
+        same: &'a Ty,
+    ) -> Result<TypeArguments<'a>, NoMemory> {
+        let weights = weights_of(alloc, params, given)?;
+        let by = Substitution::make(alloc, params, given, same)?;
+        Ok(TypeArguments {
+            by,
+            changes: has_change(params, given),
+            weights,
+        })
+    }
+}
+
+/// How many forms stand for each parameter with a given type: those of that type.
+fn weights_of(alloc: Global, params: &[Param], given: &[Ty]) -> Result<Weights, NoMemory> {
+    let none = Weights::new(alloc);
+    let mut weights = Weights::new(alloc);
+    for (place, param) in params.iter().enumerate() {
+        let Some(ty) = given.get(place) else {
+            break;
+        };
+        weights.add(alloc, param, size_of_type(ty, &none).forms)?;
+    }
+    Ok(weights)
+}
+
+/// Whether a given type isn't the parameter that it stands for.
+fn has_change(params: &[Param], given: &[Ty]) -> bool {
+    for (place, param) in params.iter().enumerate() {
+        let Some(ty) = given.get(place) else {
+            return false;
+        };
+        if !is_named(ty, &param.name.name) {
+            return true;
+        }
+    }
+    false
+}
+
+/// Whether a type is this name alone.
+fn is_named(ty: &Ty, name: &Name) -> bool {
+    match ty {
+        Ty::Named(other, given, _) => given.is_empty() && other == name,
+        _ => false,
+    }
+}
+
+/// Whether the statements of a feature write one of these parameters.
+pub(crate) fn is_open(feature: &Feature, params: &Weights) -> bool {
+    match &feature.part {
+        Part::Routine(body) => size_of_stmts(body.get().as_slice(), params).has_params,
+        _ => false,
+    }
+}
+
+/// The forms of an included feature without its statements, with its name in the including class.
+fn forms_of_head(feature: &Feature, name: &Name, weights: &Weights) -> u64 {
+    let formals = size_of_formals(feature.formals.as_slice(), weights);
+    let result = size_of_optional_type(&feature.result, weights);
+    let value = size_of_value(&feature.part, weights);
+    let head = size_of_bytes(name).plus(formals).plus(result).plus(value);
+    head.forms.saturating_add(FEATURE_FORMS)
+}
+
+/// A part of a feature in an including class, and whether its statements may write a parameter of some class.
+#[derive(Drop)]
+struct IncludedPart {
+    part: Part,
+    open: bool,
+}
+
+/// What a feature is called in an including class, and who sees it there.
+#[derive(Drop)]
+pub(crate) struct Renamed {
+    pub(crate) name: Name,
+    pub(crate) access: Access,
+}
+
+/// A feature of an including class, and whether its statements may write a parameter of some class.
+#[derive(Drop)]
+pub(crate) struct Included {
+    pub(crate) feature: Feature,
+    pub(crate) open: bool,
+}
+
+/// What included features are made with.
+#[derive(Drop)]
+pub(crate) struct Maker<'a> {
+    /// The parameters of all classes of the program.
+    pub(crate) params: &'a Weights,
+    pub(crate) budget: Budget,
+}
+
+impl<'a> Maker<'a> {
+    /// A feature in the including class. `open` tells whether its statements may write a parameter of some class.
+    ///
+    /// # Errors
+    ///
+    /// `NoMemory` also where the includes of the program would bring more than they may.
+    pub(crate) fn include(
+        &mut self,
+        alloc: Global,
+        feature: &Feature,
+        open: bool,
+        renamed: Renamed,
+        arguments: &TypeArguments<'_>,
+    ) -> Result<Included, NoMemory> {
+        self.budget
+            .take(forms_of_head(feature, &renamed.name, &arguments.weights))?;
+        let IncludedPart { part, open } = self.part(alloc, &feature.part, open, arguments)?;
+        let feature = with_part(alloc, feature, renamed, part, &arguments.by)?;
+        Ok(Included { feature, open })
+    }
+
+    /// The part of an included feature. The statements of a routine or an iter are copied only where a type in them
+    /// changes.
+    fn part(
+        &mut self,
+        alloc: Global,
+        part: &Part,
+        open: bool,
+        arguments: &TypeArguments<'_>,
+    ) -> Result<IncludedPart, NoMemory> {
+        if open && arguments.changes {
+            if let Part::Routine(body) = part {
+                return self.routine(alloc, body, arguments);
+            }
+        }
+        let part = subst_part(alloc, part, &arguments.by)?;
+        Ok(IncludedPart { part, open })
+    }
+
+    /// A routine or an iter whose statements may write a parameter.
+    fn routine(
+        &mut self,
+        alloc: Global,
+        body: &Body,
+        arguments: &TypeArguments<'_>,
+    ) -> Result<IncludedPart, NoMemory> {
+        let list = body.get().as_slice();
+        let size = size_of_stmts(list, &arguments.weights);
+        if !size.has_params {
+            let part = Part::Routine(body.share()?);
+            return Ok(IncludedPart { part, open: true });
+        }
+        self.budget.take(size.forms)?;
+        let copy = subst_stmts(alloc, list, &arguments.by)?;
+        let open = size_of_stmts(copy.as_slice(), self.params).has_params;
+        let part = Part::Routine(Shared::new(alloc, copy)?);
+        Ok(IncludedPart { part, open })
+    }
+}
+
+/// A feature with types put in, of this name and access and with this part.
+fn with_part(
+    alloc: Global,
+    feature: &Feature,
+    renamed: Renamed,
+    part: Part,
+    by: &Substitution<'_>,
+) -> Result<Feature, NoMemory> {
+    let formals = subst_formals(alloc, feature.formals.as_slice(), by)?;
+    let result = subst_optional_type(alloc, &feature.result, by)?;
+    let Renamed { name, access } = renamed;
+    Ok(Feature {
+        name: Local {
+            name,
+            pos: feature.name.pos,
+        },
+        access,
+        formals,
+        result,
+        part,
+    })
+}
+
+/// A part of a feature with types put in. Statements are shared, as they are.
+pub(crate) fn subst_part(
+    alloc: Global,
+    part: &Part,
+    by: &Substitution<'_>,
+) -> Result<Part, NoMemory> {
+    match part {
+        Part::Routine(body) => Ok(Part::Routine(body.share()?)),
+        Part::Signature => Ok(Part::Signature),
+        Part::Stub => Ok(Part::Stub),
+        Part::Builtin(class, feature) => {
+            let class = class.copy(alloc)?;
+            Ok(Part::Builtin(class, feature.copy(alloc)?))
+        }
+        Part::Attr => Ok(Part::Attr),
+        Part::Shared(e) => Ok(Part::Shared(subst_optional_expr(alloc, e, by)?)),
+        Part::Const(e, more) => Ok(Part::Const(subst_optional_expr(alloc, e, by)?, *more)),
+    }
+}
+
+fn subst_optional_expr(
+    alloc: Global,
+    e: &Option<Expr>,
+    by: &Substitution<'_>,
+) -> Result<Option<Expr>, NoMemory> {
+    match e {
+        None => Ok(None),
+        Some(e) => Ok(Some(subst_expr(alloc, e, by)?)),
+    }
+}
+
+/// The arguments of a feature with types put in.
+fn subst_formals(
+    alloc: Global,
+    formals: &[Formal],
+    by: &Substitution<'_>,
+) -> Result<Items<Formal>, NoMemory> {
+    let mut copies = Items::new(alloc);
+    for formal in formals {
+        copies.push(subst_formal(alloc, formal, by)?)?;
+    }
+    Ok(copies)
+}
+
+fn subst_formal(alloc: Global, formal: &Formal, by: &Substitution<'_>) -> Result<Formal, NoMemory> {
+    let name = formal.local.name.copy(alloc)?;
+    let ty = subst_with(alloc, &formal.ty, by)?;
+    Ok(Formal {
+        mode: formal.mode,
+        local: Local {
+            name,
+            pos: formal.local.pos,
+        },
+        ty,
+    })
+}
+
+/// A type that may be missing with types put in.
+fn subst_optional_type(
+    alloc: Global,
+    ty: &Option<Ty>,
+    by: &Substitution<'_>,
+) -> Result<Option<Ty>, NoMemory> {
+    match ty {
+        None => Ok(None),
+        Some(ty) => Ok(Some(subst_with(alloc, ty, by)?)),
+    }
+}

@@ -1,0 +1,138 @@
+//! A class without its includes: its header, the features that its includes bring, and those that it writes itself, but for
+//! its stubs that are replaced.
+
+ghost use Rattle.std.specs.Prelude.{◌≡◌, IfOk, IsTrue};
+ghost use Rattle.std.specs.List.{All};
+ghost use Rattle.sa_conflicts.specs.Stub.{is_stub_part};
+ghost use Rattle.sa_include.specs.Flattened.{IsFlattened, Wins, head_of};
+
+use crate::resolved::Flattened;
+use crate::substitute::subst_part;
+use sa_conflicts::{is_set, is_stub};
+use sa_tree::{Class, Feature, Formal, Local, NoMemory, Param, Ty};
+use sa_types::Substitution;
+use sqlite_items::Items;
+use std::alloc::{AllocError, Global};
+
+/// A class without its includes. The substitution puts nothing in place of anything.
+pub(crate) fn whole_class(
+    alloc: Global,
+    class: &Class,
+    flattened: Flattened,
+    nothing: &Substitution<'_>,
+) -> Result<Class, NoMemory>
+    ensures { IfOk result (λ flat. IsFlattened class.now flat) }
+{
+    let Flattened { brought, stays, .. } = flattened;
+    let written = class.features.as_slice();
+    let features = with_written(alloc, brought, written, &stays, nothing)?;
+    Ok(Class {
+        kind: class.kind,
+        name: copy_local(alloc, &class.name)?,
+        params: copy_params(alloc, class.params.as_slice())?,
+        below: copy_types(alloc, class.below.as_slice())?,
+        above: copy_types(alloc, class.above.as_slice())?,
+        includes: Items::new(alloc),
+        features,
+    })
+}
+
+/// The features that the includes of a class bring, and behind them those that it writes, but for its stubs that don't stay.
+fn with_written(
+    alloc: Global,
+    brought: Items<Feature>,
+    written: &[Feature],
+    stays: &[bool],
+    nothing: &Substitution<'_>,
+) -> Result<Items<Feature>, NoMemory>
+    ensures { IfOk result (λ features. All (Wins features) written.now) }
+{
+    let mut features = brought;
+    for (place, feature) in written.iter().enumerate() {
+        if is_replaced_stub(feature, is_set(stays, place)) {
+            continue;
+        }
+        features.push(copy_feature(alloc, feature, nothing)?)?;
+    }
+    Ok(features)
+}
+
+/// Whether a feature that a class writes is a stub that doesn't stay.
+fn is_replaced_stub(feature: &Feature, stays: bool) -> bool
+    ensures { IsTrue result → IsTrue (is_stub_part feature.now.part) }
+{
+    is_stub(feature) && !stays
+}
+
+/// A feature once more. Its statements are shared.
+fn copy_feature(
+    alloc: Global,
+    feature: &Feature,
+    nothing: &Substitution<'_>,
+) -> Result<Feature, NoMemory>
+    ensures { IfOk result (λ copy. head_of copy ≡ head_of feature.now) }
+{
+    Ok(Feature {
+        name: copy_local(alloc, &feature.name)?,
+        access: feature.access,
+        formals: copy_formals(alloc, feature.formals.as_slice())?,
+        result: copy_optional_type(alloc, &feature.result)?,
+        part: subst_part(alloc, &feature.part, nothing)?,
+    })
+}
+
+fn copy_local(alloc: Global, local: &Local) -> Result<Local, AllocError>
+    ensures { IfOk result (λ copy. copy ≡ local.now) }
+{
+    Ok(Local {
+        name: local.name.copy(alloc)?,
+        pos: local.pos,
+    })
+}
+
+fn copy_params(alloc: Global, params: &[Param]) -> Result<Items<Param>, AllocError>
+    ensures { IfOk result (λ copies. copies ≡ params.now) }
+{
+    let mut copies = Items::new(alloc);
+    for param in params {
+        let name = copy_local(alloc, &param.name)?;
+        let bound = copy_optional_type(alloc, &param.bound)?;
+        copies.push(Param { name, bound })?;
+    }
+    Ok(copies)
+}
+
+fn copy_formals(alloc: Global, formals: &[Formal]) -> Result<Items<Formal>, AllocError>
+    ensures { IfOk result (λ copies. copies ≡ formals.now) }
+{
+    let mut copies = Items::new(alloc);
+    for formal in formals {
+        let local = copy_local(alloc, &formal.local)?;
+        let ty = formal.ty.copy(alloc)?;
+        copies.push(Formal {
+            mode: formal.mode,
+            local,
+            ty,
+        })?;
+    }
+    Ok(copies)
+}
+
+fn copy_types(alloc: Global, types: &[Ty]) -> Result<Items<Ty>, AllocError>
+    ensures { IfOk result (λ copies. copies ≡ types.now) }
+{
+    let mut copies = Items::new(alloc);
+    for ty in types {
+        copies.push(ty.copy(alloc)?)?;
+    }
+    Ok(copies)
+}
+
+fn copy_optional_type(alloc: Global, ty: &Option<Ty>) -> Result<Option<Ty>, AllocError>
+    ensures { IfOk result (λ copy. copy ≡ ty.now) }
+{
+    match ty {
+        None => Ok(None),
+        Some(ty) => Ok(Some(ty.copy(alloc)?)),
+    }
+}
