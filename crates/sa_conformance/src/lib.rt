@@ -1,0 +1,14 @@
+//! The signatures of the abstract types of a program, and the features that implement them: phase by phase the rules of
+//! inherited signatures and of conformance over a whole program.
+#![tactic(auto)]
+
+mod features;
+mod implementations;
+mod listed;
+mod numbered;
+mod parents;
+mod shapes;
+mod signatures;
+
+pub use implementations::{Implementation, check_conformance, check_edges};
+pub use signatures::{Origin, Signatures};
