@@ -1,0 +1,144 @@
+//! Which types a type is below. An abstract type alone is above a class type, and beside it bound types are above bound
+//! types.
+
+use crate::codes::held;
+use indexmap::IndexMap;
+use sa_program::Program;
+use sa_subtypes::Edges;
+use sa_tree::{Kind, Mode, ModeTy, NoMemory, Ty};
+use sqlite_items::{Boxed, Items};
+use std::alloc::{AllocError, Global};
+
+/// By needed type, the numbers of the other abstract types that it is below, rising.
+pub(crate) fn class_types_above(
+    alloc: Global,
+    program: &Program<'_>,
+) -> Result<Vec<Items<u32>>, NoMemory> {
+    let uppers = abstract_types(alloc, program)?;
+    let mut above = Vec::new(alloc);
+    for ty in 0..program.count() {
+        let row = held(program.row(ty))?;
+        above.push(uppers_of(alloc, program, uppers.as_slice(), &row.ty, Some(ty))?)?;
+    }
+    Ok(above)
+}
+
+/// The numbers of the abstract types, rising.
+pub(crate) fn abstract_types(alloc: Global, program: &Program<'_>) -> Result<Vec<u32>, NoMemory> {
+    let mut numbers = Vec::new(alloc);
+    for ty in 0..program.count() {
+        if matches!(program.kind(ty), Some(Kind::Abstract)) {
+            numbers.push(ty)?;
+        }
+    }
+    Ok(numbers)
+}
+
+/// Those of the types with these numbers that a type is below, but for its own number.
+pub(crate) fn uppers_of(
+    alloc: Global,
+    program: &Program<'_>,
+    uppers: &[u32],
+    ty: &Ty,
+    own: Option<u32>,
+) -> Result<Items<u32>, NoMemory> {
+    let mut above = Items::new(alloc);
+    for upper in uppers {
+        let row = held(program.row(*upper))?;
+        if own != Some(*upper) && program.edges().is_sub(ty, &row.ty) {
+            above.push(*upper)?;
+        }
+    }
+    Ok(above)
+}
+
+/// A bound type with its number.
+#[derive(Clone, Copy)]
+struct Numbered<'a> {
+    number: u32,
+    ty: &'a Ty,
+}
+
+/// Bound types with their numbers, rising, by their shape: bound types of different shapes aren't below each other.
+#[derive(Drop)]
+pub(crate) struct Shapes<'a> {
+    by_shape: IndexMap<Vec<u8>, Vec<Numbered<'a>>>,
+}
+
+impl<'a> Shapes<'a> {
+    pub(crate) fn new(alloc: Global) -> Shapes<'a> {
+        Shapes {
+            by_shape: IndexMap::new(alloc),
+        }
+    }
+
+    /// Puts a type at the end of those of its shape. A type that isn't bound is left out.
+    pub(crate) fn add(&mut self, alloc: Global, number: u32, ty: &'a Ty) -> Result<(), NoMemory> {
+        let Some(shape) = shape_of(alloc, ty)? else {
+            return Ok(());
+        };
+        if let Some(list) = self.by_shape.get_mut(shape.as_slice()) {
+            list.push(Numbered { number, ty })?;
+            return Ok(());
+        }
+        let mut list = Vec::new(alloc);
+        list.push(Numbered { number, ty })?;
+        self.by_shape.insert(shape, list)?;
+        Ok(())
+    }
+
+    /// The numbers of the bound types that a type is below, but for its own, rising.
+    pub(crate) fn above(
+        &self,
+        alloc: Global,
+        edges: &Edges,
+        number: u32,
+        ty: &Ty,
+    ) -> Result<Vec<u32>, NoMemory> {
+        let mut above = Vec::new(alloc);
+        let Some(shape) = shape_of(alloc, ty)? else {
+            return Ok(above);
+        };
+        let Some(list) = self.by_shape.get(shape.as_slice()) else {
+            return Ok(above);
+        };
+        for other in list.as_slice() {
+            if other.number != number && edges.is_sub(ty, other.ty) {
+                above.push(other.number)?;
+            }
+        }
+        Ok(above)
+    }
+}
+
+/// The kind, the modes and the presence of a result of a bound type, as bytes.
+fn shape_of(alloc: Global, ty: &Ty) -> Result<Option<Vec<u8>>, AllocError> {
+    match ty {
+        Ty::Named(_, _, _) | Ty::Same(_) => Ok(None),
+        Ty::Rout(args, gives, _) => Ok(Some(shape(alloc, 0, args.as_slice(), gives)?)),
+        Ty::Iter(args, gives, _) => Ok(Some(shape(alloc, 2, args.as_slice(), gives)?)),
+    }
+}
+
+fn shape(
+    alloc: Global,
+    kind: u8,
+    args: &[ModeTy],
+    gives: &Option<Boxed<Ty>>,
+) -> Result<Vec<u8>, AllocError> {
+    let mut bytes = Vec::new(alloc);
+    bytes.push(if gives.is_some() { kind | 1 } else { kind })?;
+    for arg in args {
+        bytes.push(mode_byte(arg.mode))?;
+    }
+    Ok(bytes)
+}
+
+fn mode_byte(mode: Mode) -> u8 {
+    match mode {
+        Mode::In => 0,
+        Mode::Out => 1,
+        Mode::Inout => 2,
+        Mode::Once => 3,
+    }
+}

@@ -1,0 +1,14 @@
+//! The typed tree of a program from its classes, or the first refusal by the rules on classes, types and bodies.
+#![tactic(auto)]
+
+mod above;
+mod codes;
+mod limits;
+mod sigs;
+mod target;
+mod types;
+mod typing;
+mod whole;
+
+pub use sa_program::instances;
+pub use whole::check;

@@ -1,0 +1,61 @@
+//! The signatures of the abstract types, each with its implementations.
+
+use crate::codes::held;
+use crate::target::member_target;
+use sa_conformance::{Implementation, Signatures};
+use sa_core::{ImplCore, SigCore};
+use sa_program::Program;
+use sa_tree::{NoMemory, Pos};
+use sqlite_items::Items;
+use std::alloc::Global;
+
+/// The signatures in order, where `implementations` has for each of them the members that conform to it, by rising number
+/// of their types.
+pub(crate) fn sig_cores(
+    alloc: Global,
+    program: &Program<'_>,
+    signatures: &Signatures,
+    implementations: &[Items<Implementation>],
+) -> Result<Items<SigCore>, NoMemory> {
+    let mut cores = Items::new(alloc);
+    for place in 0..signatures.count() {
+        let found = held(implementations.get(place as usize))?;
+        cores.push(sig_core(alloc, program, signatures, place, found.as_slice())?)?;
+    }
+    Ok(cores)
+}
+
+/// A signature with its implementations.
+fn sig_core(
+    alloc: Global,
+    program: &Program<'_>,
+    signatures: &Signatures,
+    place: u32,
+    found: &[Implementation],
+) -> Result<SigCore, NoMemory> {
+    let origin = held(signatures.origin(place))?;
+    let mut impls = Items::new(alloc);
+    for implementation in found {
+        let ty = implementation.ty;
+        let target = held(member_target(program, ty, implementation.member))?;
+        impls.push(ImplCore { ty, target })?;
+    }
+    Ok(SigCore {
+        ty: origin.ty,
+        sig: program.signature(alloc, origin.from, origin.member)?,
+        impls,
+    })
+}
+
+/// The position of a signature's name.
+pub(crate) fn sig_pos(
+    program: &Program<'_>,
+    signatures: &Signatures,
+    place: u32,
+) -> Result<Pos, NoMemory> {
+    let origin = held(signatures.origin(place))?;
+    let member = held(program.member(origin.from, origin.member))?;
+    let class = held(program.class(origin.from))?;
+    let feature = held(class.features.get(member.feature as usize))?;
+    Ok(feature.name.pos)
+}

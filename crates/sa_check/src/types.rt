@@ -1,0 +1,153 @@
+//! What the typed tree says of each type.
+
+use crate::above::{Shapes, abstract_types, uppers_of};
+use crate::codes::held;
+use indexmap::IndexMap;
+use sa_core::TypeInfo;
+use sa_program::Program;
+use sa_tree::{Kind, NoMemory, Ty};
+use sqlite_items::Items;
+use std::alloc::Global;
+
+/// The types of a program: the needed ones with the abstract types that they are below, and behind them the bound types
+/// that binds make.
+pub(crate) fn type_infos(
+    alloc: Global,
+    program: &Program<'_>,
+    bound: &IndexMap<Ty, ()>,
+    above: Vec<Items<u32>>,
+) -> Result<Items<TypeInfo>, NoMemory> {
+    let shapes = bound_shapes(alloc, program, bound)?;
+    let mut infos = Items::new(alloc);
+    add_needed(alloc, program, &shapes, above, &mut infos)?;
+    add_bound(alloc, program, &shapes, bound, &mut infos)?;
+    Ok(infos)
+}
+
+/// Puts the needed types at the end.
+fn add_needed(
+    alloc: Global,
+    program: &Program<'_>,
+    shapes: &Shapes<'_>,
+    above: Vec<Items<u32>>,
+    infos: &mut Items<TypeInfo>,
+) -> Result<(), NoMemory> {
+    let mut number = 0u32;
+    for uppers in above {
+        infos.push(needed_info(alloc, program, shapes, number, uppers)?)?;
+        number = held(number.checked_add(1))?;
+    }
+    Ok(())
+}
+
+/// Puts the bound types that binds make at the end.
+fn add_bound(
+    alloc: Global,
+    program: &Program<'_>,
+    shapes: &Shapes<'_>,
+    bound: &IndexMap<Ty, ()>,
+    infos: &mut Items<TypeInfo>,
+) -> Result<(), NoMemory> {
+    let uppers = abstract_types(alloc, program)?;
+    let mut number = program.count();
+    for place in 0..bound.len() {
+        let (ty, _) = held(bound.get_index(place))?;
+        let above = uppers_of(alloc, program, uppers.as_slice(), ty, None)?;
+        infos.push(bound_info(alloc, program, shapes, number, ty, above)?)?;
+        number = held(number.checked_add(1))?;
+    }
+    Ok(())
+}
+
+/// All bound types by their shapes.
+fn bound_shapes<'a>(
+    alloc: Global,
+    program: &'a Program<'_>,
+    bound: &'a IndexMap<Ty, ()>,
+) -> Result<Shapes<'a>, NoMemory> {
+    let mut shapes = Shapes::new(alloc);
+    for number in 0..program.count() {
+        let row = held(program.row(number))?;
+        shapes.add(alloc, number, &row.ty)?;
+    }
+    add_bound_shapes(alloc, program.count(), bound, &mut shapes)?;
+    Ok(shapes)
+}
+
+/// Puts the bound types that binds make, whose numbers begin at `first`, behind those of their shapes.
+fn add_bound_shapes<'a>(
+    alloc: Global,
+    first: u32,
+    bound: &'a IndexMap<Ty, ()>,
+    shapes: &mut Shapes<'a>,
+) -> Result<(), NoMemory> {
+    let mut number = first;
+    for place in 0..bound.len() {
+        let (ty, _) = held(bound.get_index(place))?;
+        shapes.add(alloc, number, ty)?;
+        number = held(number.checked_add(1))?;
+    }
+    Ok(())
+}
+
+/// A needed type.
+fn needed_info(
+    alloc: Global,
+    program: &Program<'_>,
+    shapes: &Shapes<'_>,
+    number: u32,
+    uppers: Items<u32>,
+) -> Result<TypeInfo, NoMemory> {
+    let row = held(program.row(number))?;
+    let Some(class) = program.class(number) else {
+        return bound_info(alloc, program, shapes, number, &row.ty, uppers);
+    };
+    let attrs = attribute_types(alloc, program, number)?;
+    Ok(TypeInfo {
+        ty: row.ty.copy(alloc)?,
+        kind: class.kind,
+        slots: held(u32::try_from(attrs.len()).ok())?,
+        attrs,
+        array: program.has_array(number),
+        elem: program.element(number),
+        above: uppers,
+    })
+}
+
+/// The numbers of the attributes' types.
+fn attribute_types(
+    alloc: Global,
+    program: &Program<'_>,
+    number: u32,
+) -> Result<Items<u32>, NoMemory> {
+    let mut types = Items::new(alloc);
+    let mut slot = 0u32;
+    for _feature in program.slots(number) {
+        types.push(held(program.slot_type(number, slot))?)?;
+        slot = held(slot.checked_add(1))?;
+    }
+    Ok(types)
+}
+
+/// A bound type, which has the kind of a reference class and no attributes.
+fn bound_info(
+    alloc: Global,
+    program: &Program<'_>,
+    shapes: &Shapes<'_>,
+    number: u32,
+    ty: &Ty,
+    uppers: Items<u32>,
+) -> Result<TypeInfo, NoMemory> {
+    let mut above = shapes.above(alloc, program.edges(), number, ty)?;
+    above.extend_from_slice(uppers.as_slice())?;
+    above.sort_unstable();
+    Ok(TypeInfo {
+        ty: ty.copy(alloc)?,
+        kind: Kind::Reference,
+        slots: 0,
+        attrs: Items::new(alloc),
+        array: false,
+        elem: None,
+        above: Items::from_vec(above),
+    })
+}

@@ -1,0 +1,182 @@
+//! The bodies of a program: of each needed type in order, feature by feature.
+
+use crate::codes::{TOO_MANY_PAIRS, held, refused};
+use crate::limits::{MOST_PAIRS, Size};
+use crate::sigs::sig_pos;
+use indexmap::IndexMap;
+use sa_check_expr::{Built, View};
+use sa_check_stmt::{body, expr_nodes, feature_nodes, shared_body};
+use sa_conformance::Signatures;
+use sa_const::ConstTable;
+use sa_core::{FeatureCore, SharedCore};
+use sa_program::Program;
+use sa_tree::{Feature, FrontFault, Kind, NoMemory, Part};
+use sqlite_items::Items;
+use std::alloc::Global;
+
+/// What typing the bodies has made so far.
+#[derive(Drop)]
+pub(crate) struct Typing {
+    pub(crate) features: Items<FeatureCore>,
+    pub(crate) shareds: Items<SharedCore>,
+    pub(crate) built: Built,
+    size: Size,
+    /// The number of dispatch pairs.
+    pairs: u32,
+}
+
+impl Typing {
+    fn new(alloc: Global) -> Typing {
+        Typing {
+            features: Items::new(alloc),
+            shareds: Items::new(alloc),
+            built: Built {
+                sites: Items::new(alloc),
+                bound: IndexMap::new(alloc),
+            },
+            size: Size::new(),
+            pairs: 0,
+        }
+    }
+}
+
+/// The features and the shareds of a program, typed, where `above` has the abstract types above each needed type.
+///
+/// They are refused type by type: by the rules of bodies, then with E55 where the program is too large; an abstract type
+/// with E56 where there are too many dispatch pairs.
+pub(crate) fn typed_bodies<'a>(
+    alloc: Global,
+    program: &'a Program<'_>,
+    signatures: &'a Signatures,
+    consts: &'a ConstTable,
+    above: &[Items<u32>],
+) -> Result<Typing, FrontFault> {
+    let below = concrete_below(alloc, program, above)?;
+    let mut typing = Typing::new(alloc);
+    for class in 0..program.count() {
+        let view = View {
+            program: &*program,
+            signatures: &*signatures,
+            consts: &*consts,
+            class,
+        };
+        type_instance(alloc, &view, &mut typing, below.as_slice())?;
+    }
+    Ok(typing)
+}
+
+/// By needed type, the number of concrete class types below it.
+fn concrete_below(
+    alloc: Global,
+    program: &Program<'_>,
+    above: &[Items<u32>],
+) -> Result<Vec<u32>, NoMemory> {
+    let mut below = vec![in alloc; 0u32; above.len()]?;
+    let mut ty = 0u32;
+    for uppers in above {
+        if is_concrete_class(program, ty) {
+            count_below(below.as_mut_slice(), uppers.as_slice());
+        }
+        ty = held(ty.checked_add(1))?;
+    }
+    Ok(below)
+}
+
+/// Whether a type is a class of values, and no bound type.
+fn is_concrete_class(program: &Program<'_>, ty: u32) -> bool {
+    match program.class(ty) {
+        None => false,
+        Some(class) => class.kind != Kind::Abstract,
+    }
+}
+
+/// Counts one type below each of the types with these numbers.
+fn count_below(below: &mut [u32], uppers: &[u32]) {
+    for upper in uppers {
+        let at = *upper as usize;
+        if at < below.len() {
+            below[at] = below[at].saturating_add(1);
+        }
+    }
+}
+
+/// The bodies of a needed type. A bound type has none.
+fn type_instance(
+    alloc: Global,
+    view: &View<'_>,
+    typing: &mut Typing,
+    below: &[u32],
+) -> Result<(), FrontFault> {
+    let Some(class) = view.program.class(view.class) else {
+        return Ok(());
+    };
+    if class.kind == Kind::Abstract {
+        let types = held(below.get(view.class as usize))?;
+        return count_pairs(view, typing, *types);
+    }
+    for f in class.features.as_slice() {
+        type_feature(alloc, view, typing, f)?;
+    }
+    typing.size.within()
+}
+
+/// Counts the dispatch pairs of an abstract type's signatures: E56 at the name of the one with which they are too many.
+fn count_pairs(view: &View<'_>, typing: &mut Typing, below: u32) -> Result<(), FrontFault> {
+    let (from, to) = view.signatures.of(view.class);
+    for place in from..to {
+        typing.pairs = typing.pairs.saturating_add(below);
+        if typing.pairs > MOST_PAIRS {
+            let pos = sig_pos(view.program, view.signatures, place)?;
+            return Err(refused(TOO_MANY_PAIRS, pos));
+        }
+    }
+    Ok(())
+}
+
+/// A feature of a concrete class. Once the program is too large, what is typed isn't kept.
+fn type_feature(
+    alloc: Global,
+    view: &View<'_>,
+    typing: &mut Typing,
+    f: &Feature,
+) -> Result<(), FrontFault> {
+    match &f.part {
+        Part::Routine(_) => type_routine(alloc, view, typing, f),
+        Part::Shared(_) => type_shared(alloc, view, typing, f),
+        _ => Ok(()),
+    }
+}
+
+fn type_routine(
+    alloc: Global,
+    view: &View<'_>,
+    typing: &mut Typing,
+    f: &Feature,
+) -> Result<(), FrontFault> {
+    let core = body(alloc, view, &mut typing.built, f)?;
+    if typing.size.add(f.name.pos, feature_nodes(&core)) {
+        typing.features.push(core)?;
+    }
+    Ok(())
+}
+
+fn type_shared(
+    alloc: Global,
+    view: &View<'_>,
+    typing: &mut Typing,
+    f: &Feature,
+) -> Result<(), FrontFault> {
+    let core = shared_body(alloc, view, &mut typing.built, f)?;
+    if typing.size.add(f.name.pos, start_nodes(&core)) {
+        typing.shareds.push(core)?;
+    }
+    Ok(())
+}
+
+/// The number of nodes of a shared's initialiser.
+fn start_nodes(shared: &SharedCore) -> u32 {
+    match &shared.start {
+        None => 0,
+        Some(start) => expr_nodes(start),
+    }
+}

@@ -1,0 +1,127 @@
+//! The children of a form, typed from left to right before the form itself.
+//!
+//! `void`, `#(..)` without a type and an array literal are contextual: they take the type that their place wants, which may
+//! be known only once the form around them is chosen. What they hold is typed at its place all the same, and the contextual
+//! form alone waits for its type.
+
+use crate::rows::typed;
+use sa_choice::{
+    BAD_BIND, Built, NARROWED, NOT_ASSIGNABLE, Place, Variable, View, held, position, refused,
+    variable_named, written,
+};
+use sa_forms::{ReadyArg, ReadyExpr};
+use sa_tree::{Expr, FrontFault, Given, Mode, Pos, Ty};
+use std::alloc::Global;
+
+/// Types an expression for a place that wants a result, or the children of a contextual one.
+#[cycle(typed)]
+pub fn ready(
+    alloc: Global,
+    view: &View<'_>,
+    place: &Place,
+    built: &mut Built,
+    e: &Expr,
+) -> Result<ReadyExpr, FrontFault> {
+    match e {
+        Expr::Void(pos) => Ok(ReadyExpr::Void(*pos)),
+        Expr::Create(None, args, pos) => {
+            let args = arguments(alloc, view, place, built, args.as_slice(), false)?;
+            Ok(ReadyExpr::Create(args, *pos))
+        }
+        Expr::Items(items, pos) => {
+            let items = ready_all(alloc, view, place, built, items.as_slice())?;
+            Ok(ReadyExpr::Items(items, *pos))
+        }
+        _ => {
+            let value = typed(alloc, view, place, built, e, true, None)?;
+            Ok(ReadyExpr::Typed(value, position(e)))
+        }
+    }
+}
+
+/// Types expressions from left to right, as `ready` does each of them.
+#[cycle(typed)]
+pub fn ready_all(
+    alloc: Global,
+    view: &View<'_>,
+    place: &Place,
+    built: &mut Built,
+    list: &[Expr],
+) -> Result<Vec<ReadyExpr>, FrontFault> {
+    let mut all = Vec::new(alloc);
+    for e in list {
+        all.push(ready(alloc, view, place, built, e)?)?;
+    }
+    Ok(all)
+}
+
+/// Types the arguments of a call, or of the head of a bind, from left to right.
+#[cycle(typed)]
+pub(crate) fn arguments(
+    alloc: Global,
+    view: &View<'_>,
+    place: &Place,
+    built: &mut Built,
+    args: &[Given],
+    is_head: bool,
+) -> Result<Vec<ReadyArg>, FrontFault> {
+    let mut all = Vec::new(alloc);
+    for given in args {
+        all.push(argument(alloc, view, place, built, given, is_head)?)?;
+    }
+    Ok(all)
+}
+
+/// Types an argument. Refused at the argument:
+///
+/// - E45: it is left open outside the head of a bind.
+/// - E39: the call writes it, and it names no variable. What is refused inside it comes first.
+/// - E42: the call writes it, and it is the variable of a typecase in one of its branches.
+#[cycle(typed)]
+fn argument(
+    alloc: Global,
+    view: &View<'_>,
+    place: &Place,
+    built: &mut Built,
+    given: &Given,
+    is_head: bool,
+) -> Result<ReadyArg, FrontFault> {
+    match given {
+        Given::Left(ty, pos) => open_argument(view, ty, *pos, is_head),
+        Given::Value(Mode::In | Mode::Once, e) => {
+            let value = ready(alloc, view, place, built, e)?;
+            Ok(ReadyArg::Value(value))
+        }
+        Given::Value(mode, e) => {
+            if let Some(variable) = variable_named(place, e) {
+                return written_argument(*mode, variable, position(e));
+            }
+            let _inside = ready(alloc, view, place, built, e)?;
+            Err(refused(NOT_ASSIGNABLE, position(e)))
+        }
+    }
+}
+
+/// A variable that a call writes.
+fn written_argument(mode: Mode, variable: Variable, pos: Pos) -> Result<ReadyArg, FrontFault> {
+    if variable.narrowed {
+        return Err(refused(NARROWED, pos));
+    }
+    Ok(ReadyArg::Variable(mode, variable))
+}
+
+/// An argument that a bind leaves open: `_`, and `_:T` with its type.
+fn open_argument(
+    view: &View<'_>,
+    ty: &Option<Ty>,
+    pos: Pos,
+    is_head: bool,
+) -> Result<ReadyArg, FrontFault> {
+    if !is_head {
+        return Err(refused(BAD_BIND, pos));
+    }
+    match ty {
+        None => Ok(ReadyArg::Left(None)),
+        Some(ty) => Ok(ReadyArg::Left(Some(held(written(view, ty))?))),
+    }
+}

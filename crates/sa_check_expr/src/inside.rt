@@ -1,0 +1,192 @@
+//! The row of a form with what stands inside it, typed or refused: of several refusals inside the first one counts.
+
+use sa_choice::{Built, Place, Typed, View, character, exception, int, me, text, truth, written};
+use sa_forms::{
+    ReadyArg, ReadyExpr, Receiver, binary, bind_form, call_form, connected, create, index, is_void,
+    new_array, new_object, settled, unary,
+};
+use sa_tree::{Expr, FrontFault, Name, Op, Pos, Recv, Ty};
+use std::alloc::Global;
+
+/// What the typing of a part of a form gave.
+type Inside<T> = Result<T, FrontFault>;
+
+/// A form that holds no expressions. The others are no such form.
+pub(crate) fn without_inside(
+    alloc: Global,
+    view: &View<'_>,
+    place: &Place,
+    built: &Built,
+    e: &Expr,
+    wanted: Option<u32>,
+) -> Result<Typed, FrontFault> {
+    match e {
+        Expr::Int(value, _) => Ok(int(*value)?),
+        Expr::Bool(value, _) => Ok(truth(*value)),
+        Expr::Char(value, _) => Ok(character(*value)),
+        Expr::Text(value, _) => Ok(text(alloc, value)?),
+        Expr::Me(_) => Ok(me(view)),
+        Expr::Void(pos) => settled(alloc, view, built, ReadyExpr::Void(*pos), wanted),
+        Expr::Exception(pos) => exception(place, *pos),
+        Expr::New(_, pos) => new_object(view, *pos),
+        _ => Err(FrontFault::NoMemory),
+    }
+}
+
+/// `void(e)`
+pub(crate) fn void_test(
+    alloc: Global,
+    of: Inside<ReadyExpr>,
+    pos: Pos,
+) -> Result<Typed, FrontFault> {
+    is_void(alloc, of?, pos)
+}
+
+/// `new(n)`
+pub(crate) fn array_object(
+    alloc: Global,
+    view: &View<'_>,
+    length: Inside<Typed>,
+    pos: Pos,
+) -> Result<Typed, FrontFault> {
+    new_array(alloc, view, length?, pos)
+}
+
+/// `#(..)` without a type, at the type that its place wants.
+pub(crate) fn object_here(
+    alloc: Global,
+    view: &View<'_>,
+    built: &Built,
+    args: Inside<Vec<ReadyArg>>,
+    wanted: Option<u32>,
+    pos: Pos,
+) -> Result<Typed, FrontFault> {
+    settled(alloc, view, built, ReadyExpr::Create(args?, pos), wanted)
+}
+
+/// `#C(..)`
+pub(crate) fn object_of(
+    alloc: Global,
+    view: &View<'_>,
+    place: &Place,
+    built: &mut Built,
+    class: &Ty,
+    args: Inside<Vec<ReadyArg>>,
+    pos: Pos,
+    wants: bool,
+) -> Result<Typed, FrontFault> {
+    let class = written(view, class);
+    create(alloc, view, place, built, class, args?, pos, wants)
+}
+
+/// An array literal, at the type that its place wants.
+pub(crate) fn array(
+    alloc: Global,
+    view: &View<'_>,
+    built: &Built,
+    items: Inside<Vec<ReadyExpr>>,
+    wanted: Option<u32>,
+    pos: Pos,
+) -> Result<Typed, FrontFault> {
+    settled(alloc, view, built, ReadyExpr::Items(items?, pos), wanted)
+}
+
+/// A call by name that isn't a variable.
+pub(crate) fn called(
+    alloc: Global,
+    view: &View<'_>,
+    place: &Place,
+    built: &mut Built,
+    on: &Recv,
+    name: &Name,
+    receiver: Inside<Receiver>,
+    args: Inside<Vec<ReadyArg>>,
+    pos: Pos,
+    wants: bool,
+) -> Result<Typed, FrontFault> {
+    call_form(
+        alloc, view, place, built, on, name, receiver?, args?, pos, wants,
+    )
+}
+
+/// `and` and `or`
+pub(crate) fn joined(
+    alloc: Global,
+    op: Op,
+    left: Inside<Typed>,
+    right: Inside<Typed>,
+    pos: Pos,
+) -> Result<Typed, FrontFault> {
+    connected(alloc, op, left?, right?, pos)
+}
+
+/// Another operator of two operands, of which the left one stands at `at`.
+pub(crate) fn operated(
+    alloc: Global,
+    view: &View<'_>,
+    place: &Place,
+    built: &mut Built,
+    op: Op,
+    left: Inside<Receiver>,
+    at: Pos,
+    right: Inside<ReadyExpr>,
+    pos: Pos,
+    wants: bool,
+) -> Result<Typed, FrontFault> {
+    binary(alloc, view, place, built, op, left?, at, right?, pos, wants)
+}
+
+/// `-` and `~` in front of an operand.
+pub(crate) fn signed(
+    alloc: Global,
+    view: &View<'_>,
+    place: &Place,
+    built: &mut Built,
+    op: Op,
+    of: Inside<Receiver>,
+    pos: Pos,
+    wants: bool,
+) -> Result<Typed, FrontFault> {
+    unary(alloc, view, place, built, op, of?, pos, wants)
+}
+
+/// `e[..]` and `[..]`
+pub(crate) fn indexed(
+    alloc: Global,
+    view: &View<'_>,
+    place: &Place,
+    built: &mut Built,
+    of: Inside<Receiver>,
+    places: Inside<Vec<ReadyExpr>>,
+    pos: Pos,
+    wants: bool,
+) -> Result<Typed, FrontFault> {
+    index(alloc, view, place, built, of?, places?, pos, wants)
+}
+
+/// `bind(..)` of a call by name.
+pub(crate) fn bound(
+    alloc: Global,
+    view: &View<'_>,
+    place: &Place,
+    built: &mut Built,
+    head: &Expr,
+    name: &Name,
+    receiver: Inside<Receiver>,
+    args: Inside<Vec<ReadyArg>>,
+    pos: Pos,
+) -> Result<Typed, FrontFault> {
+    bind_form(alloc, view, place, built, head, name, receiver?, args?, pos)
+}
+
+/// That a part is typed.
+pub(crate) fn done<T: Drop>(part: Inside<T>) -> Result<(), FrontFault> {
+    let _part = part?;
+    Ok(())
+}
+
+/// That two parts are typed.
+pub(crate) fn both<T: Drop, U: Drop>(one: Inside<T>, other: Inside<U>) -> Result<(), FrontFault> {
+    done(one)?;
+    done(other)
+}

@@ -1,0 +1,37 @@
+//! What a call is made on, typed.
+
+use crate::children::ready;
+use sa_choice::{Built, Place, View, held, written};
+use sa_forms::Receiver;
+use sa_tree::{Expr, FrontFault, Recv};
+use std::alloc::Global;
+
+/// Types what a call by name is made on.
+#[cycle(typed)]
+pub(crate) fn receiver_of(
+    alloc: Global,
+    view: &View<'_>,
+    place: &Place,
+    built: &mut Built,
+    on: &Recv,
+) -> Result<Receiver, FrontFault> {
+    match on {
+        Recv::Implied => Ok(Receiver::Own),
+        Recv::Of(e) => operand(alloc, view, place, built, e.get()),
+        Recv::OfClass(ty) => Ok(Receiver::Class(held(written(view, ty))?)),
+    }
+}
+
+/// Types an expression that a call is made on.
+#[cycle(typed)]
+pub fn operand(
+    alloc: Global,
+    view: &View<'_>,
+    place: &Place,
+    built: &mut Built,
+    e: &Expr,
+) -> Result<Receiver, FrontFault> {
+    let sites = built.sites.len();
+    let of = ready(alloc, view, place, built, e)?;
+    Ok(Receiver::of_value(of, sites))
+}

@@ -1,0 +1,250 @@
+//! Assignments: to a variable, to an attribute of an immutable object, by a call, or to an element.
+
+use crate::codes::{NARROWED, NOT_ASSIGNABLE, held, refused};
+use crate::draft::Draft;
+use crate::leave::{leave_assigned, leave_of};
+use crate::value::fitting;
+use sa_check_expr::{
+    Built, ReadyArg, ReadyExpr, Receiver, Variable, View, call, operand, position, ready, typed,
+    variable_named, written,
+};
+use sa_core::StmtCore;
+use sa_tree::{Expr, FrontFault, Kind, Name, Part, Pos, Recv};
+use sqlite_items::Boxed;
+use std::alloc::Global;
+
+/// `target := value`, at the position of its sign.
+pub(crate) fn assign(
+    alloc: Global,
+    view: &View<'_>,
+    draft: &Draft,
+    built: &mut Built,
+    target: &Expr,
+    value: &Expr,
+    pos: Pos,
+) -> Result<StmtCore, FrontFault> {
+    match target {
+        Expr::Call(on, name, args, _) if args.is_empty() => {
+            assign_name(alloc, view, draft, built, on, name, value, pos)
+        }
+        Expr::Index(of, places, _) => {
+            let on = indexed(alloc, view, draft, built, of)?;
+            assign_element(alloc, view, draft, built, on, places.as_slice(), value, pos)
+        }
+        _ => {
+            let _target = ready(alloc, view, &draft.place, built, target)?;
+            let _value = ready(alloc, view, &draft.place, built, value)?;
+            Err(refused(NOT_ASSIGNABLE, pos))
+        }
+    }
+}
+
+/// What an index is made on.
+fn indexed(
+    alloc: Global,
+    view: &View<'_>,
+    draft: &Draft,
+    built: &mut Built,
+    of: &Option<Boxed<Expr>>,
+) -> Result<Receiver, FrontFault> {
+    match of {
+        None => Ok(Receiver::Own),
+        Some(of) => operand(alloc, view, &draft.place, built, of.get()),
+    }
+}
+
+/// `x := e`, `r.f := e` or `C::f := e`.
+fn assign_name(
+    alloc: Global,
+    view: &View<'_>,
+    draft: &Draft,
+    built: &mut Built,
+    on: &Recv,
+    name: &Name,
+    value: &Expr,
+    pos: Pos,
+) -> Result<StmtCore, FrontFault> {
+    match on {
+        Recv::Implied => assign_implied(alloc, view, draft, built, name, value, pos),
+        Recv::Of(of) => {
+            let of = of.get();
+            let on = operand(alloc, view, &draft.place, built, of)?;
+            let changed = variable_named(&draft.place, of);
+            assign_feature(alloc, view, draft, built, on, changed, name, value, pos)
+        }
+        Recv::OfClass(ty) => {
+            let on = Receiver::Class(held(written(view, ty))?);
+            assign_feature(alloc, view, draft, built, on, None, name, value, pos)
+        }
+    }
+}
+
+/// `x := e`: a variable, what leaves a loop, or else a call on self.
+fn assign_implied(
+    alloc: Global,
+    view: &View<'_>,
+    draft: &Draft,
+    built: &mut Built,
+    name: &Name,
+    value: &Expr,
+    pos: Pos,
+) -> Result<StmtCore, FrontFault> {
+    if let Some(variable) = draft.seen(name) {
+        return assign_variable(alloc, view, draft, built, variable, value, pos);
+    }
+    if let Some(number) = leave_of(name) {
+        return leave_assigned(alloc, view, draft, built, number, value, pos);
+    }
+    assign_feature(
+        alloc,
+        view,
+        draft,
+        built,
+        Receiver::Own,
+        None,
+        name,
+        value,
+        pos,
+    )
+}
+
+/// `x := e` for a variable: it isn't narrowed, and the value goes to its type.
+fn assign_variable(
+    alloc: Global,
+    view: &View<'_>,
+    draft: &Draft,
+    built: &mut Built,
+    variable: Variable,
+    value: &Expr,
+    pos: Pos,
+) -> Result<StmtCore, FrontFault> {
+    let ty = variable.ty;
+    let made = typed(alloc, view, &draft.place, built, value, true, Some(ty))?;
+    if variable.narrowed {
+        return Err(refused(NARROWED, pos));
+    }
+    let core = fitting(alloc, view, built, made, ty, position(value), pos)?;
+    Ok(StmtCore::Let(variable.number, core))
+}
+
+/// `r.f := e` is the call `r.f(e)`, but for an attribute of an immutable class.
+fn assign_feature(
+    alloc: Global,
+    view: &View<'_>,
+    draft: &Draft,
+    built: &mut Built,
+    on: Receiver,
+    changed: Option<Variable>,
+    name: &Name,
+    value: &Expr,
+    pos: Pos,
+) -> Result<StmtCore, FrontFault> {
+    let made = ready(alloc, view, &draft.place, built, value)?;
+    if is_attribute_of_immutable(view, &on, name) {
+        return assign_changed(alloc, view, draft, built, on, changed, name, made, pos);
+    }
+    let mut args = Vec::new(alloc);
+    args.push(ReadyArg::Value(made))?;
+    let name = name.as_slice();
+    let done = call(alloc, view, &draft.place, built, on, name, args, pos, false)?;
+    Ok(StmtCore::Do(done.core))
+}
+
+/// `r.f := e` for an attribute of an immutable class: it is `r := r.f(e)`, so r is a variable.
+fn assign_changed(
+    alloc: Global,
+    view: &View<'_>,
+    draft: &Draft,
+    built: &mut Built,
+    on: Receiver,
+    changed: Option<Variable>,
+    name: &Name,
+    value: ReadyExpr,
+    pos: Pos,
+) -> Result<StmtCore, FrontFault> {
+    let Some(variable) = changed else {
+        return Err(refused(NOT_ASSIGNABLE, pos));
+    };
+    let mut args = Vec::new(alloc);
+    args.push(ReadyArg::Value(value))?;
+    let name = name.as_slice();
+    let made = call(alloc, view, &draft.place, built, on, name, args, pos, true)?;
+    if variable.narrowed {
+        return Err(refused(NARROWED, pos));
+    }
+    let core = fitting(alloc, view, built, made, variable.ty, pos, pos)?;
+    Ok(StmtCore::Let(variable.number, core))
+}
+
+/// Whether what the call is made on is of an immutable class, and the name that of one of its attributes.
+fn is_attribute_of_immutable(view: &View<'_>, on: &Receiver, name: &Name) -> bool {
+    let Some(ty) = type_of_receiver(view, on) else {
+        return false;
+    };
+    matches!(view.program.kind(ty), Some(Kind::Immutable))
+        && has_attribute(view, ty, view.program.named(ty, name.as_slice()))
+}
+
+/// Whether one of the members of a type at these places is the reader or the writer of an attribute.
+fn has_attribute(view: &View<'_>, ty: u32, places: &[u32]) -> bool {
+    for place in places {
+        if is_attribute(view, ty, *place) {
+            return true;
+        }
+    }
+    false
+}
+
+/// The number of the type that a call is made on.
+fn type_of_receiver(view: &View<'_>, on: &Receiver) -> Option<u32> {
+    match on {
+        Receiver::Own => Some(view.class),
+        Receiver::Value(value, _) => value.ty,
+        Receiver::Class(class) => Some(*class),
+        Receiver::Untyped => None,
+    }
+}
+
+/// Whether the member of a type is the reader or the writer of an attribute.
+fn is_attribute(view: &View<'_>, ty: u32, place: u32) -> bool {
+    let Some(member) = view.program.member(ty, place) else {
+        return false;
+    };
+    let Some(class) = view.program.class(ty) else {
+        return false;
+    };
+    match class.features.get(member.feature as usize) {
+        None => false,
+        Some(feature) => matches!(feature.part, Part::Attr),
+    }
+}
+
+/// `r[i] := e` is the call `r.aset(i, e)`.
+fn assign_element(
+    alloc: Global,
+    view: &View<'_>,
+    draft: &Draft,
+    built: &mut Built,
+    on: Receiver,
+    places: &[Expr],
+    value: &Expr,
+    pos: Pos,
+) -> Result<StmtCore, FrontFault> {
+    let mut args = Vec::new(alloc);
+    for e in places {
+        args.push(ReadyArg::Value(ready(alloc, view, &draft.place, built, e)?))?;
+    }
+    args.push(ReadyArg::Value(ready(alloc, view, &draft.place, built, value)?))?;
+    let done = call(
+        alloc,
+        view,
+        &draft.place,
+        built,
+        on,
+        b"aset",
+        args,
+        pos,
+        false,
+    )?;
+    Ok(StmtCore::Do(done.core))
+}

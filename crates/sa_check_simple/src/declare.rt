@@ -1,0 +1,146 @@
+//! Declarations: `x, y:T`, `x, y:T := e` and `x ::= e`.
+
+use crate::codes::held;
+use crate::copy::copy;
+use crate::draft::Draft;
+use crate::nodes::expr_nodes;
+use crate::value::{fitting, untyped_value};
+use sa_check_expr::{Built, View, position, typed, written};
+use sa_core::{ExprCore, StmtCore};
+use sa_tree::{Expr, FrontFault, Local, NoMemory, Pos, Ty};
+use sqlite_items::Items;
+use std::alloc::Global;
+
+/// Past so many nodes in copies no more copies are made: a program has at most as many nodes, so it is refused whatever
+/// the further copies hold.
+pub const MOST_NODES: u32 = 200_000;
+
+/// A declaration, by its names, its type and its initialiser.
+pub(crate) fn declare(
+    alloc: Global,
+    view: &View<'_>,
+    draft: &mut Draft,
+    built: &mut Built,
+    names: &[Local],
+    ty: &Option<Ty>,
+    value: &Option<Expr>,
+    cores: &mut Items<StmtCore>,
+) -> Result<(), FrontFault> {
+    let Some(first) = names.first() else {
+        return Ok(());
+    };
+    let form = first.pos;
+    let Some(ty) = ty else {
+        return declare_by_value(alloc, view, draft, built, names, form, value, cores);
+    };
+    match value {
+        None => declare_void(alloc, view, draft, names, ty, cores),
+        Some(e) => declare_typed(alloc, view, draft, built, names, form, ty, e, cores),
+    }
+}
+
+/// `x, y:T`: each is void of its type, each time that the statement is done.
+fn declare_void(
+    alloc: Global,
+    view: &View<'_>,
+    draft: &mut Draft,
+    names: &[Local],
+    ty: &Ty,
+    cores: &mut Items<StmtCore>,
+) -> Result<(), FrontFault> {
+    let ty = held(written(view, ty))?;
+    for local in names {
+        let number = draft.declare(alloc, local, ty)?;
+        cores.push(StmtCore::Let(number, ExprCore::VoidOf(ty)))?;
+    }
+    Ok(())
+}
+
+/// `x, y:T := e`. The names aren't seen in the initialiser, which stands once for each of them.
+fn declare_typed(
+    alloc: Global,
+    view: &View<'_>,
+    draft: &mut Draft,
+    built: &mut Built,
+    names: &[Local],
+    form: Pos,
+    ty: &Ty,
+    e: &Expr,
+    cores: &mut Items<StmtCore>,
+) -> Result<(), FrontFault> {
+    let ty = held(written(view, ty))?;
+    let value = typed(alloc, view, &draft.place, built, e, true, Some(ty))?;
+    let numbers = declare_names(alloc, draft, names, ty)?;
+    let core = fitting(alloc, view, built, value, ty, position(e), form)?;
+    let_each(alloc, draft, numbers, core, cores)
+}
+
+/// `x ::= e`: the variable has the type of the initialiser.
+fn declare_by_value(
+    alloc: Global,
+    view: &View<'_>,
+    draft: &mut Draft,
+    built: &mut Built,
+    names: &[Local],
+    form: Pos,
+    value: &Option<Expr>,
+    cores: &mut Items<StmtCore>,
+) -> Result<(), FrontFault> {
+    let Some(e) = value else {
+        return Ok(());
+    };
+    let value = untyped_value(alloc, view, &draft.place, built, e, form)?;
+    let ty = held(value.ty)?;
+    let numbers = declare_names(alloc, draft, names, ty)?;
+    let_each(alloc, draft, numbers, value.core, cores)
+}
+
+/// Declares the names as variables of a type, and gives their numbers.
+fn declare_names(
+    alloc: Global,
+    draft: &mut Draft,
+    names: &[Local],
+    ty: u32,
+) -> Result<Vec<u32>, FrontFault> {
+    let mut numbers = Vec::new(alloc);
+    for local in names {
+        numbers.push(draft.declare(alloc, local, ty)?)?;
+    }
+    Ok(numbers)
+}
+
+/// Sets each of the variables to the value of one initialiser, which is evaluated for each of them.
+fn let_each(
+    alloc: Global,
+    draft: &mut Draft,
+    mut numbers: Vec<u32>,
+    core: ExprCore,
+    cores: &mut Items<StmtCore>,
+) -> Result<(), FrontFault> {
+    let Some(last) = numbers.pop() else {
+        return Ok(());
+    };
+    if !numbers.is_empty() {
+        let_copies(alloc, draft, numbers.as_slice(), &core, cores)?;
+    }
+    cores.push(StmtCore::Let(last, core))?;
+    Ok(())
+}
+
+/// Sets each of the variables to a copy of the initialiser.
+fn let_copies(
+    alloc: Global,
+    draft: &mut Draft,
+    numbers: &[u32],
+    core: &ExprCore,
+    cores: &mut Items<StmtCore>,
+) -> Result<(), NoMemory> {
+    let nodes = expr_nodes(core);
+    for number in numbers {
+        if draft.copied <= MOST_NODES {
+            draft.copied = draft.copied.saturating_add(nodes);
+            cores.push(StmtCore::Let(*number, copy(alloc, core)?))?;
+        }
+    }
+    Ok(())
+}

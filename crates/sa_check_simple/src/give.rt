@@ -1,0 +1,102 @@
+//! `return` and `yield`, which give a value back.
+
+use crate::codes::{OUT_OF_PLACE, WRONG_TYPE, refused};
+use crate::draft::Draft;
+use crate::leave::in_iter;
+use crate::value::fitting;
+use sa_check_expr::{Built, Typed, View, position, ready, typed};
+use sa_core::{ExprCore, StmtCore};
+use sa_tree::{Expr, FrontFault, Pos};
+use std::alloc::Global;
+
+/// `return` and `return e`, in a routine alone.
+pub(crate) fn return_value(
+    alloc: Global,
+    view: &View<'_>,
+    draft: &Draft,
+    built: &mut Built,
+    value: &Option<Expr>,
+    pos: Pos,
+) -> Result<StmtCore, FrontFault> {
+    let Some(e) = value else {
+        in_routine(draft, pos)?;
+        gives_none(draft, pos)?;
+        return Ok(StmtCore::Return(None));
+    };
+    let made = result_value(alloc, view, draft, built, e)?;
+    in_routine(draft, pos)?;
+    let core = given_back(alloc, view, draft, built, made, position(e), pos)?;
+    Ok(StmtCore::Return(Some(core)))
+}
+
+/// `yield` and `yield e`, in an iter alone, and in no protect.
+pub(crate) fn yield_value(
+    alloc: Global,
+    view: &View<'_>,
+    draft: &Draft,
+    built: &mut Built,
+    value: &Option<Expr>,
+    pos: Pos,
+) -> Result<StmtCore, FrontFault> {
+    let Some(e) = value else {
+        in_iter(draft, pos)?;
+        gives_none(draft, pos)?;
+        return Ok(StmtCore::Yield(None));
+    };
+    let made = result_value(alloc, view, draft, built, e)?;
+    in_iter(draft, pos)?;
+    let core = given_back(alloc, view, draft, built, made, position(e), pos)?;
+    Ok(StmtCore::Yield(Some(core)))
+}
+
+/// Whether a form may stand here that a routine alone has.
+fn in_routine(draft: &Draft, pos: Pos) -> Result<(), FrontFault> {
+    if draft.iter {
+        return Err(refused(OUT_OF_PLACE, pos));
+    }
+    Ok(())
+}
+
+/// Whether the feature has no result, where none is given back.
+fn gives_none(draft: &Draft, pos: Pos) -> Result<(), FrontFault> {
+    if draft.result.is_some() {
+        return Err(refused(WRONG_TYPE, pos));
+    }
+    Ok(())
+}
+
+/// The expression that is given back, whose place wants the type of the feature's result. Where the feature has none, it
+/// wants no type, and what is typed isn't kept: the form is refused after it.
+fn result_value(
+    alloc: Global,
+    view: &View<'_>,
+    draft: &Draft,
+    built: &mut Built,
+    e: &Expr,
+) -> Result<Option<Typed>, FrontFault> {
+    if draft.result.is_none() {
+        let _e = ready(alloc, view, &draft.place, built, e)?;
+        return Ok(None);
+    }
+    let made = typed(alloc, view, &draft.place, built, e, true, draft.result)?;
+    Ok(Some(made))
+}
+
+/// The value of the expression at a position, which has a subtype of the type of the feature's result.
+fn given_back(
+    alloc: Global,
+    view: &View<'_>,
+    draft: &Draft,
+    built: &Built,
+    made: Option<Typed>,
+    at: Pos,
+    form: Pos,
+) -> Result<ExprCore, FrontFault> {
+    let Some(made) = made else {
+        return Err(refused(WRONG_TYPE, form));
+    };
+    let Some(ty) = draft.result else {
+        return Err(refused(WRONG_TYPE, form));
+    };
+    fitting(alloc, view, built, made, ty, at, form)
+}

@@ -1,0 +1,149 @@
+//! Statements that leave or stop: `quit`, `raise`, `assert`, `while! := b`, and an expression as a statement.
+
+use crate::codes::{IN_PROTECT, NONE_FITS, OUT_OF_PLACE, OUTSIDE_LOOP, WRONG_TYPE, held, refused};
+use crate::draft::Draft;
+use crate::value::{entry, test, untyped_value};
+use sa_check_expr::{Built, View, leave, parts, position, ready, settled, typed, widened};
+use sa_core::{ExprCore, StmtCore};
+use sa_program::{BOOL, OB};
+use sa_tree::{Expr, FrontFault, Name, Op, Pos, Recv};
+use sqlite_items::Items;
+use std::alloc::Global;
+
+/// The fault of an `assert` whose test is false.
+const ASSERT: u8 = 7;
+
+/// The number of `break!` among the names that leave a loop.
+const BREAK: u8 = 0;
+
+/// `quit`, in an iter alone, and in no protect.
+pub(crate) fn quit(draft: &Draft, pos: Pos) -> Result<StmtCore, FrontFault> {
+    in_iter(draft, pos)?;
+    Ok(StmtCore::Quit)
+}
+
+/// Whether a form may stand here that an iter alone has, and no protect.
+pub(crate) fn in_iter(draft: &Draft, pos: Pos) -> Result<(), FrontFault> {
+    if !draft.iter {
+        return Err(refused(OUT_OF_PLACE, pos));
+    }
+    if draft.place.guard > 0 {
+        return Err(refused(IN_PROTECT, pos));
+    }
+    Ok(())
+}
+
+/// `raise e`, whose value goes to `$OB`.
+pub(crate) fn raise(
+    alloc: Global,
+    view: &View<'_>,
+    draft: &Draft,
+    built: &mut Built,
+    e: &Expr,
+    pos: Pos,
+) -> Result<StmtCore, FrontFault> {
+    let value = untyped_value(alloc, view, &draft.place, built, e, pos)?;
+    let ty = held(value.ty)?;
+    let core = widened(alloc, view, value.core, ty, OB, position(e))?;
+    Ok(StmtCore::Raise(core, pos))
+}
+
+/// `assert e`: the program stops where the test is false.
+pub(crate) fn assert_true(
+    alloc: Global,
+    view: &View<'_>,
+    draft: &Draft,
+    built: &mut Built,
+    e: &Expr,
+    pos: Pos,
+) -> Result<StmtCore, FrontFault> {
+    let (core, is_bool) = test(alloc, view, &draft.place, built, e)?;
+    if !is_bool {
+        return Err(refused(WRONG_TYPE, pos));
+    }
+    asserted(alloc, core, pos)
+}
+
+/// Nothing where a test is true, and else a stop.
+fn asserted(alloc: Global, test: ExprCore, pos: Pos) -> Result<StmtCore, FrontFault> {
+    let mut entries = Items::new(alloc);
+    entries.push(entry(alloc, test, Items::new(alloc))?)?;
+    let mut rest = Items::new(alloc);
+    rest.push(StmtCore::Stop(ASSERT, pos))?;
+    Ok(StmtCore::If(entries, rest))
+}
+
+/// An expression as a statement: a call, an index, `#` or an operator other than `and` and `or`, without a result.
+pub(crate) fn expression(
+    alloc: Global,
+    view: &View<'_>,
+    draft: &Draft,
+    built: &mut Built,
+    e: &Expr,
+) -> Result<StmtCore, FrontFault> {
+    if let Some((number, test)) = leave(alloc, view, &draft.place, built, e)? {
+        return Ok(StmtCore::Leave(number, test));
+    }
+    if !can_stand_alone(draft, e) {
+        parts(alloc, view, &draft.place, built, e)?;
+        return Err(refused(WRONG_TYPE, position(e)));
+    }
+    let made = typed(alloc, view, &draft.place, built, e, false, None)?;
+    Ok(StmtCore::Do(made.core))
+}
+
+/// Whether the expression is of a form that can be a statement. A variable can't.
+fn can_stand_alone(draft: &Draft, e: &Expr) -> bool {
+    match e {
+        Expr::Call(Recv::Implied, name, args, _) => !args.is_empty() || draft.seen(name).is_none(),
+        Expr::Call(_, _, _, _)
+        | Expr::Index(_, _, _)
+        | Expr::Create(_, _, _)
+        | Expr::Unary(_, _, _) => true,
+        Expr::Binary(op, _, _, _) => !matches!(op, Op::And | Op::Or),
+        _ => false,
+    }
+}
+
+/// The number of a name that leaves the innermost loop.
+pub(crate) fn leave_of(name: &Name) -> Option<u8> {
+    match name.as_slice() {
+        b"break!" => Some(BREAK),
+        b"while!" => Some(1),
+        b"until!" => Some(2),
+        _ => None,
+    }
+}
+
+/// `while! := b`, which is `while!(b)`. `break!` takes no argument.
+pub(crate) fn leave_assigned(
+    alloc: Global,
+    view: &View<'_>,
+    draft: &Draft,
+    built: &mut Built,
+    number: u8,
+    value: &Expr,
+    pos: Pos,
+) -> Result<StmtCore, FrontFault> {
+    let value = ready(alloc, view, &draft.place, built, value)?;
+    can_leave(draft, number, pos)?;
+    let test = settled(alloc, view, built, value, Some(BOOL))?;
+    if test.ty != Some(BOOL) {
+        return Err(refused(WRONG_TYPE, pos));
+    }
+    Ok(StmtCore::Leave(number, Some(test.core)))
+}
+
+/// Whether a name with an argument leaves a loop here: it stands in one, no protect stands between, and it isn't `break!`.
+fn can_leave(draft: &Draft, number: u8, pos: Pos) -> Result<(), FrontFault> {
+    if draft.place.loops == 0 {
+        return Err(refused(OUTSIDE_LOOP, pos));
+    }
+    if draft.place.guard > draft.place.loops {
+        return Err(refused(IN_PROTECT, pos));
+    }
+    if number == BREAK {
+        return Err(refused(NONE_FITS, pos));
+    }
+    Ok(())
+}

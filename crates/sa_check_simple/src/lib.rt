@@ -1,0 +1,19 @@
+//! Typed statements that hold no others, and what is known of a feature while its body is typed.
+#![tactic(auto)]
+
+mod assign;
+mod codes;
+mod copy;
+mod declare;
+mod draft;
+mod give;
+mod leave;
+mod nodes;
+mod simple;
+mod value;
+
+pub use declare::MOST_NODES;
+pub use draft::{Draft, OpenLoop, OpenProtect};
+pub use nodes::{expr_nodes, feature_nodes};
+pub use simple::simple_statement;
+pub use value::{entry, fitting, test, with_type};

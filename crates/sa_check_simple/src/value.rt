@@ -1,0 +1,78 @@
+//! The expressions of a statement: those that want a type, and those that go to one.
+
+use crate::codes::{NO_CONTEXT, WRONG_TYPE, held, refused};
+use sa_check_expr::{Built, Place, ReadyExpr, Typed, View, is_sub, ready, typed, widened};
+use sa_core::{ExprCore, StmtCore, TestCore};
+use sa_program::BOOL;
+use sa_tree::{Expr, FrontFault, NoMemory, Pos};
+use sqlite_items::Items;
+use std::alloc::Global;
+
+/// An expression whose place wants a result and no type. A contextual one is refused, as the form at a position, once the
+/// expressions in it are typed.
+pub(crate) fn untyped_value(
+    alloc: Global,
+    view: &View<'_>,
+    place: &Place,
+    built: &mut Built,
+    e: &Expr,
+    form: Pos,
+) -> Result<Typed, FrontFault> {
+    with_type(ready(alloc, view, place, built, e)?, form)
+}
+
+/// An expression that has a type by itself.
+///
+/// # Errors
+///
+/// E41, as the form at a position, where it is contextual.
+pub fn with_type(value: ReadyExpr, form: Pos) -> Result<Typed, FrontFault> {
+    match value {
+        ReadyExpr::Typed(value, _at) => Ok(value),
+        _ => Err(refused(NO_CONTEXT, form)),
+    }
+}
+
+/// A test, and whether it is a BOOL.
+///
+/// # Errors
+///
+/// The first refusal by the rules of expressions; `NoMemory`.
+pub fn test(
+    alloc: Global,
+    view: &View<'_>,
+    place: &Place,
+    built: &mut Built,
+    e: &Expr,
+) -> Result<(ExprCore, bool), FrontFault> {
+    let test = typed(alloc, view, place, built, e, true, Some(BOOL))?;
+    Ok((test.core, test.ty == Some(BOOL)))
+}
+
+/// The value of an expression, which stands at a position, where a type is wanted.
+///
+/// # Errors
+///
+/// E33, as the form at the other position, unless the expression has a subtype of this type; `NoMemory`.
+pub fn fitting(
+    alloc: Global,
+    view: &View<'_>,
+    built: &Built,
+    value: Typed,
+    to: u32,
+    at: Pos,
+    form: Pos,
+) -> Result<ExprCore, FrontFault> {
+    let from = held(value.ty)?;
+    if !is_sub(view, built, from, to) {
+        return Err(refused(WRONG_TYPE, form));
+    }
+    Ok(widened(alloc, view, value.core, from, to, at)?)
+}
+
+/// A test with its statements. It fails only where memory runs out.
+pub fn entry(alloc: Global, test: ExprCore, body: Items<StmtCore>) -> Result<TestCore, NoMemory> {
+    let mut tests = Items::new(alloc);
+    tests.push(test)?;
+    Ok(TestCore { tests, body })
+}

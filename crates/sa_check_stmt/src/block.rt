@@ -1,0 +1,65 @@
+//! `if`, with an entry for each `elsif`.
+
+use crate::codes::{WRONG_TYPE, refused};
+use crate::statement::statements;
+use sa_check_expr::{Built, View};
+use sa_check_simple::{Draft, entry, test};
+use sa_core::{StmtCore, TestCore};
+use sa_tree::{Arm, FrontFault, Pos};
+use sqlite_items::Items;
+use std::alloc::Global;
+
+/// The entries of an `if`, and whether all their tests are BOOLs.
+#[derive(Drop)]
+pub(crate) struct Entries {
+    list: Items<TestCore>,
+    are_bools: bool,
+}
+
+/// The entries of an `if`.
+#[cycle(statement)]
+pub(crate) fn if_arms(
+    alloc: Global,
+    view: &View<'_>,
+    draft: &mut Draft,
+    built: &mut Built,
+    arms: &[Arm],
+) -> Result<Entries, FrontFault> {
+    let mut list = Items::new(alloc);
+    let mut are_bools = true;
+    for arm in arms {
+        let is_bool = if_arm(alloc, view, draft, built, arm, &mut list)?;
+        are_bools = are_bools && is_bool;
+    }
+    Ok(Entries { list, are_bools })
+}
+
+/// An entry of an `if`, put at the end of the list. It tells whether its test is a BOOL.
+#[cycle(statement)]
+fn if_arm(
+    alloc: Global,
+    view: &View<'_>,
+    draft: &mut Draft,
+    built: &mut Built,
+    arm: &Arm,
+    list: &mut Items<TestCore>,
+) -> Result<bool, FrontFault> {
+    let (core, is_bool) = test(alloc, view, &draft.place, built, &arm.test)?;
+    let body = statements(alloc, view, draft, built, arm.body.as_slice())?;
+    list.push(entry(alloc, core, body)?)?;
+    Ok(is_bool)
+}
+
+/// The `if` of its entries, put at the end of the list: E33 unless all their tests are BOOLs.
+pub(crate) fn if_core(
+    entries: Entries,
+    rest: Items<StmtCore>,
+    pos: Pos,
+    cores: &mut Items<StmtCore>,
+) -> Result<(), FrontFault> {
+    if !entries.are_bools {
+        return Err(refused(WRONG_TYPE, pos));
+    }
+    cores.push(StmtCore::If(entries.list, rest))?;
+    Ok(())
+}

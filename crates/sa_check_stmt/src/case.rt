@@ -1,0 +1,210 @@
+//! `case`: the value is evaluated once, into a variable without a name, and compared by `is_eq` in order.
+
+use crate::codes::{WRONG_TYPE, held, refused};
+use crate::statement::statements;
+use sa_check_expr::{Built, ReadyArg, ReadyExpr, Receiver, Typed, View, call, ready, ready_all};
+use sa_check_simple::{Draft, with_type};
+use sa_core::{ExprCore, StmtCore, TestCore};
+use sa_program::{BOOL, OB};
+use sa_tree::{CaseArm, Expr, FrontFault, NoMemory, Pos};
+use sqlite_items::Items;
+use std::alloc::Global;
+
+/// The fault of a `case` without `else` whose value none of its own is equal to.
+const NO_BRANCH: u8 = 5;
+
+/// The variable that holds the value of a `case`, and the position of the form.
+#[derive(Clone, Copy)]
+struct Held {
+    ty: u32,
+    number: u32,
+    pos: Pos,
+}
+
+/// The value of a `case`, and the variable that holds it.
+#[derive(Drop)]
+pub(crate) struct Subject {
+    value: ReadyExpr,
+    variable: Held,
+}
+
+/// An arm whose values and statements are typed, and whose tests aren't made yet.
+#[derive(Drop)]
+pub(crate) struct TypedArm {
+    values: Vec<ReadyExpr>,
+    body: Items<StmtCore>,
+}
+
+/// The value of a `case`, whose variable is made before its arms are typed.
+pub(crate) fn case_subject(
+    alloc: Global,
+    view: &View<'_>,
+    draft: &mut Draft,
+    built: &mut Built,
+    tested: &Expr,
+    pos: Pos,
+) -> Result<Subject, FrontFault> {
+    let value = ready(alloc, view, &draft.place, built, tested)?;
+    let ty = value_type(&value)?;
+    let number = draft.variable(ty)?;
+    let variable = Held { ty, number, pos };
+    Ok(Subject { value, variable })
+}
+
+/// The number of a value's type. A contextual value has none, and is refused later.
+fn value_type(value: &ReadyExpr) -> Result<u32, NoMemory> {
+    match value {
+        ReadyExpr::Typed(value, _at) => held(value.ty),
+        _ => Ok(OB),
+    }
+}
+
+/// The arms of a `case`.
+#[cycle(statement)]
+pub(crate) fn case_arms(
+    alloc: Global,
+    view: &View<'_>,
+    draft: &mut Draft,
+    built: &mut Built,
+    arms: &[CaseArm],
+) -> Result<Vec<TypedArm>, FrontFault> {
+    let mut typed_arms = Vec::new(alloc);
+    for arm in arms {
+        typed_arms.push(case_arm(alloc, view, draft, built, arm)?)?;
+    }
+    Ok(typed_arms)
+}
+
+/// An arm of a `case`.
+#[cycle(statement)]
+fn case_arm(
+    alloc: Global,
+    view: &View<'_>,
+    draft: &mut Draft,
+    built: &mut Built,
+    arm: &CaseArm,
+) -> Result<TypedArm, FrontFault> {
+    let values = ready_all(alloc, view, &draft.place, built, arm.values.as_slice())?;
+    let body = statements(alloc, view, draft, built, arm.body.as_slice())?;
+    Ok(TypedArm { values, body })
+}
+
+/// The `case` of its parts, put at the end of the list.
+pub(crate) fn case_cores(
+    alloc: Global,
+    view: &View<'_>,
+    draft: &Draft,
+    built: &mut Built,
+    subject: Subject,
+    arms: Vec<TypedArm>,
+    rest: Option<Items<StmtCore>>,
+    cores: &mut Items<StmtCore>,
+) -> Result<(), FrontFault> {
+    let Subject { value, variable } = subject;
+    let value = with_type(value, variable.pos)?;
+    let tests = tested_arms(alloc, view, draft, built, variable, arms)?;
+    let rest = otherwise(alloc, rest, variable.pos)?;
+    cores.push(StmtCore::Let(variable.number, value.core))?;
+    cores.push(StmtCore::If(tests, rest))?;
+    Ok(())
+}
+
+/// What is done where no value is equal.
+fn otherwise(
+    alloc: Global,
+    rest: Option<Items<StmtCore>>,
+    pos: Pos,
+) -> Result<Items<StmtCore>, FrontFault> {
+    if let Some(rest) = rest {
+        return Ok(rest);
+    }
+    let mut stop = Items::new(alloc);
+    stop.push(StmtCore::Stop(NO_BRANCH, pos))?;
+    Ok(stop)
+}
+
+/// The arms with their tests.
+fn tested_arms(
+    alloc: Global,
+    view: &View<'_>,
+    draft: &Draft,
+    built: &mut Built,
+    variable: Held,
+    arms: Vec<TypedArm>,
+) -> Result<Items<TestCore>, FrontFault> {
+    let mut entries = Items::new(alloc);
+    for arm in arms {
+        entries.push(tested_arm(alloc, view, draft, built, variable, arm)?)?;
+    }
+    Ok(entries)
+}
+
+/// An arm with its tests.
+fn tested_arm(
+    alloc: Global,
+    view: &View<'_>,
+    draft: &Draft,
+    built: &mut Built,
+    variable: Held,
+    arm: TypedArm,
+) -> Result<TestCore, FrontFault> {
+    let TypedArm { values, body } = arm;
+    let tests = comparisons(alloc, view, draft, built, variable, values)?;
+    Ok(TestCore { tests, body })
+}
+
+/// The tests of an arm.
+fn comparisons(
+    alloc: Global,
+    view: &View<'_>,
+    draft: &Draft,
+    built: &mut Built,
+    variable: Held,
+    values: Vec<ReadyExpr>,
+) -> Result<Items<ExprCore>, FrontFault> {
+    let mut tests = Items::new(alloc);
+    for value in values {
+        tests.push(comparison(alloc, view, draft, built, variable, value)?)?;
+    }
+    Ok(tests)
+}
+
+/// The call of `is_eq` on the variable with a value: E33 unless it gives a BOOL.
+fn comparison(
+    alloc: Global,
+    view: &View<'_>,
+    draft: &Draft,
+    built: &mut Built,
+    variable: Held,
+    value: ReadyExpr,
+) -> Result<ExprCore, FrontFault> {
+    let on = variable_receiver(variable, built.sites.len());
+    let mut args = Vec::new(alloc);
+    args.push(ReadyArg::Value(value))?;
+    let pos = variable.pos;
+    let test = call(
+        alloc,
+        view,
+        &draft.place,
+        built,
+        on,
+        b"is_eq",
+        args,
+        pos,
+        true,
+    )?;
+    if test.ty != Some(BOOL) {
+        return Err(refused(WRONG_TYPE, pos));
+    }
+    Ok(test.core)
+}
+
+/// The variable, as what a call is made on, before which there are so many sites.
+fn variable_receiver(variable: Held, sites: usize) -> Receiver {
+    let value = Typed {
+        core: ExprCore::Var(variable.number),
+        ty: Some(variable.ty),
+        iter: None,
+    };
+    Receiver::Value(value, sites)
+}

@@ -1,0 +1,164 @@
+//! Features: a routine or an iter with its body, and a shared with its initialiser.
+
+use crate::codes::{TOO_MANY_OUT, TOO_MANY_VARIABLES, held, refused};
+use crate::statement::statements;
+use sa_check_expr::{Built, View, position, typed, written};
+use sa_check_simple::{Draft, fitting};
+use sa_core::{ExprCore, FeatureCore, SharedCore, StmtCore};
+use sa_tree::{Expr, Feature, Formal, FrontFault, Mode, Part, Pos, Stmt};
+use sqlite_items::Items;
+use std::alloc::Global;
+use std::mem;
+
+/// How many variables a feature has at most, arguments among them.
+const MOST_VARIABLES: usize = 200;
+
+/// How many `out` and `inout` arguments a feature has at most.
+const MOST_OUT: usize = 16;
+
+/// The fault of a routine with a result that reaches its end.
+const NO_RETURN: u8 = 6;
+
+/// A routine or an iter of the class, typed. `built.sites` is empty before and after the call, and the answer has them.
+///
+/// # Errors
+///
+/// The first refusal by the rules of statements and expressions; E43 for equal arguments before those, and E54 and E53 for
+/// too many `out` arguments and too many variables after them; `NoMemory`.
+pub fn body(
+    alloc: Global,
+    view: &View<'_>,
+    built: &mut Built,
+    f: &Feature,
+) -> Result<FeatureCore, FrontFault> {
+    let iter = f.name.name.as_slice().ends_with(b"!");
+    let mut draft = Draft::new(alloc, iter, result_of(view, f)?);
+    let modes = formals(alloc, view, &mut draft, f.formals.as_slice())?;
+    let body = whole_body(alloc, view, &mut draft, built, f)?;
+    within_limits(&draft, modes.as_slice(), f.name.pos)?;
+    Ok(FeatureCore {
+        class: view.class,
+        iter,
+        modes,
+        vars: draft.vars,
+        result: draft.result,
+        sites: mem::replace(&mut built.sites, Items::new(alloc)),
+        body,
+        pos: f.name.pos,
+    })
+}
+
+/// The statements of the feature, and behind them a stop where a routine with a result reaches its end.
+fn whole_body(
+    alloc: Global,
+    view: &View<'_>,
+    draft: &mut Draft,
+    built: &mut Built,
+    f: &Feature,
+) -> Result<Items<StmtCore>, FrontFault> {
+    let mut body = statements(alloc, view, draft, built, body_of(f))?;
+    if draft.result.is_some() && !draft.iter {
+        body.push(StmtCore::Stop(NO_RETURN, f.name.pos))?;
+    }
+    Ok(body)
+}
+
+/// A shared of the class, with its initialiser typed.
+///
+/// # Errors
+///
+/// The first refusal by the rules of expressions; E33 at the name of the shared unless the initialiser has a subtype of its
+/// type; `NoMemory`.
+pub fn shared_body(
+    alloc: Global,
+    view: &View<'_>,
+    built: &mut Built,
+    f: &Feature,
+) -> Result<SharedCore, FrontFault> {
+    let ty = held(result_of(view, f)?)?;
+    let start = start(alloc, view, built, ty, f)?;
+    let class = view.class;
+    Ok(SharedCore { ty, class, start })
+}
+
+/// The initialiser of a shared, where it has one.
+fn start(
+    alloc: Global,
+    view: &View<'_>,
+    built: &mut Built,
+    ty: u32,
+    f: &Feature,
+) -> Result<Option<ExprCore>, FrontFault> {
+    match &f.part {
+        Part::Shared(Some(e)) => Ok(Some(initialiser(alloc, view, built, ty, e, f.name.pos)?)),
+        _ => Ok(None),
+    }
+}
+
+/// An initialiser, whose place wants the type of the shared.
+fn initialiser(
+    alloc: Global,
+    view: &View<'_>,
+    built: &mut Built,
+    ty: u32,
+    e: &Expr,
+    name: Pos,
+) -> Result<ExprCore, FrontFault> {
+    let outside = Draft::new(alloc, false, None);
+    let value = typed(alloc, view, &outside.place, built, e, true, Some(ty))?;
+    fitting(alloc, view, built, value, ty, position(e), name)
+}
+
+/// The number of the type of the feature's result.
+fn result_of(view: &View<'_>, f: &Feature) -> Result<Option<u32>, FrontFault> {
+    match &f.result {
+        None => Ok(None),
+        Some(ty) => Ok(Some(held(written(view, ty))?)),
+    }
+}
+
+/// The statements of the feature.
+fn body_of(f: &Feature) -> &[Stmt] {
+    match &f.part {
+        Part::Routine(body) => body.get().as_slice(),
+        _ => &[],
+    }
+}
+
+/// Declares the arguments as the first variables, and gives their modes.
+fn formals(
+    alloc: Global,
+    view: &View<'_>,
+    draft: &mut Draft,
+    formals: &[Formal],
+) -> Result<Items<Mode>, FrontFault> {
+    let mut modes = Items::new(alloc);
+    for formal in formals {
+        let ty = held(written(view, &formal.ty))?;
+        draft.declare(alloc, &formal.local, ty)?;
+        modes.push(formal.mode)?;
+    }
+    Ok(modes)
+}
+
+/// Whether the feature has no more `out` arguments and variables than it may have.
+fn within_limits(draft: &Draft, modes: &[Mode], name: Pos) -> Result<(), FrontFault> {
+    if out_arguments(modes) > MOST_OUT {
+        return Err(refused(TOO_MANY_OUT, name));
+    }
+    if draft.vars.len() > MOST_VARIABLES {
+        return Err(refused(TOO_MANY_VARIABLES, name));
+    }
+    Ok(())
+}
+
+/// The number of `out` and `inout` arguments.
+fn out_arguments(modes: &[Mode]) -> usize {
+    let mut count = 0usize;
+    for mode in modes {
+        if matches!(*mode, Mode::Out | Mode::Inout) {
+            count = count.saturating_add(1);
+        }
+    }
+    count
+}

@@ -1,0 +1,15 @@
+//! Typed features from those of a source: routines and iters with their statements, and shareds.
+#![tactic(auto)]
+
+mod block;
+mod case;
+mod codes;
+mod features;
+mod protect;
+mod public;
+mod statement;
+mod typecase;
+
+pub use features::{body, shared_body};
+pub use public::body_core;
+pub use sa_check_simple::{expr_nodes, feature_nodes};
