@@ -3,7 +3,7 @@
 
 The sources are the examples and the files of the cases. Of each one every prefix is checked, and it with each byte
 changed, left out or doubled. N of these texts are tried (2,000 without the option), the same ones in each run, spread
-over all sources; `--limit 0` tries all. Each has to be accepted, not built, or refused with a line inside the text.
+over all sources; `--limit 0` tries all. Each has to be accepted, or refused with a line inside the text or the prelude.
 Prints each text that differs, and a last line 'N passed, M failed'; the status is 1 where any failed."""
 import glob
 import json
@@ -17,7 +17,8 @@ import tempfile
 TOP = os.path.join(os.path.dirname(os.path.abspath(__file__)), '..')
 LONGEST = 2000
 SIGNS = b' \n\t()[]{},;:.=/<>+-*%^~#|_$!"\'\\@\xff0189abzAZ'
-REFUSED = re.compile(rb'f\.sa:([1-9][0-9]*): E[0-5][0-9]: [A-Za-z:, -]+\n')
+REFUSED = re.compile(rb'(f\.sa|prelude):([1-9][0-9]*): E[0-5][0-9]: [A-Za-z:, -]+\n')
+PRELUDE_LINES = 93
 
 
 def bytes_of(text):
@@ -76,11 +77,13 @@ def fault(program, folder, text):
     except subprocess.TimeoutExpired:
         return 'it takes more than 20 seconds'
     answer = ended.stdout, ended.stderr, ended.returncode
-    if answer in ((b'accepted\n', b'', 0), (b'', b'not built\n', 119)):
+    if answer == (b'accepted\n', b'', 0):
         return None
-    line = REFUSED.fullmatch(ended.stderr)
-    if line and ended.returncode == 120 and not ended.stdout and int(line.group(1)) <= text.count(b'\n') + 1:
-        return None
+    refused = REFUSED.fullmatch(ended.stderr)
+    if refused and ended.returncode == 120 and not ended.stdout:
+        lines = PRELUDE_LINES if refused.group(1) == b'prelude' else text.count(b'\n') + 1
+        if int(refused.group(2)) <= lines:
+            return None
     return 'it left %r' % (answer,)
 
 

@@ -8,6 +8,8 @@ import sys
 import tempfile
 
 HELLO = b'class MAIN is main is #OUT + "Hello\\n"; end; end;'
+SUM = b'class MAIN is main is x ::= 1 + 2; end; end;'
+UNKNOWN = b'class MAIN is\nmain is x ::= y; end; end;'
 USAGE = b'usage: sather run, build, check, exec, gen or selftest\n'
 
 
@@ -21,14 +23,20 @@ def run(words, folder, **streams):
 
 def cases(folder):
     """Each case: its name, what the program left, and what it should leave."""
-    with open(os.path.join(folder, 'f.sa'), 'wb') as file:
-        file.write(HELLO)
+    for name, text in ('f.sa', HELLO), ('sum.sa', SUM), ('unknown.sa', UNKNOWN):
+        with open(os.path.join(folder, name), 'wb') as file:
+            file.write(text)
     os.mkdir(os.path.join(folder, 'folder'))
     yield 'a program prints its text', run(['run', 'f.sa'], folder), (b'Hello\n', b'', 0)
     yield 'a file that is missing is a store fault', run(['run', 'g.sa'], folder), (b'', b'store fault\n', 123)
     yield 'a folder is a store fault', run(['run', 'folder'], folder), (b'', b'store fault\n', 123)
     yield 'without words the usage is told', run([], folder), (b'', USAGE, 124)
     yield 'a program is accepted', run(['check', 'f.sa'], folder), (b'accepted\n', b'', 0)
+    yield 'a program of another form is accepted', run(['check', 'sum.sa'], folder), (b'accepted\n', b'', 0)
+    yield 'a program of another form isn\'t built', run(['run', 'sum.sa'], folder), (b'', b'not built\n', 119)
+    refused = b'unknown.sa:2: E30: unknown name\n'
+    yield 'an unknown name is refused by check', run(['check', 'unknown.sa'], folder), (b'', refused, 120)
+    yield 'an unknown name is refused by run', run(['run', 'unknown.sa'], folder), (b'', refused, 120)
     yield 'a module is written', run(['build', '-o', 'm', 'f.sa'], folder), (b'', b'', 0)
     told = run(['run', '--stats', 'f.sa'], folder)
     yield 'the module that is written does what the program does', run(['exec', '--stats', 'm'], folder), told

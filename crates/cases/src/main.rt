@@ -16,11 +16,20 @@ use std::fs::{self, Files};
 use std::process::ExitCode;
 
 /// The files of the table, one for each subject.
-const TABLES: [&str; 6] = [
+const TABLES: [&str; 15] = [
     "hello.json",
     "commands.json",
     "tokens.json",
     "grammar.json",
+    "classes.json",
+    "types.json",
+    "conformance.json",
+    "constants.json",
+    "calls.json",
+    "iters.json",
+    "statements.json",
+    "limits.json",
+    "programs.json",
     "modules.json",
     "machine.json",
 ];

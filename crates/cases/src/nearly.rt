@@ -65,7 +65,7 @@ fn is_answered(alloc: Global, source: Vec<u8>) -> Result<bool> {
         &mut err,
     );
     Ok(match exit.cause {
-        Cause::Done | Cause::NotBuilt => true,
+        Cause::Done => true,
         Cause::Refused(refusal) => refusal.pos.file == 1 && refusal.pos.at as usize <= length,
         _ => false,
     })

@@ -1,6 +1,8 @@
 -- What a cause says of the files of a program.
-use Rattle.std.specs.Prelude.{◌≡◌, ◌⊎◌, ⊤, ℕ, List, length, Option, None, Some}
+use Rattle.std.specs.Prelude.{◌≡◌, ◌<◌, ◌⊎◌, ⊤, ℕ, List, length, Option, None, Some}
 use Rattle.sa_tree.specs.declared.pos.Sources.{Sources}
+use Rattle.sa_tree.specs.declared.refusal.FrontFault.{FrontFault}
+use Rattle.sa_tree.specs.declared.refusal.FrontFault.TheVariants.{NoMemory, Refused}
 use Rattle.sa_tree.specs.declared.refusal.Refusal.{Refusal}
 use Rattle.sa_outside.specs.Files.{Files}
 use Rattle.sa_read.specs.Front.{IsRefusalOf, IsTakenUpTo}
@@ -13,13 +15,26 @@ use Rattle.sa_drive.specs.declared.cause.Cause.TheVariants as cause
 abbrev pub IsTakenProgram : Option Files → List (List ℕ) → Sources → Type 0
 IsTakenProgram files names sources = IsReadAs files names sources None × IsTakenUpTo sources.texts (length sources.texts)
 
--- the refusal is that of the files: they are too large together, or it is the first of their texts
+-- the grammar takes these texts, and the refusal is that of the checker, at a place in one of them
+abbrev pub IsRefusedByRules : List (List ℕ) → Refusal → Type 0
+IsRefusedByRules texts refusal = IsTakenUpTo texts (length texts) × (refusal.pos.file < length texts)
+
+-- the refusal is that of these texts: the first by tokens and grammar, or the checker's
+abbrev pub IsRefusalFor : List (List ℕ) → Refusal → Type 0
+IsRefusalFor texts refusal = IsRefusalOf texts refusal ⊎ IsRefusedByRules texts refusal
+
+-- the refusal is that of the files: they are too large together, or it is that of their texts
 abbrev pub IsRefusedFor : Option Files → List (List ℕ) → Sources → Refusal → Type 0
-IsRefusedFor files names sources refusal = IsReadAs files names sources (Some refusal) ⊎ (IsReadAs files names sources None × IsRefusalOf sources.texts refusal)
+IsRefusedFor files names sources refusal = IsReadAs files names sources (Some refusal) ⊎ (IsReadAs files names sources None × IsRefusalFor sources.texts refusal)
+
+-- the checker's refusal is in one of so many texts
+abbrev pub IsAmong : ℕ → FrontFault → Type 0
+IsAmong texts (Refused refusal) = refusal.pos.file < texts
+IsAmong texts NoMemory = ⊤
 
 -- why texts give no module
 abbrev pub Explains : List (List ℕ) → Cause → Type 0
-Explains texts (cause.Refused refusal) = IsRefusalOf texts refusal
+Explains texts (cause.Refused refusal) = IsRefusalFor texts refusal
 Explains texts cause.NotBuilt = IsTakenUpTo texts (length texts)
 Explains texts cause.NoMemory = ⊤
 Explains texts _ = ⊥

@@ -36,6 +36,7 @@ pub fn check<'a, S: Store, O: Sink>(
     let Compiled { sources, module } = compile_files(alloc, store, line.files.as_slice());
     match module {
         Ok(_module) => Outcome::without_run(told(out), sources, Vec::new(alloc)),
+        Err(Cause::NotBuilt) => Outcome::without_run(told(out), sources, Vec::new(alloc)),
         Err(cause) => Outcome::without_run(cause, sources, Vec::new(alloc)),
     }
 }

@@ -3,15 +3,16 @@
 ghost use Rattle.std.specs.Prelude.{◌≡◌, ◌≤◌, ◌<◌, All, length, map, None, IfErr, IfOk, IfSome, MatchResult};
 ghost use Rattle.sa_outside.specs.Faults.{Rose};
 ghost use Rattle.sa_read.specs.Front.{IsTakenUpTo};
-ghost use Rattle.sa_drive.specs.Files.{ComesOfFiles, Explains, ExplainsProgram, IsTakenProgram};
+ghost use Rattle.sa_drive.specs.Files.{ComesOfFiles, Explains, ExplainsProgram, IsAmong, IsTakenProgram};
 ghost use Rattle.sa_drive.specs.Lines.{IsPlaced};
 
 use crate::cause::Cause;
 use crate::first_form::joined_texts;
 use crate::program::printing;
+use sa_check::check;
 use sa_outside::Store;
 use sa_read::{Program, ReadFault, classes, read_program};
-use sa_tree::{FrontFault, Sources};
+use sa_tree::{Class, FrontFault, Sources};
 use sqlite_items::Items;
 use std::alloc::{AllocError, Global};
 use wa_encode::encode;
@@ -106,10 +107,40 @@ fn compile(alloc: Global, texts: &[Items<u8>]) -> Result<Vec<u8>, Cause>
         Err(FrontFault::Refused(refusal)) => return Err(Cause::Refused(refusal)),
         Err(FrontFault::NoMemory) => return Err(Cause::NoMemory),
     };
-    match joined_texts(alloc, classes.as_slice()) {
+    match accepted(alloc, classes.as_slice(), texts.len()) {
+        Ok(()) => {}
+        Err(FrontFault::Refused(broken)) => return Err(Cause::Refused(broken)),
+        Err(FrontFault::NoMemory) => return Err(Cause::NoMemory),
+    }
+    match joined_texts(alloc, behind_prelude(classes.as_slice())) {
         Ok(Some(texts)) => bytes_of(alloc, texts.as_slice()),
         Ok(None) => Err(Cause::NotBuilt),
         Err(AllocError) => Err(Cause::NoMemory),
+    }
+}
+
+/// Whether the classes of so many texts are accepted.
+fn accepted(alloc: Global, classes: &[Class], texts: usize) -> Result<(), FrontFault>
+    ensures { IfErr result (IsAmong texts) }
+{
+    match check(alloc, classes) {
+        Ok(_core) => Ok(()),
+        Err(FrontFault::Refused(refusal)) => {
+            if refusal.pos.file as usize >= texts {
+                return Err(FrontFault::NoMemory);
+            }
+            Err(FrontFault::Refused(refusal))
+        }
+        Err(FrontFault::NoMemory) => Err(FrontFault::NoMemory),
+    }
+}
+
+/// The classes of the command's files, which stand behind those of the prelude.
+fn behind_prelude(classes: &[Class]) -> &[Class] {
+    let own = classes.iter().position(|class| class.name.pos.file > 0);
+    match own {
+        None => &[],
+        Some(first) => &classes[first..],
     }
 }
 

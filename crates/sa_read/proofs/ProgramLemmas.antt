@@ -9,8 +9,7 @@ use Rattle.sa_outside.specs.Faults.{Rose}
 use Rattle.sa_outside.specs.Files.{Files, Lacks}
 use Rattle.sa_tree.specs.declared.pos.Sources.{Sources}
 use Rattle.sa_read.specs.Read.{HasFile, HasLonger}
-use Rattle.sa_read.specs.Program.{AreNamed, HaveTexts, IsCut, LacksOneOf, at, size, too_large}
-use Rattle.sa_read.specs.declared.program.TheConstants.{MOST_BYTES}
+use Rattle.sa_read.specs.Program.{AreNamed, HaveTexts, IsCut, LacksOneOf, at, most, size, too_large}
 use Rattle.sa_read.proofs.FrontLemmas.{up_to_next}
 
 -- the name at a place, of names that are borrowed
@@ -51,7 +50,7 @@ pub size_more : (texts : List (List ℕ)) (text : List ℕ) → size (texts ++ t
 size_more texts text = omega (arith, sum_by-append length texts (text ∷ []))
 
 -- the text of a file that is too large is the last one
-pub cut : (files : Option Files) (names : List (List ℕ)) (sources new : Sources) (n room : ℕ) (name text : List ℕ) → AreNamed names sources n → HaveTexts files names sources.texts n → size sources.texts + room ≡ MOST_BYTES → n < length names → name ≡ at names n → new.names ≡ sources.names ++ name ∷ [] → new.texts ≡ sources.texts ++ text ∷ [] → HasLonger files name room text → IsCut files names new (too_large (suc n) room)
+pub cut : (files : Option Files) (names : List (List ℕ)) (sources new : Sources) (n room : ℕ) (name text : List ℕ) → AreNamed names sources n → HaveTexts files names sources.texts n → size sources.texts + room ≡ most → n < length names → name ≡ at names n → new.names ≡ sources.names ++ name ∷ [] → new.texts ≡ sources.texts ++ text ∷ [] → HasLonger files name room text → IsCut files names new (too_large (suc n) room)
 cut files names sources new n room name text named have small there is more longer past = record {
   last = n;
   there = there;

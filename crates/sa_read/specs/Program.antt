@@ -1,6 +1,7 @@
 -- The texts of a program.
 use Rattle.std.specs.Prelude.{◌≡◌, ℕ, ◌+◌, ◌<◌, ◌≤◌, List, [], ◌∷◌, codes, length, suc, sum_by, take, Option, None, Some, slice_index_or}
 use Rattle.sa_outside.specs.Files.{Files, Lacks}
+use Rattle.sa_prelude.specs.PreludeText.{prelude_text}
 use Rattle.sa_tree.specs.declared.pos.Sources.{Sources}
 use Rattle.sa_tree.specs.declared.refusal.Refusal.{Refusal}
 use Rattle.sa_read.specs.Read.{HasFile, HasLonger}
@@ -15,9 +16,13 @@ at items place = slice_index_or items place []
 abbrev pub size : List (List ℕ) → ℕ
 size texts = sum_by length texts
 
--- the prelude's text alone, which is empty
+-- how many bytes the prelude and the files of a command have at most, together
+abbrev pub most : ℕ
+most = length prelude_text + MOST_BYTES
+
+-- the prelude's text alone
 abbrev pub no_files : Sources
-no_files = record { names = codes "prelude" ∷ []; texts = [] ∷ [] }
+no_files = record { names = codes "prelude" ∷ []; texts = prelude_text ∷ [] }
 
 -- the refusal of the file with this number, which is too large from this byte on
 abbrev pub too_large : ℕ → ℕ → Refusal
@@ -37,7 +42,7 @@ pub record AreNamed (names : List (List ℕ)) (sources : Sources) (n : ℕ) : Ty
 pub record IsWhole (files : Option Files) (names : List (List ℕ)) (sources : Sources) : Type 0 where
   pub named : AreNamed names sources (length names)
   pub texts : HaveTexts files names sources.texts (length names)
-  pub small : size sources.texts ≤ MOST_BYTES
+  pub small : size sources.texts ≤ most
 
 -- the files were read to the byte at which they are too large together, which is one of the last text's file
 pub record IsCut (files : Option Files) (names : List (List ℕ)) (sources : Sources) (refusal : Refusal) : Type 0 where
@@ -46,7 +51,7 @@ pub record IsCut (files : Option Files) (names : List (List ℕ)) (sources : Sou
   pub named : AreNamed names sources (suc last)
   pub texts : HaveTexts files names sources.texts last
   pub longer : HasLonger files (at names last) refusal.pos.at (at sources.texts (suc last))
-  pub room : size (take (suc last) sources.texts) + refusal.pos.at ≡ MOST_BYTES
+  pub room : size (take (suc last) sources.texts) + refusal.pos.at ≡ most
   pub cut : refusal ≡ too_large (suc last) refusal.pos.at
 
 abbrev pub IsReadAs : Option Files → List (List ℕ) → Sources → Option Refusal → Type 0

@@ -6,6 +6,7 @@ ghost use Rattle.sa_read.specs.Program.{IsReadFrom, LacksOneOf, no_files, too_la
 
 use crate::read::{Read, ReadFault, read_file};
 use sa_outside::Store;
+use sa_prelude::text;
 use sa_tree::{Name, Pos, Refusal, Sources};
 use sqlite_items::Items;
 use std::alloc::{AllocError, Global};
@@ -16,7 +17,7 @@ pub const MOST_BYTES: usize = 4_194_304;
 /// What was read of a program's files.
 #[derive(Drop)]
 pub struct Program {
-    /// The texts that were read, behind the prelude's, which is empty as long as no source uses it.
+    /// The texts that were read, behind the prelude's.
     pub sources: Sources,
     /// The refusal of a file that is too large, of which the text has what goes before.
     pub cut: Option<Refusal>,
@@ -60,14 +61,15 @@ pub fn read_program<S: Store>(
     Ok(Program { sources, cut: None })
 }
 
-/// The prelude's text, which is empty.
+/// The prelude's text.
 fn prelude(alloc: Global) -> Result<Sources, AllocError>
-    ensures { IfOk result (λ sources. sources ≡ no_files) }
+    ensures value { IfOk result (λ sources. sources ≡ no_files) }
+    ensures short { IfOk result (λ sources. All (λ text. length text < 4294967295) sources.texts) }
 {
     let mut names = Items::new(alloc);
     names.push(Name::from_slice(alloc, b"prelude")?)?;
     let mut texts = Items::new(alloc);
-    texts.push(Items::new(alloc))?;
+    texts.push(Items::from_slice(alloc, text())?)?;
     Ok(Sources { names, texts })
 }
 

@@ -33,7 +33,7 @@ returns-in-Cut-clause-read g c =
 pub returns-in-Cut-clause-short : goal.returns-in-Cut-clause-short
 returns-in-Cut-clause-short g c =
     let longer = cut_of (g.S.Store.files c.args.store.now) (g.S.Store.files c.loop-place.store) (slice_index_or c.args.names.now c.loop-place.place no_name).now c.loop-place.room _ c.in-Cut.text c.loop-place.invariant.files c.in-Cut.is c.in_ok-text.ensures.read in
-    let small : length c.in-Cut.text.items < 4294967295 = omega (arith, longer.1, c.loop-place.invariant.room) in
+    let small : length c.in-Cut.text.items < 4294967295 = omega (arith, longer.1, c.loop-place.invariant.within) in
     subst (All (λ text. length text < 4294967295)) (sym c.in_ok-add-in-Cut.ensures.texts) (All-push (λ text. length text < 4294967295) c.loop-place.sources.texts c.in-Cut.text.items c.loop-place.invariant.short small)
 
 pub loop-place-preserved : goal.loop-place-preserved
@@ -47,8 +47,9 @@ loop-place-preserved g c =
       named = subst (AreNamed names c.add.new.sources) (next c.loop-place.place) (named_more names c.loop-place.sources c.add.new.sources c.loop-place.place _ c.in-Whole.text.items c.loop-place.invariant.named there is c.in_ok-add-in-Whole.ensures.names c.in_ok-add-in-Whole.ensures.texts);
       texts = subst (λ texts. HaveTexts (g.S.Store.files c.args.store.now) names texts (c.loop-place.place + 1)) (sym c.in_ok-add-in-Whole.ensures.texts) (texts_more (g.S.Store.files c.args.store.now) names c.loop-place.sources.texts c.loop-place.place c.in-Whole.text.items c.loop-place.invariant.named.count here c.loop-place.invariant.texts);
       room = omega (arith, ap size c.in_ok-add-in-Whole.ensures.texts, size_more c.loop-place.sources.texts c.in-Whole.text.items, c.loop-place.invariant.room, c.len-room.ensures, whole.1);
-      short = subst (All (λ text. length text < 4294967295)) (sym c.in_ok-add-in-Whole.ensures.texts) (All-push (λ text. length text < 4294967295) c.loop-place.sources.texts c.in-Whole.text.items c.loop-place.invariant.short (omega (arith, whole.1, c.loop-place.invariant.room)));
+      short = subst (All (λ text. length text < 4294967295)) (sym c.in_ok-add-in-Whole.ensures.texts) (All-push (λ text. length text < 4294967295) c.loop-place.sources.texts c.in-Whole.text.items c.loop-place.invariant.short (omega (arith, whole.1, c.loop-place.invariant.within)));
       few = omega (arith, ap length c.in_ok-add-in-Whole.ensures.texts, length-append c.loop-place.sources.texts (c.in-Whole.text.items ∷ []), c.in_ok-number.ensures.value.1, c.len.ensures);
+      within = omega (arith, c.len-room.ensures, c.loop-place.invariant.within);
       files = search rules;
       count = search rules;
     }

@@ -1,5 +1,5 @@
 use Rattle.std.proofs.Common.{◌≡◌, ◌+◌, ◌<◌, ◌≤◌, All, length, map}
-use Rattle.sa_read.specs.Program.{AreNamed, HaveTexts, size}
+use Rattle.sa_read.specs.Program.{AreNamed, HaveTexts, most, size}
 use Rattle.sa_read.specs.declared.program.TheConstants.{MOST_BYTES}
 use Rattle.sa_read.proofs.program.read_program.Given as goal
 
@@ -7,7 +7,8 @@ abbrev pub invariant-loop-place : goal.invariant-loop-place
 invariant-loop-place g l = record {
   named : AreNamed (map (λ name. name.now) l.names) l.sources l.place;
   texts : HaveTexts (g.S.Store.files l.fn.store) (map (λ name. name.now) l.names) l.sources.texts l.place;
-  room : size l.sources.texts + l.room ≡ MOST_BYTES;
+  room : size l.sources.texts + l.room ≡ most;
+  within : l.room ≤ MOST_BYTES;
   short : All (λ text. length text < 4294967295) l.sources.texts;
   few : length l.sources.texts ≤ 65536;
   files : g.S.Store.files l.store ≡ g.S.Store.files l.fn.store;
