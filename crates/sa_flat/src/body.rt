@@ -1,0 +1,39 @@
+//! A body: the blocks of a routine or an iter.
+
+use crate::step::{FlatExit, FlatStep};
+use sa_tree::Mode;
+use sqlite_items::Items;
+
+/// An argument of a body.
+#[derive(Clone, Copy, Debug, PartialEq, Eq, Hash)]
+pub struct FlatFormal {
+    pub mode: Mode,
+    /// The number of its type.
+    pub ty: u32,
+}
+
+/// Steps that are done one after the other, and what comes behind them.
+#[derive(Drop)]
+pub struct FlatBlock {
+    pub steps: Items<FlatStep>,
+    pub exit: FlatExit,
+}
+
+/// The blocks of a routine or an iter. It begins in block 0, with its arguments in the first variables.
+#[derive(Drop)]
+pub struct FlatBody {
+    /// The number of the feature, in which the variables have the same numbers. The last body of a program has none, nor
+    /// has a body that was made for an implementation of a signature alone.
+    pub feature: Option<u32>,
+    pub iter: bool,
+    pub formals: Items<FlatFormal>,
+    /// The number of variables of its own, arguments included. Numbers from 200 on are temporaries.
+    pub own: u32,
+    /// One more than the greatest number of a temporary.
+    pub temporaries: u32,
+    /// The number of sites.
+    pub sites: u32,
+    /// The variables that are kept while the body is suspended, rising.
+    pub kept: Items<u32>,
+    pub blocks: Items<FlatBlock>,
+}

@@ -1,0 +1,66 @@
+//! Calls: what is called, with which variables, and where its faults and raises go.
+
+use sa_tree::Mode;
+use sqlite_items::Items;
+
+/// What a call reaches.
+#[derive(Clone, Copy, Debug, PartialEq, Eq, Hash)]
+pub enum Callee {
+    /// A body by its number.
+    Body(u32),
+    /// A built-in feature by its number.
+    Builtin(u8),
+    /// Reads an attribute by its place.
+    Get(u32),
+    /// Writes an attribute. Of an immutable value it gives the changed copy.
+    Set(u32),
+    /// Reads a shared by its number.
+    GetShared(u32),
+    /// Writes a shared.
+    SetShared(u32),
+    /// The implementation of a signature by the receiver's class.
+    Dispatch(u32),
+    /// The bound value that is the receiver.
+    Bound,
+}
+
+/// An argument of a call: its mode, and the variable that holds it and takes what is copied back. A bind leaves arguments
+/// without a variable open.
+#[derive(Clone, Copy, Debug, PartialEq, Eq, Hash)]
+pub struct FlatArg {
+    pub mode: Mode,
+    pub var: Option<u32>,
+}
+
+/// Where a raise goes: a block, and the variables that get the raised value, the place of its position and its kind.
+#[derive(Clone, Copy, Debug, PartialEq, Eq, Hash)]
+pub struct Raised {
+    pub block: u32,
+    pub value: u32,
+    pub place: u32,
+    pub kind: u32,
+}
+
+/// What a fault of a step tells and where it goes.
+#[derive(Clone, Copy, Debug, PartialEq, Eq, Hash)]
+pub struct Fail {
+    /// The place of its position in the program's `sites`.
+    pub place: u32,
+    /// The line of that position.
+    pub line: u32,
+    pub raised: Raised,
+}
+
+/// A call.
+#[derive(Drop)]
+pub struct CallPlan {
+    pub callee: Callee,
+    /// The number of the type whose feature is called.
+    pub class: u32,
+    /// The variable that holds the receiver.
+    pub recv: u32,
+    pub args: Items<FlatArg>,
+    /// The variable that gets the result.
+    pub value: Option<u32>,
+    pub fail: Fail,
+}

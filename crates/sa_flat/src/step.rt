@@ -1,0 +1,165 @@
+//! Steps and exits.
+
+use crate::call::{CallPlan, Fail, FlatArg, Raised};
+use sqlite_items::Items;
+
+/// A constant.
+#[derive(Clone, Copy, Debug, PartialEq, Eq, Hash)]
+pub enum FlatConst {
+    /// The void value of a type.
+    Void(u32),
+    Int(i32),
+    Bool(bool),
+    Char(u8),
+    /// A text by its place in the program's texts.
+    Text(u32),
+}
+
+/// A step on the variables of a body. `to` is the variable that gets what the step gives.
+#[derive(Drop)]
+pub enum FlatStep {
+    Const {
+        to: u32,
+        value: FlatConst,
+    },
+    Move {
+        to: u32,
+        from: u32,
+    },
+    /// The body's own object.
+    Me {
+        to: u32,
+    },
+    IsVoid {
+        to: u32,
+        from: u32,
+    },
+    /// Spends a turn: a round of a loop, or the initialiser of a shared.
+    Turn,
+    /// A new object. It may fail for want of room.
+    New {
+        to: u32,
+        ty: u32,
+        fail: Fail,
+    },
+    /// A new object with an array part of `count` elements. A negative count is a fault, want of room another.
+    NewArray {
+        to: u32,
+        ty: u32,
+        count: u32,
+        fail: Fail,
+    },
+    /// Puts an element of an array literal in its place, which can't fail.
+    PutItem {
+        array: u32,
+        ty: u32,
+        at: u32,
+        value: u32,
+    },
+    /// A value of the immutable class `ty` as it stands at an abstract type. It may fail for want of room.
+    Widen {
+        to: u32,
+        from: u32,
+        ty: u32,
+        fail: Fail,
+    },
+    /// A widened value as it stands at its own class `ty`.
+    Unwrap {
+        to: u32,
+        from: u32,
+        ty: u32,
+    },
+    /// Whether the class of the value is `ty` or below it. It is false for void.
+    TypeIs {
+        to: u32,
+        from: u32,
+        ty: u32,
+    },
+    /// The value of a raise, which must not be void.
+    NotVoid {
+        from: u32,
+        fail: Fail,
+    },
+    InitShared {
+        shared: u32,
+        from: u32,
+    },
+    Call {
+        plan: CallPlan,
+    },
+    /// Makes a bound value of the entry from the receiver and the arguments that are given.
+    Bind {
+        plan: CallPlan,
+        entry: u32,
+    },
+    /// Whether the site has an instance.
+    HasEntry {
+        to: u32,
+        site: u32,
+    },
+    /// Starts an instance at the site. `quit` tells afterwards whether it has ended.
+    Start {
+        site: u32,
+        plan: CallPlan,
+        quit: u32,
+    },
+    /// Resumes the instance at the site. The receiver and the `once` arguments of the plan aren't read.
+    Resume {
+        site: u32,
+        plan: CallPlan,
+        quit: u32,
+    },
+    /// In a body that was made for an implementation by an iter: at a start takes the instance's frame, and runs the iter's
+    /// body on that frame.
+    Enter {
+        body: u32,
+        args: Items<FlatArg>,
+        value: Option<u32>,
+        quit: u32,
+    },
+    /// Ends the instances of the sites in this order, with those inside them.
+    Release {
+        sites: Items<u32>,
+    },
+    /// Sets the variables of a raise by the statement `raise` (kind 8) at a place.
+    Raising {
+        value: u32,
+        place: u32,
+        to: Raised,
+    },
+}
+
+/// What comes behind the steps of a block.
+#[derive(Clone, Copy, Debug, PartialEq, Eq, Hash)]
+pub enum FlatExit {
+    Jump(u32),
+    /// Goes on in `yes` where the variable `test` is true, else in `no`.
+    Branch {
+        test: u32,
+        yes: u32,
+        no: u32,
+    },
+    /// Leaves the body with this value, and copies arguments back.
+    Return {
+        value: Option<u32>,
+    },
+    /// Yields this value, copies arguments back, and goes on in `resume` when the instance is resumed. A body that was made
+    /// for an implementation alone has no block of its own to go on in.
+    Suspend {
+        value: Option<u32>,
+        resume: Option<u32>,
+    },
+    /// Ends the instance.
+    Quit,
+    /// Leaves the body with a raise.
+    Raise {
+        value: u32,
+        place: u32,
+        kind: u32,
+    },
+    /// A fault of this kind.
+    Stop {
+        kind: u8,
+        fail: Fail,
+    },
+}
