@@ -1,0 +1,3 @@
+pub mod Implementations
+pub mod Rising
+pub mod Layout

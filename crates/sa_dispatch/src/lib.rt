@@ -1,0 +1,12 @@
+//! Which implementation a dispatched call takes, by the signature that it names and the type of its receiver, and where that
+//! implementation stands in the program's table of functions.
+#![tactic(auto)]
+
+mod build;
+mod search;
+mod signature;
+mod table;
+
+pub use build::rows;
+pub use signature::Span;
+pub use table::Rows;

@@ -1,0 +1,82 @@
+//! A signature as calls go through it: the types that implement it, and its part of the table of functions.
+
+ghost use Rattle.std.specs.Prelude.{◌≡◌, ◌==◌, ◌+◌, ◌<◌, ◌^◌, length, IfOk, OnOk};
+ghost use Rattle.std.specs.List.{position};
+ghost use Rattle.std.specs.Option.{option_map};
+ghost use Rattle.sa_dispatch.specs.Rising.{IsRising};
+
+use crate::search::place_of;
+use sa_tree::NoMemory;
+use sqlite_items::Items;
+
+/// The part of the table of functions that a signature has: one place for each number from its least type to its greatest.
+#[derive(Clone, Copy, Debug, PartialEq, Eq)]
+pub struct Span {
+    /// The place in the table that the least type has.
+    pub first: u32,
+    /// The least type that implements the signature.
+    pub least: u32,
+    /// How many places there are.
+    pub length: u32,
+}
+
+/// A signature.
+#[derive(Drop)]
+pub struct Signature {
+    /// The types that implement it, rising.
+    pub types: Items<u32>,
+    /// The place of its first implementation in the list of all.
+    pub first: u32,
+    /// Its part of the table, where it has one.
+    pub span: Option<Span>,
+}
+
+impl Signature {
+    /// The place of the implementation for a type in the list of all: none where the type doesn't implement it.
+    pub fn row(&self, ty: u32) -> Option<u32>
+        requires rising { IsRising self.now.types }
+        requires fits { self.now.first + length self.now.types < 2 ^ 32 }
+        ensures { result ≡ option_map (λ place. self.now.first + place) (position (λ t. t == ty) self.now.types) }
+    {
+        let place = place_of(self.types.as_slice(), ty)?;
+        Some(self.first + place as u32)
+    }
+}
+
+/// The part of the table of the types of a signature, which rise, from the place `first` on: none where the numbers from the
+/// least to the greatest are more than four times as many as the types.
+pub fn span_of(types: &[u32], first: u32) -> Option<Span> {
+    let least = *types.first()?;
+    let length = types.last()?.checked_sub(least)?.checked_add(1)?;
+    if (length as usize).div_ceil(4) > types.len() {
+        return None;
+    }
+    Some(Span {
+        first,
+        least,
+        length,
+    })
+}
+
+/// The number of places of a span.
+pub fn places(span: Option<Span>) -> usize {
+    match span {
+        Some(span) => span.length as usize,
+        None => 0,
+    }
+}
+
+/// The sum of two numbers.
+///
+/// # Errors
+///
+/// `NoMemory` where 32 bits don't hold it.
+pub fn sum(number: u32, more: usize) -> Result<u32, NoMemory>
+    ensures sum { IfOk result (λ sum. sum ≡ number + more) }
+    ensures fits { OnOk result (number + more < 2 ^ 32) }
+{
+    match (number as usize).checked_add(more) {
+        Some(sum) => u32::try_from(sum).map_err(|_| NoMemory),
+        None => Err(NoMemory),
+    }
+}

@@ -1,0 +1,149 @@
+//! The implementations of a program's signatures, and the places that they have in the table of functions.
+
+ghost use Rattle.std.specs.Prelude.{◌≡◌, [], ◌∷◌, ◌++◌, ◌<◌, length, slice_get, unwrap_or, OnOk};
+ghost use Rattle.std.specs.Option.{SomeIff};
+ghost use Rattle.sa_dispatch.specs.Implementations.{first_of, row_of};
+ghost use Rattle.sa_dispatch.specs.Rising.{IsRising};
+
+use crate::signature::{Signature, Span, places, span_of, sum};
+use sa_tree::NoMemory;
+use sqlite_items::Items;
+use std::alloc::Global;
+use std::marker::Model;
+
+/// The implementations of a program's signatures. Contracts see, for each signature, the types that implement it.
+///
+/// A signature whose types lie close together has a part of the table of functions of its own, its span: one place for each
+/// number from its least type to its greatest. No call of these takes memory.
+#[derive(Drop)]
+pub struct Rows {
+    signatures: Items<Signature>,
+    /// How many implementations they have together.
+    count: u32,
+    /// How many places their spans have together.
+    size: u32,
+}
+
+impl Model for Rows {
+    ghost use Rattle.std.specs.Prelude.{List, ℕ};
+    ghost use Rattle.sa_dispatch.specs.Layout.{IsKept, shown};
+
+    ghost Value = { List (List ℕ) };
+
+    ghost view = { λ rows. shown rows.signatures };
+
+    ghost invariant = { λ rows. IsKept rows.signatures rows.count };
+}
+
+impl Rows {
+    /// No signature.
+    pub(crate) fn new(alloc: Global) -> Rows
+        ensures { result ≡ [] }
+    {
+        Rows {
+            signatures: Items::new(alloc),
+            count: 0,
+            size: 0,
+        }
+    }
+
+    /// One more signature, by the types that implement it.
+    ///
+    /// # Errors
+    ///
+    /// `NoMemory`, also where 32 bits don't hold the number of signatures, of implementations or of places.
+    pub(crate) fn add(&mut self, types: Items<u32>) -> Result<(), NoMemory>
+        requires { IsRising types }
+        ensures { OnOk result (self.new ≡ self.old ++ types ∷ []) }
+    {
+        let count = sum(self.count, types.len())?;
+        let span = span_of(types.as_slice(), self.size);
+        let size = sum(self.size, places(span))?;
+        sum(1, self.signatures.len())?;
+        let signature = Signature {
+            types,
+            first: self.count,
+            span,
+        };
+        self.signatures.push(signature)?;
+        self.count = count;
+        self.size = size;
+        Ok(())
+    }
+
+    /// The place of a signature's implementation for a type in the list of the implementations of all signatures: none where
+    /// there is no such signature or the type doesn't implement it.
+    pub fn row(&self, sig: u32, ty: u32) -> Option<u32>
+        ensures { result ≡ row_of self.now sig ty }
+    {
+        let signature = self.signatures.get(sig as usize)?;
+        signature.row(ty)
+    }
+
+    /// The place of a signature's implementation for a type in the table of functions: none where the signature has no span,
+    /// or the type doesn't implement it.
+    pub fn place(&self, sig: u32, ty: u32) -> Option<u32> {
+        let span = self.span(sig)?;
+        self.row(sig, ty)?;
+        span.first.checked_add(ty.checked_sub(span.least)?)
+    }
+
+    /// How many places the spans of all signatures have together.
+    pub fn size(&self) -> u32 {
+        self.size
+    }
+
+    /// The part of the table that a signature has, if it has one.
+    pub fn span(&self, sig: u32) -> Option<Span> {
+        self.signatures.get(sig as usize)?.span
+    }
+
+    /// The types that implement a signature, rising: none where there is no such signature.
+    pub fn types(&self, sig: u32) -> &[u32]
+        ensures { result.now ≡ unwrap_or (slice_get self.now sig) [] }
+    {
+        match self.signatures.get(sig as usize) {
+            Some(signature) => signature.types.as_slice(),
+            None => &[],
+        }
+    }
+
+    /// The place of a signature's first implementation in the list of the implementations of all signatures.
+    pub fn first(&self, sig: u32) -> Option<u32>
+        ensures { SomeIff result (sig < length self.now) (first_of self.now sig) }
+    {
+        Some(self.signatures.get(sig as usize)?.first)
+    }
+
+    /// The number of signatures.
+    pub fn signatures(&self) -> u32
+        ensures { result ≡ length self.now }
+    {
+        self.signatures.len() as u32
+    }
+}
+
+#[cfg(test)]
+mod tests {
+    use super::*;
+    use std::test::*;
+
+    #[test]
+    fn a_signature_whose_types_lie_far_apart_has_rows_and_no_places(
+        rt: HostRuntime,
+    ) -> Result<(), Fail> {
+        let alloc = rt.alloc();
+        let mut rows = Rows::new(alloc);
+        rows.add(Items::from_slice(alloc, &[3, 4, 10])?)?;
+        rows.add(Items::from_slice(alloc, &[2, 11])?)?;
+        rows.add(Items::from_slice(alloc, &[2, 9])?)?;
+        assert_eq!(rt; rows.row(1, 11), Some(4));
+        assert_eq!(rt; rows.row(1, 3), None);
+        assert_eq!(rt; rows.place(0, 10), Some(7));
+        assert_eq!(rt; rows.place(0, 5), None);
+        assert_eq!(rt; rows.place(1, 11), None);
+        assert_eq!(rt; rows.place(2, 9), Some(15));
+        assert_eq!(rt; rows.size(), 16);
+        Ok(())
+    }
+}
