@@ -1,0 +1,76 @@
+//! `if`: its entries in order, each with its tests and its statements.
+
+use crate::around::Around;
+use crate::stmts::stmts;
+use crate::value::value_of;
+use sa_core::{ExprCore, TestCore};
+use sa_flat::{Draft, FlatExit, held};
+use sa_tree::NoMemory;
+use std::alloc::Global;
+
+/// The entries of an `if`. Each goes on in the block `after` once its statements are done; the block that is open at the end
+/// is the one where no test is true.
+#[cycle(stmts)]
+pub(crate) fn if_entries(
+    alloc: Global,
+    around: &Around<'_>,
+    draft: &mut Draft,
+    entries: &[TestCore],
+    after: u32,
+) -> Result<(), NoMemory> {
+    for entry in entries {
+        if_entry(alloc, around, draft, entry, after)?;
+    }
+    Ok(())
+}
+
+/// An entry of an `if`.
+#[cycle(stmts)]
+fn if_entry(
+    alloc: Global,
+    around: &Around<'_>,
+    draft: &mut Draft,
+    entry: &TestCore,
+    after: u32,
+) -> Result<(), NoMemory> {
+    let next = entry_tests(alloc, around, draft, entry.tests.as_slice())?;
+    stmts(alloc, around, draft, entry.body.as_slice())?;
+    draft.end(alloc, FlatExit::Jump(after), next)
+}
+
+/// The tests of an entry up to the first that is true. They leave the block of the entry's statements open, and give the one
+/// in which it goes on where none is true.
+fn entry_tests(
+    alloc: Global,
+    around: &Around<'_>,
+    draft: &mut Draft,
+    tests: &[ExprCore],
+) -> Result<u32, NoMemory> {
+    let body = draft.block(alloc)?;
+    let (first, others) = held(tests.split_first())?;
+    let mut last = value_of(alloc, around, draft, first)?;
+    for test in others {
+        last = next_test(alloc, around, draft, last, body, test)?;
+    }
+    let next = draft.block(alloc)?;
+    draft.end(alloc, test_exit(last, body, next), body)?;
+    Ok(next)
+}
+
+/// The next test of an entry, where the one before is false.
+fn next_test(
+    alloc: Global,
+    around: &Around<'_>,
+    draft: &mut Draft,
+    before: u32,
+    body: u32,
+    test: &ExprCore,
+) -> Result<u32, NoMemory> {
+    let next = draft.block(alloc)?;
+    draft.end(alloc, test_exit(before, body, next), next)?;
+    value_of(alloc, around, draft, test)
+}
+
+fn test_exit(test: u32, yes: u32, no: u32) -> FlatExit {
+    FlatExit::Branch { test, yes, no }
+}

@@ -1,0 +1,99 @@
+//! The statements that leave the body, or the innermost loop.
+
+use crate::around::Around;
+use crate::value::value_of;
+use sa_core::ExprCore;
+use sa_flat::{Draft, FlatExit, FlatStep, held};
+use sa_tree::{NoMemory, Pos};
+use std::alloc::Global;
+
+/// The forms of leaving a loop, by their numbers: always, and where the test is false. Else it is where the test is true.
+const BREAK: u8 = 0;
+
+const WHILE: u8 = 1;
+
+/// `return`
+pub(crate) fn leave_body(
+    alloc: Global,
+    around: &Around<'_>,
+    draft: &mut Draft,
+    e: &Option<ExprCore>,
+) -> Result<(), NoMemory> {
+    let value = match e {
+        Some(e) => Some(value_of(alloc, around, draft, e)?),
+        None => None,
+    };
+    draft.leave(alloc, FlatExit::Return { value })
+}
+
+/// `raise`: the value must not be void.
+pub(crate) fn raise(
+    alloc: Global,
+    around: &Around<'_>,
+    draft: &mut Draft,
+    e: &ExprCore,
+    pos: Pos,
+) -> Result<(), NoMemory> {
+    let value = value_of(alloc, around, draft, e)?;
+    let raised = around.ends.raised;
+    let fail = draft.fail(pos, raised)?;
+    draft.step(FlatStep::NotVoid { from: value, fail })?;
+    draft.step(FlatStep::Raising {
+        value,
+        place: fail.place,
+        to: raised,
+    })?;
+    draft.leave(alloc, FlatExit::Jump(raised.block))
+}
+
+/// A fault by its number.
+pub(crate) fn stop(
+    alloc: Global,
+    around: &Around<'_>,
+    draft: &mut Draft,
+    kind: u8,
+    pos: Pos,
+) -> Result<(), NoMemory> {
+    let fail = draft.fail(pos, around.ends.raised)?;
+    draft.leave(alloc, FlatExit::Stop { kind, fail })
+}
+
+/// Leaves the innermost loop: always, or by a test.
+pub(crate) fn leave_loop(
+    alloc: Global,
+    around: &Around<'_>,
+    draft: &mut Draft,
+    kind: u8,
+    test: &Option<ExprCore>,
+) -> Result<(), NoMemory> {
+    let after = after_loop(draft)?;
+    if kind == BREAK {
+        return draft.leave(alloc, FlatExit::Jump(after));
+    }
+    let test = held(test.as_ref())?;
+    let test = value_of(alloc, around, draft, test)?;
+    leave_by_test(alloc, draft, kind, test, after)
+}
+
+/// Leaves a loop where the test is false (`while!`), or where it is true (`until!`).
+fn leave_by_test(
+    alloc: Global,
+    draft: &mut Draft,
+    kind: u8,
+    test: u32,
+    after: u32,
+) -> Result<(), NoMemory> {
+    let next = draft.block(alloc)?;
+    let (yes, no) = if kind == WHILE {
+        (next, after)
+    } else {
+        (after, next)
+    };
+    draft.end(alloc, FlatExit::Branch { test, yes, no }, next)
+}
+
+/// The block behind the innermost loop.
+fn after_loop(draft: &Draft) -> Result<u32, NoMemory> {
+    let innermost = held(draft.loops.as_slice().last())?;
+    Ok(innermost.after)
+}

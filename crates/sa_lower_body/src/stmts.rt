@@ -1,0 +1,106 @@
+//! Lists of statements, and a statement by its form.
+
+use crate::around::{Around, not_lowered};
+use crate::entries::if_entries;
+use crate::leaving::{leave_body, leave_loop, raise, stop};
+use crate::looping::{begin_loop, end_loop};
+use crate::simple::{assign, perform};
+use crate::typecase::{no_arm_fits, typecase_arms};
+use sa_core::{Core, StmtCore};
+use sa_flat::{Draft, Ends, FlatExit, Placed};
+use sa_tree::NoMemory;
+use std::alloc::Global;
+
+/// Places statements of the feature with this number at the end of the open block, with these ends around them. The block
+/// that is open afterwards is the one behind them. A list of statements has no value.
+///
+/// The answer is NoMemory as well where a number of the tree is out of range, and for the forms of iters, bound values and
+/// protects, which aren't lowered.
+pub fn place_stmts(
+    alloc: Global,
+    core: &Core,
+    feature: u32,
+    list: &[StmtCore],
+    draft: &mut Draft,
+    ends: &Ends,
+) -> Result<Placed, NoMemory> {
+    let around = Around {
+        core,
+        feature,
+        ends,
+    };
+    let first = draft.open();
+    stmts(alloc, &around, draft, list)?;
+    Ok(Placed {
+        first,
+        last: draft.open(),
+        value: None,
+    })
+}
+
+/// Places statements one after the other.
+#[cycle(stmts)]
+pub(crate) fn stmts(
+    alloc: Global,
+    around: &Around<'_>,
+    draft: &mut Draft,
+    list: &[StmtCore],
+) -> Result<(), NoMemory> {
+    for s in list {
+        stmt(alloc, around, draft, s)?;
+    }
+    Ok(())
+}
+
+/// Places a statement.
+#[cycle(stmts)]
+fn stmt(
+    alloc: Global,
+    around: &Around<'_>,
+    draft: &mut Draft,
+    s: &StmtCore,
+) -> Result<(), NoMemory> {
+    match s {
+        StmtCore::If(entries, other) => {
+            let after = draft.block(alloc)?;
+            if_entries(alloc, around, draft, entries.as_slice(), after)?;
+            stmts(alloc, around, draft, other.as_slice())?;
+            draft.end(alloc, FlatExit::Jump(after), after)
+        }
+        StmtCore::Loop(number, body) => {
+            let blocks = begin_loop(alloc, draft, *number)?;
+            stmts(alloc, around, draft, body.as_slice())?;
+            end_loop(alloc, draft, blocks)
+        }
+        StmtCore::TypeCase(var, arms, other, pos) => {
+            let after = typecase_arms(alloc, around, draft, *var, arms.as_slice())?;
+            let Some(after) = after else {
+                return Ok(());
+            };
+            let Some(other) = other else {
+                return no_arm_fits(alloc, around, draft, *pos, after);
+            };
+            stmts(alloc, around, draft, other.as_slice())?;
+            draft.end(alloc, FlatExit::Jump(after), after)
+        }
+        _ => without_stmts(alloc, around, draft, s),
+    }
+}
+
+/// Places a statement that holds no others.
+fn without_stmts(
+    alloc: Global,
+    around: &Around<'_>,
+    draft: &mut Draft,
+    s: &StmtCore,
+) -> Result<(), NoMemory> {
+    match s {
+        StmtCore::Let(var, e) => assign(alloc, around, draft, *var, e),
+        StmtCore::Do(e) => perform(alloc, around, draft, e),
+        StmtCore::Leave(kind, test) => leave_loop(alloc, around, draft, *kind, test),
+        StmtCore::Return(e) => leave_body(alloc, around, draft, e),
+        StmtCore::Raise(e, pos) => raise(alloc, around, draft, e, *pos),
+        StmtCore::Stop(kind, pos) => stop(alloc, around, draft, *kind, *pos),
+        _ => Err(not_lowered()),
+    }
+}

@@ -1,0 +1,143 @@
+//! `typecase`: the first arm whose type holds the class of a variable's value. Where the variable's own type is immutable its
+//! value has that class, so the arm is known and placed alone.
+
+use crate::around::{Around, is_at_or_below, is_immutable, var_type};
+use crate::stmts::stmts;
+use sa_core::ArmCore;
+use sa_flat::{Draft, FlatExit, FlatStep};
+use sa_tree::{NoMemory, Pos};
+use std::alloc::Global;
+
+/// The fault of a typecase of which no arm fits.
+const NO_BRANCH: u8 = 5;
+
+/// The arms of a `typecase`. They leave the block open where none of them fits, and give the block behind the typecase; or
+/// None where the arm is known, and the block behind it is open.
+#[cycle(stmts)]
+pub(crate) fn typecase_arms(
+    alloc: Global,
+    around: &Around<'_>,
+    draft: &mut Draft,
+    var: u32,
+    arms: &[ArmCore],
+) -> Result<Option<u32>, NoMemory> {
+    draft.statement(false);
+    let ty = var_type(around, var)?;
+    if is_immutable(around.core, ty)? {
+        return known_arm(alloc, around, draft, var, ty, arms);
+    }
+    let after = draft.block(alloc)?;
+    tested_arms(alloc, around, draft, var, arms, after)?;
+    Ok(Some(after))
+}
+
+/// The first arm whose type holds an immutable type.
+#[cycle(stmts)]
+fn known_arm(
+    alloc: Global,
+    around: &Around<'_>,
+    draft: &mut Draft,
+    var: u32,
+    ty: u32,
+    arms: &[ArmCore],
+) -> Result<Option<u32>, NoMemory> {
+    for arm in arms {
+        if is_at_or_below(around.core, ty, arm.ty)? {
+            draft.step(FlatStep::Move {
+                to: arm.var,
+                from: var,
+            })?;
+            stmts(alloc, around, draft, arm.body.as_slice())?;
+            return Ok(None);
+        }
+    }
+    Ok(Some(draft.block(alloc)?))
+}
+
+/// The arms in order, each with the test of its type.
+#[cycle(stmts)]
+fn tested_arms(
+    alloc: Global,
+    around: &Around<'_>,
+    draft: &mut Draft,
+    var: u32,
+    arms: &[ArmCore],
+    after: u32,
+) -> Result<(), NoMemory> {
+    for arm in arms {
+        tested_arm(alloc, around, draft, var, arm, after)?;
+    }
+    Ok(())
+}
+
+/// An arm with the test of its type.
+#[cycle(stmts)]
+fn tested_arm(
+    alloc: Global,
+    around: &Around<'_>,
+    draft: &mut Draft,
+    var: u32,
+    arm: &ArmCore,
+    after: u32,
+) -> Result<(), NoMemory> {
+    let next = arm_test(alloc, draft, var, arm.ty)?;
+    take_arm(around, draft, var, arm)?;
+    stmts(alloc, around, draft, arm.body.as_slice())?;
+    draft.end(alloc, FlatExit::Jump(after), next)
+}
+
+/// Tests the class of a variable's value. The block where it fits is open then; the answer is the one where it doesn't.
+fn arm_test(alloc: Global, draft: &mut Draft, var: u32, ty: u32) -> Result<u32, NoMemory> {
+    draft.statement(false);
+    let test = draft.temporary()?;
+    draft.step(FlatStep::TypeIs {
+        to: test,
+        from: var,
+        ty,
+    })?;
+    let body = draft.block(alloc)?;
+    let next = draft.block(alloc)?;
+    let branch = FlatExit::Branch {
+        test,
+        yes: body,
+        no: next,
+    };
+    draft.end(alloc, branch, body)?;
+    Ok(next)
+}
+
+/// The tested value into the variable of an arm.
+fn take_arm(
+    around: &Around<'_>,
+    draft: &mut Draft,
+    var: u32,
+    arm: &ArmCore,
+) -> Result<(), NoMemory> {
+    if is_immutable(around.core, arm.ty)? {
+        return draft.step(FlatStep::Unwrap {
+            to: arm.var,
+            from: var,
+            ty: arm.ty,
+        });
+    }
+    draft.step(FlatStep::Move {
+        to: arm.var,
+        from: var,
+    })
+}
+
+/// A typecase without `else`: where no arm fits it is a fault.
+pub(crate) fn no_arm_fits(
+    alloc: Global,
+    around: &Around<'_>,
+    draft: &mut Draft,
+    pos: Pos,
+    after: u32,
+) -> Result<(), NoMemory> {
+    let fail = draft.fail(pos, around.ends.raised)?;
+    let exit = FlatExit::Stop {
+        kind: NO_BRANCH,
+        fail,
+    };
+    draft.end(alloc, exit, after)
+}

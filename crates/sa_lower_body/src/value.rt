@@ -1,0 +1,33 @@
+//! The expressions of statements.
+
+use crate::around::Around;
+use sa_core::ExprCore;
+use sa_flat::{Draft, held};
+use sa_lower_expr::{place_expr, writes};
+use sa_tree::NoMemory;
+use std::alloc::Global;
+
+/// Places the expression of a statement, or one of its tests, and gives the variable that holds its value, if it has one.
+/// What temporaries held before isn't read any more.
+pub(crate) fn evaluated(
+    alloc: Global,
+    around: &Around<'_>,
+    draft: &mut Draft,
+    e: &ExprCore,
+) -> Result<Option<u32>, NoMemory> {
+    draft.statement(writes(e));
+    let feature = Some(around.feature);
+    let placed = place_expr(alloc, around.core, feature, e, draft, around.ends)?;
+    Ok(placed.value)
+}
+
+/// The same of an expression that has a value.
+pub(crate) fn value_of(
+    alloc: Global,
+    around: &Around<'_>,
+    draft: &mut Draft,
+    e: &ExprCore,
+) -> Result<u32, NoMemory> {
+    let value = evaluated(alloc, around, draft, e)?;
+    held(value)
+}

@@ -1,0 +1,165 @@
+//! How the arguments of a call are passed. A variable that the call writes is passed itself, and the call copies back into
+//! it, unless more has to be done:
+//!
+//! - what an `out` argument gives has to be widened, which is a step behind the call;
+//! - an argument behind an `inout` one writes variables, so that the value at the place of the `inout` argument is kept.
+//!
+//! From the first such argument on each written one is passed in a temporary, so that copies back stay in their order.
+
+use crate::around::{Around, kind_of, not_lowered, var_type};
+use crate::copies::{CopyBack, formal_type};
+use crate::simple::copied;
+use crate::writing::written_up_to;
+use sa_core::{ArgCore, CalledCore};
+use sa_flat::{Draft, FlatArg, held};
+use sa_tree::{Kind, Mode, NoMemory};
+use sqlite_items::Items;
+use std::alloc::Global;
+
+/// The arguments of a call so far.
+#[derive(Drop)]
+pub(crate) struct Passed {
+    pub args: Items<FlatArg>,
+    /// What has to be done behind the call, in this order.
+    pub copies: Items<CopyBack>,
+    /// The place of the first argument from which on the written ones are passed in temporaries.
+    temporaries_from: usize,
+}
+
+impl Passed {
+    /// No arguments so far, of a call that writes none.
+    pub fn of_values(alloc: Global) -> Passed {
+        Passed {
+            args: Items::new(alloc),
+            copies: Items::new(alloc),
+            temporaries_from: 0,
+        }
+    }
+}
+
+/// No arguments so far, of a call that will have these.
+pub(crate) fn none_passed(
+    alloc: Global,
+    around: &Around<'_>,
+    draft: &Draft,
+    called: CalledCore,
+    args: &[ArgCore],
+) -> Result<Passed, NoMemory> {
+    Ok(Passed {
+        args: Items::new(alloc),
+        copies: Items::new(alloc),
+        temporaries_from: temporaries_from(around, draft, called, args)?,
+    })
+}
+
+/// The place of the first argument from which on the written ones are passed in temporaries, or the number of arguments.
+fn temporaries_from(
+    around: &Around<'_>,
+    draft: &Draft,
+    called: CalledCore,
+    args: &[ArgCore],
+) -> Result<usize, NoMemory> {
+    if !draft.writes() {
+        return Ok(args.len());
+    }
+    let written = written_up_to(args);
+    for (place, arg) in args.iter().enumerate() {
+        if needs_temporary(around, called, place, arg, written)? {
+            return Ok(place);
+        }
+    }
+    Ok(args.len())
+}
+
+/// Whether an argument can't be passed as the variable that it names. The evaluation of the first `written` arguments
+/// writes variables.
+fn needs_temporary(
+    around: &Around<'_>,
+    called: CalledCore,
+    place: usize,
+    arg: &ArgCore,
+    written: usize,
+) -> Result<bool, NoMemory> {
+    match arg {
+        ArgCore::Variable(Mode::Out, var) => Ok(widening(around, called, place, *var)?.is_some()),
+        ArgCore::Variable(_, _) => Ok(place < written),
+        ArgCore::Value(_, _) => Ok(false),
+        ArgCore::Left => Err(not_lowered()),
+    }
+}
+
+/// The number of the immutable type from which what an `out` argument gives is widened into its variable, if it is.
+fn widening(
+    around: &Around<'_>,
+    called: CalledCore,
+    place: usize,
+    var: u32,
+) -> Result<Option<u32>, NoMemory> {
+    let core = around.core;
+    let feature = held(around.feature)?;
+    let own = var_type(core, feature, var as usize)?;
+    if kind_of(core, own)? != Kind::Abstract {
+        return Ok(None);
+    }
+    let Some(ty) = formal_type(core, called, place)? else {
+        return Ok(None);
+    };
+    if kind_of(core, ty)? != Kind::Immutable {
+        return Ok(None);
+    }
+    Ok(Some(ty))
+}
+
+/// Passes a value.
+pub(crate) fn pass_value(passed: &mut Passed, mode: Mode, value: u32) -> Result<(), NoMemory> {
+    passed.args.push(FlatArg {
+        mode,
+        var: Some(value),
+    })?;
+    Ok(())
+}
+
+/// Passes a variable that the call writes.
+pub(crate) fn pass_variable(
+    around: &Around<'_>,
+    draft: &mut Draft,
+    called: CalledCore,
+    passed: &mut Passed,
+    mode: Mode,
+    var: u32,
+) -> Result<(), NoMemory> {
+    let place = passed.args.len();
+    if place < passed.temporaries_from {
+        return pass_value(passed, mode, var);
+    }
+    let copy = match mode {
+        Mode::Out => out_copy(around, draft, called, place, var)?,
+        _ => inout_copy(draft, var)?,
+    };
+    passed.copies.push(copy)?;
+    pass_value(passed, mode, copy.from)
+}
+
+/// An `out` argument in a temporary.
+fn out_copy(
+    around: &Around<'_>,
+    draft: &mut Draft,
+    called: CalledCore,
+    place: usize,
+    var: u32,
+) -> Result<CopyBack, NoMemory> {
+    Ok(CopyBack {
+        to: var,
+        from: draft.temporary()?,
+        widened: widening(around, called, place, var)?,
+    })
+}
+
+/// An `inout` argument in a temporary, with the value that the variable has at this place.
+fn inout_copy(draft: &mut Draft, var: u32) -> Result<CopyBack, NoMemory> {
+    Ok(CopyBack {
+        to: var,
+        from: copied(draft, var)?,
+        widened: None,
+    })
+}
