@@ -1,0 +1,20 @@
+//! The features of `CHAR` beside comparisons.
+
+use crate::answers::{GIVE_ADDRESS, GIVE_WORD};
+use crate::locals::{MADE, SELF, SIZE};
+use crate::parts::Op::{Get, I32, Memory, Set};
+use crate::parts::Part::{self, Line};
+use crate::texts::MAKE_TEXT;
+use wa_syntax::opcode::I64_STORE8;
+
+/// `CHAR.int`.
+pub const INT: &[Part] = &[Line(&[Get(SELF)]), GIVE_WORD];
+
+/// `CHAR.str`.
+pub const STR: &[Part] = &[
+    Line(&[I32(1), Set(SIZE)]),
+    MAKE_TEXT,
+    Line(&[Get(MADE), Get(SELF), Memory(I64_STORE8, 8)]),
+    Line(&[Get(MADE)]),
+    GIVE_ADDRESS,
+];

@@ -1,0 +1,65 @@
+//! The arithmetic of `INT` and its operations on bits. No sum, difference or product of two words of `INT` wraps in 64 bits.
+
+use crate::answers::{DIV_ZERO_IF, GIVE_WORD, OVERFLOW_IF};
+use crate::layout::RESULT;
+use crate::locals::{FIRST, SELF};
+use crate::operations::TO_ADDRESS;
+use crate::parts::Op::{Do, Get, I64, SetGlobal, Tee};
+use crate::parts::Part::{self, Line, Sequence};
+use wa_syntax::opcode::{
+    I64_ADD, I64_AND, I64_DIV_S, I64_EQZ, I64_EXTEND_I32_S, I64_GT_U, I64_MUL, I64_NE, I64_OR,
+    I64_REM_S, I64_SUB, I64_XOR,
+};
+
+/// Ends a feature that gives this number, or by `overflow` where it isn't the extension of its low half: the comparison is
+/// the status, since `overflow` has the number 1.
+const GIVE_IN_RANGE: Part = Sequence(&[
+    Line(&[Tee(SELF), SetGlobal(RESULT)]),
+    Line(&[Get(SELF), TO_ADDRESS, Do(I64_EXTEND_I32_S)]),
+    Line(&[Get(SELF), Do(I64_NE)]),
+]);
+
+/// `INT.plus`.
+pub const PLUS: &[Part] = &[Line(&[Get(SELF), Get(FIRST), Do(I64_ADD)]), GIVE_IN_RANGE];
+
+/// `INT.minus`.
+pub const MINUS: &[Part] = &[Line(&[Get(SELF), Get(FIRST), Do(I64_SUB)]), GIVE_IN_RANGE];
+
+/// `INT.times`.
+pub const TIMES: &[Part] = &[Line(&[Get(SELF), Get(FIRST), Do(I64_MUL)]), GIVE_IN_RANGE];
+
+/// `INT.negate`.
+pub const NEGATE: &[Part] = &[Line(&[I64(0), Get(SELF), Do(I64_SUB)]), GIVE_IN_RANGE];
+
+/// `INT.div`, which rounds towards zero. The quotient of the least number by -1 is out of range.
+pub const DIV: &[Part] = &[
+    Line(&[Get(FIRST), Do(I64_EQZ)]),
+    DIV_ZERO_IF,
+    Line(&[Get(SELF), Get(FIRST), Do(I64_DIV_S)]),
+    GIVE_IN_RANGE,
+];
+
+/// `INT.mod`, which has the sign of `self`.
+pub const MOD: &[Part] = &[
+    Line(&[Get(FIRST), Do(I64_EQZ)]),
+    DIV_ZERO_IF,
+    Line(&[Get(SELF), Get(FIRST), Do(I64_REM_S)]),
+    GIVE_WORD,
+];
+
+/// `INT.band`.
+pub const BAND: &[Part] = &[Line(&[Get(SELF), Get(FIRST), Do(I64_AND)]), GIVE_WORD];
+
+/// `INT.bor`.
+pub const BOR: &[Part] = &[Line(&[Get(SELF), Get(FIRST), Do(I64_OR)]), GIVE_WORD];
+
+/// `INT.bxor`.
+pub const BXOR: &[Part] = &[Line(&[Get(SELF), Get(FIRST), Do(I64_XOR)]), GIVE_WORD];
+
+/// `INT.char`. As a number without sign a negative word is greater than 255.
+pub const CHAR: &[Part] = &[
+    Line(&[Get(SELF), I64(255), Do(I64_GT_U)]),
+    OVERFLOW_IF,
+    Line(&[Get(SELF)]),
+    GIVE_WORD,
+];

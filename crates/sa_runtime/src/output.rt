@@ -1,0 +1,51 @@
+//! What is written and read: the features of `OUT` and `IN`, beside decimal digits.
+
+use crate::answers::{DONE, GIVE_WORD};
+use crate::copying::{
+    BYTE_IS_DONE, LEAVE_WITHOUT_BYTE, LEAVE_WITHOUT_WORD, READ_BYTE_ON, READ_WORD_ON, WORD_IS_DONE,
+};
+use crate::layout;
+use crate::locals::{FIRST, FROM, LEFT};
+use crate::operations::{LOAD_COUNT, TO_ADDRESS};
+use crate::parts::Op::{Br, Call, Do, Get, Memory, Set, Tee};
+use crate::parts::Part::{self, Block, Line, Loop, Sequence};
+use wa_syntax::opcode::{I32_LOAD8_U, I64_EXTEND_I32_S};
+
+/// Writes 8 bytes.
+const PUT_EIGHT: Part = Sequence(&[
+    Line(&[Get(FROM), Memory(I32_LOAD8_U, 8), Call(layout::PUT)]),
+    Line(&[Get(FROM), Memory(I32_LOAD8_U, 9), Call(layout::PUT)]),
+    Line(&[Get(FROM), Memory(I32_LOAD8_U, 10), Call(layout::PUT)]),
+    Line(&[Get(FROM), Memory(I32_LOAD8_U, 11), Call(layout::PUT)]),
+    Line(&[Get(FROM), Memory(I32_LOAD8_U, 12), Call(layout::PUT)]),
+    Line(&[Get(FROM), Memory(I32_LOAD8_U, 13), Call(layout::PUT)]),
+    Line(&[Get(FROM), Memory(I32_LOAD8_U, 14), Call(layout::PUT)]),
+    Line(&[Get(FROM), Memory(I32_LOAD8_U, 15), Call(layout::PUT)]),
+]);
+
+/// `OUT.put`.
+pub const PUT: &[Part] = &[
+    Line(&[Get(FIRST), TO_ADDRESS, Tee(FROM)]),
+    Line(&[LOAD_COUNT, Set(LEFT)]),
+    Block(&[Loop(&[
+        LEAVE_WITHOUT_WORD,
+        PUT_EIGHT,
+        READ_WORD_ON,
+        WORD_IS_DONE,
+        Line(&[Br(0)]),
+    ])]),
+    Block(&[Loop(&[
+        LEAVE_WITHOUT_BYTE,
+        Line(&[Get(FROM), Memory(I32_LOAD8_U, 8), Call(layout::PUT)]),
+        READ_BYTE_ON,
+        BYTE_IS_DONE,
+        Line(&[Br(0)]),
+    ])]),
+    DONE,
+];
+
+/// `OUT.put_char`.
+pub const PUT_CHAR: &[Part] = &[Line(&[Get(FIRST), TO_ADDRESS, Call(layout::PUT)]), DONE];
+
+/// `IN.get_byte`.
+pub const GET_BYTE: &[Part] = &[Line(&[Call(layout::GET), Do(I64_EXTEND_I32_S)]), GIVE_WORD];

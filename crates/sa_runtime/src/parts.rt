@@ -1,0 +1,164 @@
+//! How the functions of this crate are written down, and how they become functions of a module.
+
+ghost use Rattle.std.specs.Prelude.{◌≡◌, length, IfOk};
+
+use crate::signatures::Signature;
+use sqlite_items::Items;
+use std::alloc::Global;
+use wa_syntax::{Func, FuncTy, Instr, Locals, NoMemory, ValTy};
+
+/// An instruction that holds no others.
+#[derive(Clone, Copy)]
+pub enum Op {
+    /// An instruction that is its opcode alone.
+    Do(u8),
+    /// Reads a local.
+    Get(u32),
+    /// Writes a local.
+    Set(u32),
+    /// Writes a local and keeps the operand.
+    Tee(u32),
+    /// Reads a global.
+    GetGlobal(u32),
+    /// Writes a global.
+    SetGlobal(u32),
+    /// A constant of 32 bits.
+    I32(u32),
+    /// A constant of 64 bits.
+    I64(u64),
+    /// A load or a store by its opcode, with its offset in bytes. It promises no alignment.
+    Memory(u8, u32),
+    /// A call of a function.
+    Call(u32),
+    /// A branch to a label.
+    Br(u32),
+    /// A branch to a label where the operand isn't 0.
+    BrIf(u32),
+}
+
+/// A part of the body of a function.
+#[derive(Clone, Copy)]
+pub enum Part {
+    /// Instructions one after the other.
+    Line(&'static [Op]),
+    /// Parts one after the other.
+    Sequence(&'static [Part]),
+    /// Parts whose label is their end.
+    Block(&'static [Part]),
+    /// Parts whose label is their beginning.
+    Loop(&'static [Part]),
+    /// What is done where the operand isn't 0. Its label is its end.
+    If(&'static [Part]),
+}
+
+/// The locals behind the parameters of a function: so many of the type `i64`, and then so many of the type `i32`.
+#[derive(Clone, Copy)]
+pub struct Working(pub u32, pub u32);
+
+/// A function: the place of its type in a table of types, its locals, and its body.
+#[derive(Clone, Copy)]
+pub struct Function(pub u32, pub Working, pub &'static [Part]);
+
+/// The functions, in order.
+pub fn functions(alloc: Global, list: &[Function]) -> Result<Items<Func>, NoMemory>
+    ensures { IfOk result (λ funcs. length funcs ≡ length list.now) }
+{
+    let mut funcs = Items::new(alloc);
+    for function in list {
+        funcs.push(func(alloc, function)?)?;
+    }
+    Ok(funcs)
+}
+
+/// The function.
+fn func(alloc: Global, function: &Function) -> Result<Func, NoMemory> {
+    Ok(Func {
+        ty: function.0,
+        locals: locals(alloc, function.1)?,
+        body: instructions(alloc, function.2)?,
+    })
+}
+
+/// The locals.
+fn locals(alloc: Global, working: Working) -> Result<Locals, NoMemory> {
+    let mut locals = Locals::new(alloc);
+    locals.push(working.0, ValTy::I64)?;
+    locals.push(working.1, ValTy::I32)?;
+    Ok(locals)
+}
+
+/// The types of functions, in order.
+pub fn types(alloc: Global, list: &[Signature]) -> Result<Items<FuncTy>, NoMemory> {
+    let mut types = Items::new(alloc);
+    for signature in list {
+        types.push(FuncTy {
+            params: Items::from_slice(alloc, signature.params)?,
+            results: Items::from_slice(alloc, signature.results)?,
+        })?;
+    }
+    Ok(types)
+}
+
+/// The instructions of these parts.
+#[cycle(parts)]
+pub fn instructions(alloc: Global, parts: &[Part]) -> Result<Items<Instr>, NoMemory> {
+    let mut body = Items::new(alloc);
+    add_parts(alloc, parts, &mut body)?;
+    Ok(body)
+}
+
+/// Adds the instructions of these parts.
+#[cycle(parts)]
+pub fn add_parts(alloc: Global, parts: &[Part], to: &mut Items<Instr>) -> Result<(), NoMemory> {
+    for part in parts {
+        add_part(alloc, part, to)?;
+    }
+    Ok(())
+}
+
+/// Adds the instructions of this part.
+#[cycle(parts)]
+fn add_part(alloc: Global, part: &Part, to: &mut Items<Instr>) -> Result<(), NoMemory> {
+    match part {
+        Part::Line(ops) => add_line(ops, to),
+        Part::Sequence(parts) => add_parts(alloc, parts, to),
+        Part::Block(parts) => {
+            let body = instructions(alloc, parts)?;
+            Ok(to.push(Instr::Block(None, body))?)
+        }
+        Part::Loop(parts) => {
+            let body = instructions(alloc, parts)?;
+            Ok(to.push(Instr::Loop(None, body))?)
+        }
+        Part::If(parts) => {
+            let body = instructions(alloc, parts)?;
+            Ok(to.push(Instr::If(None, body, Items::new(alloc)))?)
+        }
+    }
+}
+
+/// Adds these instructions.
+pub fn add_line(ops: &[Op], to: &mut Items<Instr>) -> Result<(), NoMemory> {
+    for op in ops {
+        to.push(instruction(*op))?;
+    }
+    Ok(())
+}
+
+/// The instruction.
+fn instruction(op: Op) -> Instr {
+    match op {
+        Op::Do(opcode) => Instr::Plain(opcode),
+        Op::Get(local) => Instr::LocalGet(local),
+        Op::Set(local) => Instr::LocalSet(local),
+        Op::Tee(local) => Instr::LocalTee(local),
+        Op::GetGlobal(global) => Instr::GlobalGet(global),
+        Op::SetGlobal(global) => Instr::GlobalSet(global),
+        Op::I32(bits) => Instr::I32Const(bits),
+        Op::I64(bits) => Instr::I64Const(bits),
+        Op::Memory(opcode, offset) => Instr::Memory(opcode, 0, offset),
+        Op::Call(func) => Instr::Call(func),
+        Op::Br(label) => Instr::Br(label),
+        Op::BrIf(label) => Instr::BrIf(label),
+    }
+}

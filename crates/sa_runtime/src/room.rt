@@ -1,0 +1,47 @@
+//! The memory of objects: they are handed out one after the other, up to the end of the room, and never taken back.
+
+use crate::layout::NEXT_OBJECT;
+use crate::operations::{TO_ADDRESS, TO_WORD};
+use crate::parts::Op::{self, Do, Get, GetGlobal, I32, Memory, SetGlobal, Tee};
+use crate::parts::Part::{self, If, Line};
+use crate::parts::{add_line, add_parts};
+use crate::signatures::BINARY;
+use sqlite_items::Items;
+use std::alloc::Global;
+use wa_syntax::opcode::{I64_ADD, I64_GT_U, I64_STORE, RETURN};
+use wa_syntax::{Func, Locals, NoMemory};
+
+/// The parameter with the header of the object.
+const HEADER: u32 = 0;
+
+/// The parameter with how many bytes the object has, and then the address behind the object.
+const END: u32 = 1;
+
+/// Answers 0 where the operand isn't 0; else stores the header, and answers the object's address.
+const HAND_OUT: &[Part] = &[
+    If(&[Line(&[I32(0), Do(RETURN)])]),
+    Line(&[GetGlobal(NEXT_OBJECT), Get(HEADER)]),
+    Line(&[Memory(I64_STORE, 0), GetGlobal(NEXT_OBJECT)]),
+    Line(&[Get(END), TO_ADDRESS, SetGlobal(NEXT_OBJECT)]),
+];
+
+/// `ALLOCATE`, where the room ends at this address. No object is so large that the address behind it wraps in 64 bits.
+pub fn allocate(alloc: Global, room_end: u64) -> Result<Func, NoMemory> {
+    let mut body = Items::new(alloc);
+    let object_end = [
+        GetGlobal(NEXT_OBJECT),
+        TO_WORD,
+        Get(END),
+        Do(I64_ADD),
+        Tee(END),
+    ];
+    add_line(&object_end, &mut body)?;
+    let passes_room = [Op::I64(room_end), Do(I64_GT_U)];
+    add_line(&passes_room, &mut body)?;
+    add_parts(alloc, HAND_OUT, &mut body)?;
+    Ok(Func {
+        ty: BINARY,
+        locals: Locals::new(alloc),
+        body,
+    })
+}

@@ -1,0 +1,41 @@
+//! The functions of a module that this crate gives, with their types.
+
+ghost use Rattle.std.specs.Prelude.{◌≡◌, length, IfOk};
+
+use crate::builtins::{BUILTINS, SUPPORT};
+use crate::parts::{functions, types};
+use crate::room::allocate;
+use crate::signatures::{BUILTIN_TYPES, SUPPORT_TYPES};
+use sqlite_items::Items;
+use std::alloc::Global;
+use wa_syntax::{Func, FuncTy, NoMemory};
+
+/// Functions and their types. The number of a function's type is its place in these types; calls and globals have the numbers
+/// that `layout` gives.
+#[derive(Drop)]
+pub struct RuntimeCode {
+    pub types: Items<FuncTy>,
+    pub funcs: Items<Func>,
+}
+
+/// The functions of the 33 built-in features in the order of their numbers, and then `ALLOCATE`. Objects lie from the address
+/// `base` on, a multiple of 8 up to 2,147,483,648, in a room of so many KiB, from 64 to 1,048,576. Fails where memory runs out.
+pub fn code(alloc: Global, base: u32, room: u32) -> Result<RuntimeCode, NoMemory>
+    ensures { IfOk result (λ code. length code.funcs ≡ 34) }
+{
+    let types = types(alloc, &BUILTIN_TYPES)?;
+    let mut funcs = functions(alloc, &BUILTINS)?;
+    let room_end = u64::from(base) + 1024 * u64::from(room);
+    funcs.push(allocate(alloc, room_end)?)?;
+    Ok(RuntimeCode { types, funcs })
+}
+
+/// The functions `FAULT`, `CHANGED`, `WIDENED`, `BOXED` and `UNWRAPPED`, in this order. Fails where memory runs out.
+pub fn support(alloc: Global) -> Result<RuntimeCode, NoMemory>
+    ensures { IfOk result (λ code. length code.funcs ≡ 5) }
+{
+    Ok(RuntimeCode {
+        types: types(alloc, &SUPPORT_TYPES)?,
+        funcs: functions(alloc, &SUPPORT)?,
+    })
+}

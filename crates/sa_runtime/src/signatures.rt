@@ -1,0 +1,80 @@
+//! The types of the functions.
+
+use wa_syntax::ValTy::{self, I32, I64};
+
+/// The type of a function.
+#[derive(Clone, Copy)]
+pub struct Signature {
+    pub params: &'static [ValTy],
+    pub results: &'static [ValTy],
+}
+
+/// The types of the built-in features and of `ALLOCATE`. A feature takes `self` and its arguments, and answers a status.
+pub const BUILTIN_TYPES: [Signature; 6] = [
+    Signature {
+        params: &[I64],
+        results: &[I32],
+    },
+    Signature {
+        params: &[I64, I64],
+        results: &[I32],
+    },
+    Signature {
+        params: &[I64, I64, I64],
+        results: &[I32],
+    },
+    Signature {
+        params: &[I64, I64, I32],
+        results: &[I32],
+    },
+    Signature {
+        params: &[I64, I64, I64, I32],
+        results: &[I32],
+    },
+    Signature {
+        params: &[I64, I64, I32, I32],
+        results: &[I32],
+    },
+];
+
+/// The type of a feature without arguments.
+pub const UNARY: u32 = 0;
+
+/// The type of a feature with one argument, and of `ALLOCATE`.
+pub const BINARY: u32 = 1;
+
+/// The type of a feature with two arguments.
+pub const TERNARY: u32 = 2;
+
+/// The type of a feature with one argument that is told where the elements of an array begin.
+pub const BINARY_ON_ARRAY: u32 = 3;
+
+/// The type of a feature with two arguments that is told where the elements of an array begin.
+pub const TERNARY_ON_ARRAY: u32 = 4;
+
+/// The type of a feature with one argument that is told the type of an array and where its elements begin.
+pub const MAKES_ARRAY: u32 = 5;
+
+/// The types of `FAULT`, `CHANGED`, `WIDENED`, `BOXED` and `UNWRAPPED`, in this order.
+pub const SUPPORT_TYPES: [Signature; 5] = [
+    Signature {
+        params: &[I32, I32, I32],
+        results: &[],
+    },
+    Signature {
+        params: &[I64, I64, I32, I32, I32],
+        results: &[I32],
+    },
+    Signature {
+        params: &[I64, I32, I32],
+        results: &[I32],
+    },
+    Signature {
+        params: &[I64, I32],
+        results: &[I32],
+    },
+    Signature {
+        params: &[I64, I32],
+        results: &[I64],
+    },
+];
