@@ -1,0 +1,174 @@
+//! The area of memory through which a call hands its receiver and arguments to a body, and the body hands them back.
+
+use crate::around::{ME, held, local_of};
+use crate::line::{Op, add_line};
+use sa_flat::{CallPlan, FlatArg, FlatBody, FlatFormal};
+use sa_runtime::layout::{FIRST_ARGUMENT_AT, RESULT, SELF_AT};
+use sa_tree::Mode;
+use sqlite_items::Items;
+use std::alloc::Global;
+use wa_syntax::opcode::{I64_LOAD, I64_STORE};
+use wa_syntax::{Instr, NoMemory};
+
+/// How many arguments the area has room for.
+const ARGUMENTS: usize = 200;
+
+/// Adds what stores the receiver and the arguments that a call hands down.
+pub fn add_arguments(
+    code: &mut Items<Instr>,
+    body: &FlatBody,
+    plan: &CallPlan,
+) -> Result<(), NoMemory> {
+    add_store(code, SELF_AT, local_of(body, plan.recv))?;
+    for (place, arg) in plan.args.as_slice().iter().enumerate() {
+        add_argument(code, body, place, arg)?;
+    }
+    Ok(())
+}
+
+fn add_argument(
+    code: &mut Items<Instr>,
+    body: &FlatBody,
+    place: usize,
+    arg: &FlatArg,
+) -> Result<(), NoMemory> {
+    if !is_handed_down(arg.mode) {
+        return Ok(());
+    }
+    let var = held(arg.var)?;
+    add_store(code, argument_at(place)?, local_of(body, var))
+}
+
+/// Adds what takes the result of a call and then what is copied back, in order.
+pub fn add_answers(
+    code: &mut Items<Instr>,
+    body: &FlatBody,
+    plan: &CallPlan,
+) -> Result<(), NoMemory> {
+    add_result(code, body, plan.value)?;
+    for (place, arg) in plan.args.as_slice().iter().enumerate() {
+        add_answer(code, body, place, arg)?;
+    }
+    Ok(())
+}
+
+fn add_answer(
+    code: &mut Items<Instr>,
+    body: &FlatBody,
+    place: usize,
+    arg: &FlatArg,
+) -> Result<(), NoMemory> {
+    if !is_copied_back(arg.mode) {
+        return Ok(());
+    }
+    let var = held(arg.var)?;
+    add_load(code, argument_at(place)?, local_of(body, var))
+}
+
+/// Adds what takes the result of a call, where it is wanted.
+pub fn add_result(
+    code: &mut Items<Instr>,
+    body: &FlatBody,
+    value: Option<u32>,
+) -> Result<(), NoMemory> {
+    match value {
+        Some(var) => add_line(code, &[Op::Global(RESULT), Op::Set(local_of(body, var))]),
+        None => Ok(()),
+    }
+}
+
+/// Adds what a body begins with: its own object and its arguments, out of the area.
+///
+/// # Errors
+///
+/// `NoMemory`, also where the body has more arguments than the area has room for.
+pub fn add_prologue(
+    _alloc: Global,
+    code: &mut Items<Instr>,
+    body: &FlatBody,
+) -> Result<(), NoMemory> {
+    add_load(code, SELF_AT, ME)?;
+    for (place, formal) in body.formals.as_slice().iter().enumerate() {
+        add_formal(code, body, place, formal)?;
+    }
+    Ok(())
+}
+
+fn add_formal(
+    code: &mut Items<Instr>,
+    body: &FlatBody,
+    place: usize,
+    formal: &FlatFormal,
+) -> Result<(), NoMemory> {
+    if !is_handed_down(formal.mode) {
+        return Ok(());
+    }
+    let at = argument_at(place)?;
+    add_load(code, at, formal_local(body, place)?)
+}
+
+/// Adds what a body hands back of its arguments, into the area.
+pub fn add_copies_back(code: &mut Items<Instr>, body: &FlatBody) -> Result<(), NoMemory> {
+    for (place, formal) in body.formals.as_slice().iter().enumerate() {
+        add_copy_back(code, body, place, formal)?;
+    }
+    Ok(())
+}
+
+fn add_copy_back(
+    code: &mut Items<Instr>,
+    body: &FlatBody,
+    place: usize,
+    formal: &FlatFormal,
+) -> Result<(), NoMemory> {
+    if !is_copied_back(formal.mode) {
+        return Ok(());
+    }
+    let at = argument_at(place)?;
+    add_store(code, at, formal_local(body, place)?)
+}
+
+/// Adds what stores a local at an address.
+pub fn add_store(code: &mut Items<Instr>, at: u32, local: u32) -> Result<(), NoMemory> {
+    add_line(
+        code,
+        &[Op::I32(0), Op::Get(local), Op::Memory(I64_STORE, at)],
+    )
+}
+
+/// Adds what loads a local from an address.
+pub fn add_load(code: &mut Items<Instr>, at: u32, local: u32) -> Result<(), NoMemory> {
+    add_line(
+        code,
+        &[Op::I32(0), Op::Memory(I64_LOAD, at), Op::Set(local)],
+    )
+}
+
+/// The local with an argument of the body.
+fn formal_local(body: &FlatBody, place: usize) -> Result<u32, NoMemory> {
+    let var = held(u32::try_from(place).ok())?;
+    Ok(local_of(body, var))
+}
+
+/// The address of an argument.
+fn argument_at(place: usize) -> Result<u32, NoMemory> {
+    if place >= ARGUMENTS {
+        return Err(too_many());
+    }
+    Ok(FIRST_ARGUMENT_AT + 8 * place as u32)
+}
+
+/// The answer for an argument that the area has no room for. A feature has no more variables than that.
+fn too_many() -> NoMemory {
+    NoMemory
+}
+
+/// Whether a call hands the argument's value to the body.
+fn is_handed_down(mode: Mode) -> bool {
+    !matches!(mode, Mode::Out)
+}
+
+/// Whether the argument's value goes back to the variable of the call.
+fn is_copied_back(mode: Mode) -> bool {
+    matches!(mode, Mode::Out | Mode::Inout)
+}

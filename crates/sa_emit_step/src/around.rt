@@ -1,0 +1,127 @@
+//! What stands around a step: the program, the body, and the locals of the body's function.
+//!
+//! A body's function takes the depth of its activation and its frame, and answers a status. Its other locals are three of 32
+//! bits, its own object, a word for values that are not kept, and the variables of the body.
+
+use crate::below::Below;
+use sa_dispatch::Rows;
+use sa_flat::{FlatBody, FlatProgram};
+use std::alloc::Global;
+use wa_syntax::{Locals, NoMemory, ValTy};
+
+/// The parameter with the depth of the activation.
+pub const DEPTH: u32 = 0;
+
+/// The local with the number of the head that comes next.
+pub const BLOCK: u32 = 2;
+
+/// The local with the status that a call answered.
+pub const STATUS: u32 = 3;
+
+/// The local for an address or the number of a type.
+pub const ADDRESS: u32 = 4;
+
+/// The local with the body's own object.
+pub const ME: u32 = 5;
+
+/// The local for a value that nothing reads.
+pub const WORD: u32 = 6;
+
+/// The local with the variable 0. The other variables follow, then the temporaries.
+pub const FIRST_VARIABLE: u32 = 7;
+
+/// How many of the locals are of 32 bits and no parameters.
+const ADDRESSES: u32 = 3;
+
+/// How many of the locals are words and no variables.
+const WORDS: u32 = 2;
+
+/// The number of the first temporary among the variables of a body.
+const FIRST_TEMPORARY: u32 = 200;
+
+/// The number of the type that the function of each body has, behind those of the three imported functions.
+pub const BODY_TYPE: u32 = 3;
+
+/// What stands in place of a head's number for a block that the dispatch doesn't know.
+pub const NOT_A_HEAD: u32 = u32::MAX;
+
+/// What a body was made for.
+#[derive(Clone, Copy)]
+pub enum Role {
+    /// A feature.
+    Feature,
+    /// An implementation of a signature alone. It hands its faults on to its caller.
+    Target,
+    /// The initialisers of the shareds and the call of `main`.
+    Last,
+}
+
+/// What stands around a step.
+#[derive(Clone, Copy)]
+pub struct Around<'a> {
+    pub flat: &'a FlatProgram,
+    pub rows: &'a Rows,
+    /// The body that the step stands in.
+    pub body: &'a FlatBody,
+    pub role: Role,
+    /// The address of each text.
+    pub texts: &'a [u32],
+    pub below: &'a Below,
+    /// For each block of the body its number in the dispatch, or `NOT_A_HEAD`.
+    pub heads: &'a [u32],
+}
+
+impl Around<'_> {
+    /// The local with a variable of the body.
+    pub fn local(&self, var: u32) -> u32 {
+        local_of(self.body, var)
+    }
+
+    /// The local that gets a value: that of the variable, or one that nothing reads.
+    pub fn receiving(&self, var: Option<u32>) -> u32 {
+        match var {
+            Some(var) => local_of(self.body, var),
+            None => WORD,
+        }
+    }
+
+    /// The number of attributes of a type.
+    pub fn attributes(&self, ty: u32) -> Result<u32, NoMemory> {
+        held(self.flat.types.get(ty as usize).copied())
+    }
+}
+
+/// The local with a variable of the body.
+pub fn local_of(body: &FlatBody, var: u32) -> u32 {
+    if var < FIRST_TEMPORARY {
+        return FIRST_VARIABLE + var;
+    }
+    (var - FIRST_TEMPORARY)
+        .saturating_add(body.own)
+        .saturating_add(FIRST_VARIABLE)
+}
+
+/// The locals of the function of the body.
+///
+/// # Errors
+///
+/// `NoMemory`, also where 32 bits don't hold their number.
+pub fn locals_of(alloc: Global, body: &FlatBody) -> Result<Locals, NoMemory> {
+    let temporaries = body.temporaries.saturating_sub(FIRST_TEMPORARY);
+    let variables = held(body.own.checked_add(temporaries))?;
+    let words = held(variables.checked_add(WORDS))?;
+    let mut locals = Locals::new(alloc);
+    locals.push(ADDRESSES, ValTy::I32)?;
+    locals.push(words, ValTy::I64)?;
+    Ok(locals)
+}
+
+/// What is there by the way that the flat program was made. Where it isn't, memory is said to have run out.
+pub fn held<T>(found: Option<T>) -> Result<T, NoMemory> {
+    found.ok_or(NoMemory)
+}
+
+/// The answer for steps of iters and of bound values, for which there are no instructions yet.
+pub fn not_emitted() -> NoMemory {
+    NoMemory
+}

@@ -1,0 +1,153 @@
+//! Attributes and shareds.
+
+use crate::area::{add_load, add_result, add_store};
+use crate::around::{Around, STATUS, held};
+use crate::builtins::argument;
+use crate::failing::{add_fail_if, add_void_test};
+use crate::line::{Op, add_line};
+use sa_flat::CallPlan;
+use sa_runtime::layout::{CHANGED, SHAREDS_AT, attribute_at};
+use sa_tree::Kind;
+use sqlite_items::Items;
+use std::alloc::Global;
+use wa_syntax::opcode::{I32_WRAP_I64, I64_EQZ, I64_LOAD, I64_STORE};
+use wa_syntax::{Instr, NoMemory, ValTy};
+
+/// The value of an attribute by its place.
+pub fn add_get(
+    alloc: Global,
+    code: &mut Items<Instr>,
+    around: &Around<'_>,
+    plan: &CallPlan,
+    place: u32,
+    inside: u32,
+) -> Result<(), NoMemory> {
+    if is_immutable(around, plan.class)? {
+        return add_get_of_value(alloc, code, around, plan, place);
+    }
+    add_void_test(alloc, code, around, plan.recv, &plan.fail, inside)?;
+    add_read(code, around, plan, place)?;
+    add_line(code, &[Op::Set(around.receiving(plan.value))])
+}
+
+/// The attribute of an immutable value: void where all its attributes are.
+fn add_get_of_value(
+    alloc: Global,
+    code: &mut Items<Instr>,
+    around: &Around<'_>,
+    plan: &CallPlan,
+    place: u32,
+) -> Result<(), NoMemory> {
+    let mut void = Items::new(alloc);
+    add_line(&mut void, &[Op::I64(0)])?;
+    let mut read = Items::new(alloc);
+    add_read(&mut read, around, plan, place)?;
+    add_line(code, &[Op::Get(around.local(plan.recv)), Op::Do(I64_EQZ)])?;
+    code.push(Instr::If(Some(ValTy::I64), void, read))?;
+    add_line(code, &[Op::Set(around.receiving(plan.value))])
+}
+
+/// Adds what reads the attribute of an object, as an operand.
+fn add_read(
+    code: &mut Items<Instr>,
+    around: &Around<'_>,
+    plan: &CallPlan,
+    place: u32,
+) -> Result<(), NoMemory> {
+    let line = [
+        Op::Get(around.local(plan.recv)),
+        Op::Do(I32_WRAP_I64),
+        Op::Memory(I64_LOAD, attribute_at(place)),
+    ];
+    add_line(code, &line)
+}
+
+/// Writes an attribute by its place.
+pub fn add_set(
+    alloc: Global,
+    code: &mut Items<Instr>,
+    around: &Around<'_>,
+    plan: &CallPlan,
+    place: u32,
+    inside: u32,
+) -> Result<(), NoMemory> {
+    if is_immutable(around, plan.class)? {
+        return add_set_of_value(alloc, code, around, plan, place, inside);
+    }
+    let value = argument(around, plan, 0)?;
+    add_void_test(alloc, code, around, plan.recv, &plan.fail, inside)?;
+    let line = [
+        Op::Get(around.local(plan.recv)),
+        Op::Do(I32_WRAP_I64),
+        Op::Get(value),
+        Op::Memory(I64_STORE, attribute_at(place)),
+    ];
+    add_line(code, &line)
+}
+
+/// The copy of an immutable value with another attribute.
+fn add_set_of_value(
+    alloc: Global,
+    code: &mut Items<Instr>,
+    around: &Around<'_>,
+    plan: &CallPlan,
+    place: u32,
+    inside: u32,
+) -> Result<(), NoMemory> {
+    let attributes = around.attributes(plan.class)?;
+    let value = argument(around, plan, 0)?;
+    let line = [
+        Op::Get(around.local(plan.recv)),
+        Op::Get(value),
+        Op::I32(plan.class),
+        Op::I32(attributes),
+        Op::I32(attribute_at(place)),
+        Op::Call(CHANGED),
+        Op::Tee(STATUS),
+    ];
+    add_line(code, &line)?;
+    add_fail_if(alloc, code, around, Op::Get(STATUS), &plan.fail, inside)?;
+    add_result(code, around.body, plan.value)
+}
+
+/// The value of a shared.
+pub fn add_get_shared(
+    code: &mut Items<Instr>,
+    around: &Around<'_>,
+    plan: &CallPlan,
+    shared: u32,
+) -> Result<(), NoMemory> {
+    add_load(code, shared_at(shared)?, around.receiving(plan.value))
+}
+
+/// Writes a shared.
+pub fn add_set_shared(
+    code: &mut Items<Instr>,
+    around: &Around<'_>,
+    plan: &CallPlan,
+    shared: u32,
+) -> Result<(), NoMemory> {
+    add_store(code, shared_at(shared)?, argument(around, plan, 0)?)
+}
+
+/// The first value of a shared.
+pub fn add_init_shared(
+    code: &mut Items<Instr>,
+    around: &Around<'_>,
+    shared: u32,
+    from: u32,
+) -> Result<(), NoMemory> {
+    add_store(code, shared_at(shared)?, around.local(from))
+}
+
+/// The address of a shared.
+fn shared_at(shared: u32) -> Result<u32, NoMemory> {
+    let bytes = held(shared.checked_mul(8))?;
+    held(bytes.checked_add(SHAREDS_AT))
+}
+
+/// Whether a type is of an immutable class.
+fn is_immutable(around: &Around<'_>, ty: u32) -> Result<bool, NoMemory> {
+    let layout = held(around.flat.layouts.get(ty as usize))?;
+    Ok(matches!(layout.kind, Kind::Immutable))
+}

@@ -1,0 +1,105 @@
+//! Calls, by what they reach.
+
+use crate::area::{add_answers, add_arguments};
+use crate::around::{Around, BODY_TYPE, DEPTH, held};
+use crate::attributes::{add_get, add_get_shared, add_set, add_set_shared};
+use crate::builtins::add_builtin;
+use crate::dispatch::add_dispatch;
+use crate::failing::{TOO_DEEP, add_fail_if, add_raise, add_void_test, deeper};
+use crate::line::{Op, add_if, add_line};
+use sa_flat::{CallPlan, Callee};
+use sa_runtime::layout::FIRST_BODY;
+use sqlite_items::Items;
+use std::alloc::Global;
+use wa_syntax::opcode::{I32_ADD, I32_GE_U, UNREACHABLE};
+use wa_syntax::{Instr, NoMemory};
+
+/// How deep activations may nest.
+const GREATEST_DEPTH: u32 = 10_000;
+
+/// A call.
+pub fn add_call(
+    alloc: Global,
+    code: &mut Items<Instr>,
+    around: &Around<'_>,
+    plan: &CallPlan,
+    inside: u32,
+) -> Result<(), NoMemory> {
+    match plan.callee {
+        Callee::Body(body) => add_body_call(alloc, code, around, plan, body, inside),
+        Callee::Builtin(number) => add_builtin(alloc, code, around, plan, number, inside),
+        Callee::Get(place) => add_get(alloc, code, around, plan, place, inside),
+        Callee::Set(place) => add_set(alloc, code, around, plan, place, inside),
+        Callee::GetShared(shared) => add_get_shared(code, around, plan, shared),
+        Callee::SetShared(shared) => add_set_shared(code, around, plan, shared),
+        Callee::Dispatch(sig) => add_dispatch(alloc, code, around, plan, sig, inside),
+        Callee::Bound => add_bound_call(alloc, code, around, plan, inside),
+    }
+}
+
+/// A call of a body.
+fn add_body_call(
+    alloc: Global,
+    code: &mut Items<Instr>,
+    around: &Around<'_>,
+    plan: &CallPlan,
+    body: u32,
+    inside: u32,
+) -> Result<(), NoMemory> {
+    let func = function_of(body)?;
+    add_depth_test(alloc, code, around, plan, inside)?;
+    add_arguments(code, around.body, plan)?;
+    add_deeper(code)?;
+    add_line(code, &[Op::Call(func)])?;
+    let mut raised = Items::new(alloc);
+    add_raise(&mut raised, around, &plan.fail.raised, deeper(inside)?)?;
+    add_if(alloc, code, raised)?;
+    add_answers(code, around.body, plan)
+}
+
+/// Adds the fault of an activation that would nest too deep.
+pub fn add_depth_test(
+    alloc: Global,
+    code: &mut Items<Instr>,
+    around: &Around<'_>,
+    plan: &CallPlan,
+    inside: u32,
+) -> Result<(), NoMemory> {
+    let line = [Op::Get(DEPTH), Op::I32(GREATEST_DEPTH), Op::Do(I32_GE_U)];
+    add_line(code, &line)?;
+    add_fail_if(alloc, code, around, Op::I32(TOO_DEEP), &plan.fail, inside)
+}
+
+/// Adds the depth and the frame of a new activation, as operands.
+pub fn add_deeper(code: &mut Items<Instr>) -> Result<(), NoMemory> {
+    let line = [Op::Get(DEPTH), Op::I32(1), Op::Do(I32_ADD), Op::I32(0)];
+    add_line(code, &line)
+}
+
+/// Adds the depth of this activation and no frame, as operands of a body that was made for an implementation alone, which is
+/// no activation.
+pub fn add_as_deep(code: &mut Items<Instr>) -> Result<(), NoMemory> {
+    add_line(code, &[Op::Get(DEPTH), Op::I32(0)])
+}
+
+/// The function of a body.
+pub fn function_of(body: u32) -> Result<u32, NoMemory> {
+    held(body.checked_add(FIRST_BODY))
+}
+
+/// Adds a call through the table of the function whose place is the operand.
+pub fn add_indirect_call(code: &mut Items<Instr>) -> Result<(), NoMemory> {
+    add_line(code, &[Op::CallIndirect(BODY_TYPE)])
+}
+
+/// A call of a bound value. No step makes one that isn't void.
+fn add_bound_call(
+    alloc: Global,
+    code: &mut Items<Instr>,
+    around: &Around<'_>,
+    plan: &CallPlan,
+    inside: u32,
+) -> Result<(), NoMemory> {
+    add_void_test(alloc, code, around, plan.recv, &plan.fail, inside)?;
+    add_line(code, &[Op::Do(UNREACHABLE)])
+}

@@ -1,0 +1,177 @@
+//! Calls of the implementation of a signature by the receiver's class.
+//!
+//! A signature is plain where its implementations are bodies of features. Else each is a body that was made for it alone:
+//! that one is no activation, so no depth is tested before it, and it hands its faults on.
+
+use crate::area::{add_answers, add_arguments};
+use crate::around::{ADDRESS, Around, STATUS, held};
+use crate::calls::{add_as_deep, add_deeper, add_depth_test, add_indirect_call, function_of};
+use crate::failing::{HANDED_ON, add_fail, add_raise, add_void_test, deeper};
+use crate::line::{Op, add_if, add_line};
+use crate::values::add_type_of;
+use sa_dispatch::Span;
+use sa_flat::CallPlan;
+use sa_runtime::layout::FAULT_KIND;
+use sqlite_items::Items;
+use std::alloc::Global;
+use wa_syntax::opcode::{I32_ADD, I32_EQ, UNREACHABLE};
+use wa_syntax::{Instr, NoMemory, ValTy};
+
+/// A dispatched call.
+pub fn add_dispatch(
+    alloc: Global,
+    code: &mut Items<Instr>,
+    around: &Around<'_>,
+    plan: &CallPlan,
+    sig: u32,
+    inside: u32,
+) -> Result<(), NoMemory> {
+    add_void_test(alloc, code, around, plan.recv, &plan.fail, inside)?;
+    if around.rows.types(sig).is_empty() {
+        return add_line(code, &[Op::Do(UNREACHABLE)]);
+    }
+    if is_plain(around, sig)? {
+        add_plain(alloc, code, around, plan, sig, inside)
+    } else {
+        add_mixed(alloc, code, around, plan, sig, inside)
+    }
+}
+
+/// Whether the implementations of a signature are bodies of features. They are alike in this, so the first one tells.
+fn is_plain(around: &Around<'_>, sig: u32) -> Result<bool, NoMemory> {
+    let first = held(around.rows.first(sig))?;
+    let target = held(around.flat.targets.get(first as usize).copied())?;
+    let body = held(around.flat.bodies.get(target as usize))?;
+    Ok(body.feature.is_some())
+}
+
+/// A call of one of the bodies of features.
+fn add_plain(
+    alloc: Global,
+    code: &mut Items<Instr>,
+    around: &Around<'_>,
+    plan: &CallPlan,
+    sig: u32,
+    inside: u32,
+) -> Result<(), NoMemory> {
+    add_depth_test(alloc, code, around, plan, inside)?;
+    add_arguments(code, around.body, plan)?;
+    add_chosen(alloc, code, around, plan, sig, true)?;
+    let mut raised = Items::new(alloc);
+    add_raise(&mut raised, around, &plan.fail.raised, deeper(inside)?)?;
+    add_if(alloc, code, raised)?;
+    add_answers(code, around.body, plan)
+}
+
+/// A call of one of the bodies that were made for the implementations alone.
+fn add_mixed(
+    alloc: Global,
+    code: &mut Items<Instr>,
+    around: &Around<'_>,
+    plan: &CallPlan,
+    sig: u32,
+    inside: u32,
+) -> Result<(), NoMemory> {
+    add_arguments(code, around.body, plan)?;
+    add_chosen(alloc, code, around, plan, sig, false)?;
+    add_line(code, &[Op::Tee(STATUS)])?;
+    let mut unreturned = Items::new(alloc);
+    add_unreturned(alloc, &mut unreturned, around, plan, deeper(inside)?)?;
+    add_if(alloc, code, unreturned)?;
+    add_answers(code, around.body, plan)
+}
+
+/// Adds what follows a body that didn't return: a fault that it hands on, or a raise.
+fn add_unreturned(
+    alloc: Global,
+    code: &mut Items<Instr>,
+    around: &Around<'_>,
+    plan: &CallPlan,
+    inside: u32,
+) -> Result<(), NoMemory> {
+    let line = [Op::Get(STATUS), Op::I32(HANDED_ON), Op::Do(I32_EQ)];
+    add_line(code, &line)?;
+    let mut fault = Items::new(alloc);
+    let kind = Op::Global(FAULT_KIND);
+    add_fail(&mut fault, around, kind, &plan.fail, deeper(inside)?)?;
+    add_if(alloc, code, fault)?;
+    add_raise(code, around, &plan.fail.raised, inside)
+}
+
+/// Adds the call of the implementation for the receiver's class, which leaves its status as an operand.
+fn add_chosen(
+    alloc: Global,
+    code: &mut Items<Instr>,
+    around: &Around<'_>,
+    plan: &CallPlan,
+    sig: u32,
+    plain: bool,
+) -> Result<(), NoMemory> {
+    match around.rows.span(sig) {
+        Some(span) => add_by_table(code, around, plan, &span, plain),
+        None => add_by_tests(alloc, code, around, plan, sig, plain),
+    }
+}
+
+/// Adds the call through the table, in which the types of the signature have a part.
+fn add_by_table(
+    code: &mut Items<Instr>,
+    around: &Around<'_>,
+    plan: &CallPlan,
+    span: &Span,
+    plain: bool,
+) -> Result<(), NoMemory> {
+    add_handed(code, plain)?;
+    add_type_of(code, around, plan.recv)?;
+    let before = span.first.wrapping_sub(span.least);
+    add_line(code, &[Op::I32(before), Op::Do(I32_ADD)])?;
+    add_indirect_call(code)
+}
+
+/// Adds one test after the other of the receiver's type, each with its call.
+fn add_by_tests(
+    alloc: Global,
+    code: &mut Items<Instr>,
+    around: &Around<'_>,
+    plan: &CallPlan,
+    sig: u32,
+    plain: bool,
+) -> Result<(), NoMemory> {
+    add_type_of(code, around, plan.recv)?;
+    add_line(code, &[Op::Set(ADDRESS)])?;
+    let mut tests = Items::new(alloc);
+    for ty in around.rows.types(sig) {
+        add_test(alloc, &mut tests, around, sig, *ty, plain)?;
+    }
+    add_line(&mut tests, &[Op::Do(UNREACHABLE)])?;
+    code.push(Instr::Block(Some(ValTy::I32), tests))?;
+    Ok(())
+}
+
+/// Adds the test of the receiver's type, and the call for it, behind which the status leaves the block of the tests.
+fn add_test(
+    alloc: Global,
+    code: &mut Items<Instr>,
+    around: &Around<'_>,
+    sig: u32,
+    ty: u32,
+    plain: bool,
+) -> Result<(), NoMemory> {
+    let row = held(around.rows.row(sig, ty))?;
+    let target = held(around.flat.targets.get(row as usize).copied())?;
+    let func = function_of(target)?;
+    let mut call = Items::new(alloc);
+    add_handed(&mut call, plain)?;
+    add_line(&mut call, &[Op::Call(func), Op::Br(1)])?;
+    add_line(code, &[Op::Get(ADDRESS), Op::I32(ty), Op::Do(I32_EQ)])?;
+    add_if(alloc, code, call)
+}
+
+/// Adds the depth and the frame that an implementation gets, as operands.
+fn add_handed(code: &mut Items<Instr>, plain: bool) -> Result<(), NoMemory> {
+    if plain {
+        add_deeper(code)
+    } else {
+        add_as_deep(code)
+    }
+}

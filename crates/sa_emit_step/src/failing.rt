@@ -1,0 +1,183 @@
+//! Faults and raises of steps, and jumps to blocks.
+
+use crate::around::{Around, BLOCK, NOT_A_HEAD, Role, held};
+use crate::line::{Op, add_if, add_line};
+use sa_flat::{Fail, FlatBody, FlatExit, Raised};
+use sa_runtime::layout::{EXCEPTION, EXCEPTION_KIND, EXCEPTION_PLACE, FAULT, FAULT_KIND};
+use sqlite_items::Items;
+use std::alloc::Global;
+use wa_syntax::opcode::{I64_EQZ, I64_EXTEND_I32_U, RETURN};
+use wa_syntax::{Instr, NoMemory};
+
+/// The fault where a result is out of range.
+pub const OVERFLOW: u32 = 1;
+
+/// The fault where a receiver, or what is raised, is void.
+pub const VOID: u32 = 3;
+
+/// The fault where a place or a count is out of range.
+pub const INDEX: u32 = 4;
+
+/// The number of a raise by the statement `raise`, which is a fault where nothing catches it.
+pub const UNCAUGHT: u32 = 8;
+
+/// The fault where the room is used up.
+pub const NO_ROOM: u32 = 9;
+
+/// The fault where activations nest too deep.
+pub const TOO_DEEP: u32 = 10;
+
+/// The status of a body that is left with a raise.
+pub const RAISED: u32 = 1;
+
+/// The status of a body that hands a fault on.
+pub const HANDED_ON: u32 = 4;
+
+/// Adds a fault where the operand isn't 0. `kind` reads its number.
+pub fn add_fail_if(
+    alloc: Global,
+    code: &mut Items<Instr>,
+    around: &Around<'_>,
+    kind: Op,
+    fail: &Fail,
+    inside: u32,
+) -> Result<(), NoMemory> {
+    let mut then = Items::new(alloc);
+    add_fail(&mut then, around, kind, fail, deeper(inside)?)?;
+    add_if(alloc, code, then)
+}
+
+/// Adds the fault of a variable that holds void.
+pub fn add_void_test(
+    alloc: Global,
+    code: &mut Items<Instr>,
+    around: &Around<'_>,
+    var: u32,
+    fail: &Fail,
+    inside: u32,
+) -> Result<(), NoMemory> {
+    add_line(code, &[Op::Get(around.local(var)), Op::Do(I64_EQZ)])?;
+    add_fail_if(alloc, code, around, Op::I32(VOID), fail, inside)
+}
+
+/// Adds a fault: a body that was made for an implementation alone hands it to its caller, in others it is raised.
+pub fn add_fail(
+    code: &mut Items<Instr>,
+    around: &Around<'_>,
+    kind: Op,
+    fail: &Fail,
+    inside: u32,
+) -> Result<(), NoMemory> {
+    match around.role {
+        Role::Target => add_handed_on(code, kind),
+        Role::Feature => add_fault(code, around, kind, fail, inside),
+        Role::Last => add_fault(code, around, kind, fail, inside),
+    }
+}
+
+fn add_handed_on(code: &mut Items<Instr>, kind: Op) -> Result<(), NoMemory> {
+    let line = [
+        kind,
+        Op::SetGlobal(FAULT_KIND),
+        Op::I32(HANDED_ON),
+        Op::Do(RETURN),
+    ];
+    add_line(code, &line)
+}
+
+fn add_fault(
+    code: &mut Items<Instr>,
+    around: &Around<'_>,
+    kind: Op,
+    fail: &Fail,
+    inside: u32,
+) -> Result<(), NoMemory> {
+    let line = [
+        kind,
+        Op::I32(fail.place),
+        Op::I32(fail.line),
+        Op::Call(FAULT),
+    ];
+    add_line(code, &line)?;
+    add_raise(code, around, &fail.raised, inside)
+}
+
+/// Adds a raise whose value, place and kind the globals hold: it leaves the body at once where the block that it goes to does
+/// nothing else.
+pub fn add_raise(
+    code: &mut Items<Instr>,
+    around: &Around<'_>,
+    raised: &Raised,
+    inside: u32,
+) -> Result<(), NoMemory> {
+    if leaves(around.body, *raised) {
+        return add_line(code, &[Op::I32(RAISED), Op::Do(RETURN)]);
+    }
+    let line = [
+        Op::Global(EXCEPTION),
+        Op::Set(around.local(raised.value)),
+        Op::Global(EXCEPTION_PLACE),
+        Op::Do(I64_EXTEND_I32_U),
+        Op::Set(around.local(raised.place)),
+        Op::Global(EXCEPTION_KIND),
+        Op::Do(I64_EXTEND_I32_U),
+        Op::Set(around.local(raised.kind)),
+    ];
+    add_line(code, &line)?;
+    jump(code, around, raised.block, inside)
+}
+
+/// Adds a jump to a block that the dispatch knows. `inside` is the number of the label of the dispatch.
+///
+/// # Errors
+///
+/// `NoMemory`, also where the dispatch doesn't know the block.
+pub fn add_jump(
+    _alloc: Global,
+    code: &mut Items<Instr>,
+    around: &Around<'_>,
+    block: u32,
+    inside: u32,
+) -> Result<(), NoMemory> {
+    jump(code, around, block, inside)
+}
+
+fn jump(
+    code: &mut Items<Instr>,
+    around: &Around<'_>,
+    block: u32,
+    inside: u32,
+) -> Result<(), NoMemory> {
+    let head = held(around.heads.get(block as usize).copied())?;
+    if head == NOT_A_HEAD {
+        return Err(not_a_head());
+    }
+    add_line(code, &[Op::I32(head), Op::Set(BLOCK), Op::Br(inside)])
+}
+
+/// The answer for a jump to a block that the dispatch doesn't know.
+fn not_a_head() -> NoMemory {
+    NoMemory
+}
+
+/// Whether the block that a raise goes to does nothing but leave the body with this raise. Steps don't jump to such a block.
+pub fn leaves(body: &FlatBody, raised: Raised) -> bool {
+    match body.blocks.get(raised.block as usize) {
+        Some(block) => block.steps.is_empty() && is_its_exit(&block.exit, &raised),
+        None => false,
+    }
+}
+
+fn is_its_exit(exit: &FlatExit, raised: &Raised) -> bool {
+    match exit {
+        FlatExit::Raise { value, place, kind } => {
+            *value == raised.value && *place == raised.place && *kind == raised.kind
+        }
+        _ => false,
+    }
+}
+
+/// The number of a label for code that stands one `if` or `block` further inside.
+pub fn deeper(inside: u32) -> Result<u32, NoMemory> {
+    held(inside.checked_add(1))
+}

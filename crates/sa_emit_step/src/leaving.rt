@@ -1,0 +1,96 @@
+//! The exits that leave a body.
+
+use crate::area::add_copies_back;
+use crate::around::{Around, Role, not_emitted};
+use crate::failing::{RAISED, add_fail};
+use crate::line::{Op, add_line};
+use sa_flat::FlatExit;
+use sa_runtime::layout::{EXCEPTION, EXCEPTION_KIND, EXCEPTION_PLACE, RESULT};
+use sqlite_items::Items;
+use std::alloc::Global;
+use wa_syntax::opcode::{I32_WRAP_I64, RETURN};
+use wa_syntax::{Instr, NoMemory};
+
+/// The status of a body that has returned.
+const RETURNED: u32 = 0;
+
+/// The status of an instance that has ended.
+const ENDED: u32 = 3;
+
+/// Adds an exit that leaves the body, or a fault. `inside` is the number of the label of the dispatch.
+///
+/// # Errors
+///
+/// `NoMemory`, also for a suspension and for exits that stay in the body.
+pub fn add_leaving(
+    _alloc: Global,
+    code: &mut Items<Instr>,
+    around: &Around<'_>,
+    exit: &FlatExit,
+    inside: u32,
+) -> Result<(), NoMemory> {
+    match exit {
+        FlatExit::Return { value } => add_return(code, around, *value),
+        FlatExit::Quit => add_line(code, &[Op::I32(ENDED), Op::Do(RETURN)]),
+        FlatExit::Raise { value, place, kind } => {
+            add_raise_out(code, around, *value, *place, *kind)
+        }
+        FlatExit::Stop { kind, fail } => {
+            add_fail(code, around, Op::I32(u32::from(*kind)), fail, inside)
+        }
+        FlatExit::Jump(_) => Err(not_emitted()),
+        FlatExit::Branch { .. } => Err(not_emitted()),
+        FlatExit::Suspend { .. } => Err(not_emitted()),
+    }
+}
+
+/// A return with a value.
+fn add_return(
+    code: &mut Items<Instr>,
+    around: &Around<'_>,
+    value: Option<u32>,
+) -> Result<(), NoMemory> {
+    add_copies_back(code, around.body)?;
+    add_returned(code, around, value)?;
+    add_line(code, &[Op::I32(RETURNED), Op::Do(RETURN)])
+}
+
+/// Adds what sets the result. The last body always has one, since it is the status of the program.
+fn add_returned(
+    code: &mut Items<Instr>,
+    around: &Around<'_>,
+    value: Option<u32>,
+) -> Result<(), NoMemory> {
+    if let Some(var) = value {
+        let line = [Op::Get(around.local(var)), Op::SetGlobal(RESULT)];
+        return add_line(code, &line);
+    }
+    match around.role {
+        Role::Last => add_line(code, &[Op::I64(0), Op::SetGlobal(RESULT)]),
+        Role::Feature => Ok(()),
+        Role::Target => Ok(()),
+    }
+}
+
+/// A raise out of the body.
+fn add_raise_out(
+    code: &mut Items<Instr>,
+    around: &Around<'_>,
+    value: u32,
+    place: u32,
+    kind: u32,
+) -> Result<(), NoMemory> {
+    let line = [
+        Op::Get(around.local(value)),
+        Op::SetGlobal(EXCEPTION),
+        Op::Get(around.local(place)),
+        Op::Do(I32_WRAP_I64),
+        Op::SetGlobal(EXCEPTION_PLACE),
+        Op::Get(around.local(kind)),
+        Op::Do(I32_WRAP_I64),
+        Op::SetGlobal(EXCEPTION_KIND),
+        Op::I32(RAISED),
+        Op::Do(RETURN),
+    ];
+    add_line(code, &line)
+}

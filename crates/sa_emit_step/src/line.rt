@@ -1,0 +1,66 @@
+//! Instructions that hold no others, as data, and how they are added to a list.
+
+use sqlite_items::Items;
+use std::alloc::Global;
+use wa_syntax::{Instr, NoMemory};
+
+/// An instruction that holds no others.
+#[derive(Clone, Copy)]
+pub enum Op {
+    /// An instruction that is its opcode alone.
+    Do(u8),
+    /// Reads a local.
+    Get(u32),
+    /// Writes a local.
+    Set(u32),
+    /// Writes a local and keeps the operand.
+    Tee(u32),
+    /// Reads a global.
+    Global(u32),
+    /// Writes a global.
+    SetGlobal(u32),
+    /// A constant of 32 bits.
+    I32(u32),
+    /// A constant of 64 bits.
+    I64(u64),
+    /// A load or a store by its opcode, with its offset in bytes. It promises no alignment.
+    Memory(u8, u32),
+    /// A call of a function.
+    Call(u32),
+    /// An indirect call of a function of the type with this number.
+    CallIndirect(u32),
+    /// A branch to a label.
+    Br(u32),
+}
+
+/// Adds these instructions.
+pub fn add_line(code: &mut Items<Instr>, ops: &[Op]) -> Result<(), NoMemory> {
+    for op in ops {
+        code.push(instruction(*op))?;
+    }
+    Ok(())
+}
+
+/// The instruction.
+fn instruction(op: Op) -> Instr {
+    match op {
+        Op::Do(opcode) => Instr::Plain(opcode),
+        Op::Get(local) => Instr::LocalGet(local),
+        Op::Set(local) => Instr::LocalSet(local),
+        Op::Tee(local) => Instr::LocalTee(local),
+        Op::Global(global) => Instr::GlobalGet(global),
+        Op::SetGlobal(global) => Instr::GlobalSet(global),
+        Op::I32(bits) => Instr::I32Const(bits),
+        Op::I64(bits) => Instr::I64Const(bits),
+        Op::Memory(opcode, offset) => Instr::Memory(opcode, 0, offset),
+        Op::Call(func) => Instr::Call(func),
+        Op::CallIndirect(ty) => Instr::CallIndirect(ty),
+        Op::Br(label) => Instr::Br(label),
+    }
+}
+
+/// Adds an `if` that does this where the operand isn't 0.
+pub fn add_if(alloc: Global, code: &mut Items<Instr>, then: Items<Instr>) -> Result<(), NoMemory> {
+    code.push(Instr::If(None, then, Items::new(alloc)))?;
+    Ok(())
+}

@@ -1,0 +1,187 @@
+//! Steps that make objects, and those that widen immutable values and give them back.
+
+use crate::area::add_result;
+use crate::around::{ADDRESS, Around, STATUS};
+use crate::builtins::CREATE;
+use crate::failing::{NO_ROOM, add_fail_if};
+use crate::line::{Op, add_line};
+use sa_flat::Fail;
+use sa_runtime::layout::{
+    ALLOCATE, BOOL, BOXED, CHAR, INT, OBJECT, UNWRAPPED, WIDENED, attribute_at, first_element_at,
+    header,
+};
+use sqlite_items::Items;
+use std::alloc::Global;
+use wa_syntax::opcode::{
+    I32_EQZ, I32_WRAP_I64, I64_ADD, I64_EXTEND_I32_U, I64_LOAD, I64_SHL, I64_STORE,
+};
+use wa_syntax::{Instr, NoMemory};
+
+/// A new object.
+pub fn add_new(
+    alloc: Global,
+    code: &mut Items<Instr>,
+    around: &Around<'_>,
+    to: u32,
+    ty: u32,
+    fail: &Fail,
+    inside: u32,
+) -> Result<(), NoMemory> {
+    let size = attribute_at(around.attributes(ty)?);
+    let line = [
+        Op::I64(header(ty, OBJECT, 0)),
+        Op::I64(u64::from(size)),
+        Op::Call(ALLOCATE),
+        Op::Tee(ADDRESS),
+        Op::Do(I32_EQZ),
+    ];
+    add_line(code, &line)?;
+    add_fail_if(alloc, code, around, Op::I32(NO_ROOM), fail, inside)?;
+    let line = [
+        Op::Get(ADDRESS),
+        Op::Do(I64_EXTEND_I32_U),
+        Op::Set(around.local(to)),
+    ];
+    add_line(code, &line)
+}
+
+/// A new object with an array part.
+pub fn add_new_array(
+    alloc: Global,
+    code: &mut Items<Instr>,
+    around: &Around<'_>,
+    to: u32,
+    ty: u32,
+    count: u32,
+    fail: &Fail,
+    inside: u32,
+) -> Result<(), NoMemory> {
+    let first = first_element_at(around.attributes(ty)?);
+    let line = [
+        Op::I64(0),
+        Op::Get(around.local(count)),
+        Op::I32(ty),
+        Op::I32(first),
+        Op::Call(CREATE),
+        Op::Tee(STATUS),
+    ];
+    add_line(code, &line)?;
+    add_fail_if(alloc, code, around, Op::Get(STATUS), fail, inside)?;
+    add_result(code, around.body, Some(to))
+}
+
+/// An element of an array literal, whose place is in range.
+pub fn add_put_item(
+    code: &mut Items<Instr>,
+    around: &Around<'_>,
+    array: u32,
+    ty: u32,
+    at: u32,
+    value: u32,
+) -> Result<(), NoMemory> {
+    let first = first_element_at(around.attributes(ty)?);
+    add_element(code, around.local(array), around.local(at))?;
+    let line = [Op::Get(around.local(value)), Op::Memory(I64_STORE, first)];
+    add_line(code, &line)
+}
+
+/// Adds what gives the address of an element of an object less the offset of the first one, as an operand.
+pub fn add_element(code: &mut Items<Instr>, object: u32, place: u32) -> Result<(), NoMemory> {
+    let line = [
+        Op::Get(object),
+        Op::Get(place),
+        Op::I64(3),
+        Op::Do(I64_SHL),
+        Op::Do(I64_ADD),
+        Op::Do(I32_WRAP_I64),
+    ];
+    add_line(code, &line)
+}
+
+/// An immutable value at an abstract type.
+pub fn add_widen(
+    alloc: Global,
+    code: &mut Items<Instr>,
+    around: &Around<'_>,
+    to: u32,
+    from: u32,
+    ty: u32,
+    fail: &Fail,
+    inside: u32,
+) -> Result<(), NoMemory> {
+    add_widened(code, around, from, ty)?;
+    add_fail_if(alloc, code, around, Op::Get(STATUS), fail, inside)?;
+    add_result(code, around.body, Some(to))
+}
+
+/// Adds the call that widens, which leaves its status in the local and as an operand.
+fn add_widened(
+    code: &mut Items<Instr>,
+    around: &Around<'_>,
+    from: u32,
+    ty: u32,
+) -> Result<(), NoMemory> {
+    if is_one_word(ty) {
+        let line = [
+            Op::Get(around.local(from)),
+            Op::I32(ty),
+            Op::Call(BOXED),
+            Op::Tee(STATUS),
+        ];
+        return add_line(code, &line);
+    }
+    let attributes = around.attributes(ty)?;
+    let line = [
+        Op::Get(around.local(from)),
+        Op::I32(ty),
+        Op::I32(attributes),
+        Op::Call(WIDENED),
+        Op::Tee(STATUS),
+    ];
+    add_line(code, &line)
+}
+
+/// A widened value at its own class.
+pub fn add_unwrap(
+    code: &mut Items<Instr>,
+    around: &Around<'_>,
+    to: u32,
+    from: u32,
+    ty: u32,
+) -> Result<(), NoMemory> {
+    if is_one_word(ty) {
+        return add_unboxed(code, around, to, from);
+    }
+    let attributes = around.attributes(ty)?;
+    if attributes == 0 {
+        return add_line(code, &[Op::I64(0), Op::Set(around.local(to))]);
+    }
+    let line = [
+        Op::Get(around.local(from)),
+        Op::I32(attributes),
+        Op::Call(UNWRAPPED),
+        Op::Set(around.local(to)),
+    ];
+    add_line(code, &line)
+}
+
+/// Adds what reads the word of a widened `INT`, `BOOL` or `CHAR`.
+fn add_unboxed(
+    code: &mut Items<Instr>,
+    around: &Around<'_>,
+    to: u32,
+    from: u32,
+) -> Result<(), NoMemory> {
+    let line = [
+        Op::Get(around.local(from)),
+        Op::Do(I32_WRAP_I64),
+        Op::Memory(I64_LOAD, attribute_at(0)),
+        Op::Set(around.local(to)),
+    ];
+    add_line(code, &line)
+}
+
+/// Whether values of the type are one word that is no address.
+fn is_one_word(ty: u32) -> bool {
+    ty == BOOL || ty == INT || ty == CHAR
+}

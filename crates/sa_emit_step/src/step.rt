@@ -1,0 +1,83 @@
+//! One step, as the instructions that its own function adds.
+
+use crate::around::{Around, not_emitted};
+use crate::attributes::add_init_shared;
+use crate::calls::add_call;
+use crate::failing::{UNCAUGHT, add_void_test};
+use crate::line::{Op, add_line};
+use crate::objects::{add_new, add_new_array, add_put_item, add_unwrap, add_widen};
+use crate::values::{add_const, add_is_void, add_me, add_move, add_type_is};
+use sa_flat::{FlatStep, Raised};
+use sqlite_items::Items;
+use std::alloc::Global;
+use wa_syntax::{Instr, NoMemory};
+
+/// Adds a step. `inside` is the number of the label of the dispatch.
+///
+/// # Errors
+///
+/// `NoMemory`, also for steps of iters and those that make bound values, and where a number of the step is out of range.
+pub fn add_step(
+    alloc: Global,
+    code: &mut Items<Instr>,
+    around: &Around<'_>,
+    step: &FlatStep,
+    inside: u32,
+) -> Result<(), NoMemory> {
+    match step {
+        FlatStep::Const { to, value } => add_const(code, around, *to, value),
+        FlatStep::Move { to, from } => add_move(code, around, *to, *from),
+        FlatStep::Me { to } => add_me(code, around, *to),
+        FlatStep::IsVoid { to, from } => add_is_void(code, around, *to, *from),
+        FlatStep::Turn => Ok(()),
+        FlatStep::New { to, ty, fail } => add_new(alloc, code, around, *to, *ty, fail, inside),
+        FlatStep::NewArray {
+            to,
+            ty,
+            count,
+            fail,
+        } => add_new_array(alloc, code, around, *to, *ty, *count, fail, inside),
+        FlatStep::PutItem {
+            array,
+            ty,
+            at,
+            value,
+        } => add_put_item(code, around, *array, *ty, *at, *value),
+        FlatStep::Widen { to, from, ty, fail } => {
+            add_widen(alloc, code, around, *to, *from, *ty, fail, inside)
+        }
+        FlatStep::Unwrap { to, from, ty } => add_unwrap(code, around, *to, *from, *ty),
+        FlatStep::TypeIs { to, from, ty } => add_type_is(code, around, *to, *from, *ty),
+        FlatStep::NotVoid { from, fail } => {
+            add_void_test(alloc, code, around, *from, fail, inside)
+        }
+        FlatStep::InitShared { shared, from } => add_init_shared(code, around, *shared, *from),
+        FlatStep::Call { plan } => add_call(alloc, code, around, plan, inside),
+        FlatStep::Raising { value, place, to } => add_raising(code, around, *value, *place, to),
+        FlatStep::Bind { .. } => Err(not_emitted()),
+        FlatStep::HasEntry { .. } => Err(not_emitted()),
+        FlatStep::Start { .. } => Err(not_emitted()),
+        FlatStep::Resume { .. } => Err(not_emitted()),
+        FlatStep::Enter { .. } => Err(not_emitted()),
+        FlatStep::Release { .. } => Err(not_emitted()),
+    }
+}
+
+/// Sets the variables of a raise by the statement `raise` at a place.
+fn add_raising(
+    code: &mut Items<Instr>,
+    around: &Around<'_>,
+    value: u32,
+    place: u32,
+    to: &Raised,
+) -> Result<(), NoMemory> {
+    let line = [
+        Op::Get(around.local(value)),
+        Op::Set(around.local(to.value)),
+        Op::I64(u64::from(place)),
+        Op::Set(around.local(to.place)),
+        Op::I64(u64::from(UNCAUGHT)),
+        Op::Set(around.local(to.kind)),
+    ];
+    add_line(code, &line)
+}
