@@ -1,0 +1,60 @@
+//! The bodies of the features, each with the number of its feature.
+
+use crate::own_body::ended;
+use sa_core::{Core, FeatureCore};
+use sa_flat::{Draft, Ends, FlatBody, FlatExit, FlatFormal, held};
+use sa_lower_body::place_stmts;
+use sa_tree::NoMemory;
+use sqlite_items::Items;
+use std::alloc::Global;
+
+/// The bodies of all features.
+pub fn feature_bodies(
+    alloc: Global,
+    core: &Core,
+    draft: &mut Draft,
+) -> Result<Items<FlatBody>, NoMemory> {
+    let mut bodies = Items::new(alloc);
+    for (number, feature) in core.features.as_slice().iter().enumerate() {
+        let number = held(u32::try_from(number).ok())?;
+        bodies.push(feature_body(alloc, core, number, feature, draft)?)?;
+    }
+    Ok(bodies)
+}
+
+/// The body of a feature. That of an iter ends the instance, since nothing starts one.
+fn feature_body(
+    alloc: Global,
+    core: &Core,
+    number: u32,
+    feature: &FeatureCore,
+    draft: &mut Draft,
+) -> Result<FlatBody, NoMemory> {
+    let formals = formals(alloc, feature)?;
+    let own = held(u32::try_from(feature.vars.len()).ok())?;
+    draft.begin(alloc, Some(number), formals, own)?;
+    if feature.iter {
+        draft.body.iter = true;
+        return ended(alloc, draft, FlatExit::Quit);
+    }
+    let list = feature.body.as_slice();
+    place_stmts(alloc, core, number, list, draft, &Ends::of_body())?;
+    ended(alloc, draft, FlatExit::Return { value: None })
+}
+
+/// The arguments of a feature, which are its first variables.
+fn formals(alloc: Global, feature: &FeatureCore) -> Result<Items<FlatFormal>, NoMemory> {
+    let mut formals = Items::new(alloc);
+    for (mode, ty) in feature
+        .modes
+        .as_slice()
+        .iter()
+        .zip(feature.vars.as_slice().iter())
+    {
+        formals.push(FlatFormal {
+            mode: *mode,
+            ty: *ty,
+        })?;
+    }
+    Ok(formals)
+}

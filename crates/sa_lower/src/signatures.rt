@@ -1,0 +1,78 @@
+//! The types of signatures, by their numbers.
+
+use indexmap::IndexMap;
+use sa_core::{Core, SigCore, TypeInfo};
+use sa_flat::{FlatFormal, held};
+use sa_tree::{Kind, ModeTy, NoMemory, Ty};
+use sqlite_items::Items;
+use std::alloc::Global;
+
+/// The arguments and the result of a signature, with the numbers of their types.
+#[derive(Drop)]
+pub struct SignatureTypes {
+    pub formals: Items<FlatFormal>,
+    pub result: Option<u32>,
+}
+
+/// The types of a program with their numbers.
+pub fn type_numbers(alloc: Global, types: &[TypeInfo]) -> Result<IndexMap<Ty, u32>, NoMemory> {
+    let mut numbers = IndexMap::new(alloc);
+    for (number, info) in types.iter().enumerate() {
+        let number = held(u32::try_from(number).ok())?;
+        numbers.insert(info.ty.copy(alloc)?, number)?;
+    }
+    Ok(numbers)
+}
+
+/// The types of a signature, which are types of the program.
+pub fn signature_types(
+    alloc: Global,
+    numbers: &IndexMap<Ty, u32>,
+    signature: &SigCore,
+) -> Result<SignatureTypes, NoMemory> {
+    let sig = &signature.sig;
+    Ok(SignatureTypes {
+        formals: formals(alloc, numbers, sig.args.as_slice())?,
+        result: result_type(numbers, &sig.result)?,
+    })
+}
+
+/// The arguments of a signature.
+fn formals(
+    alloc: Global,
+    numbers: &IndexMap<Ty, u32>,
+    args: &[ModeTy],
+) -> Result<Items<FlatFormal>, NoMemory> {
+    let mut formals = Items::new(alloc);
+    for arg in args {
+        let ty = number_of(numbers, &arg.ty)?;
+        formals.push(FlatFormal { mode: arg.mode, ty })?;
+    }
+    Ok(formals)
+}
+
+fn result_type(numbers: &IndexMap<Ty, u32>, ty: &Option<Ty>) -> Result<Option<u32>, NoMemory> {
+    match ty {
+        Some(ty) => Ok(Some(number_of(numbers, ty)?)),
+        None => Ok(None),
+    }
+}
+
+fn number_of(numbers: &IndexMap<Ty, u32>, ty: &Ty) -> Result<u32, NoMemory> {
+    held(numbers.get(ty).copied())
+}
+
+fn kind(core: &Core, ty: u32) -> Result<Kind, NoMemory> {
+    let info = held(core.types.get(ty as usize))?;
+    Ok(info.kind)
+}
+
+/// Whether a type is an immutable class.
+pub fn is_immutable(core: &Core, ty: u32) -> Result<bool, NoMemory> {
+    Ok(kind(core, ty)? == Kind::Immutable)
+}
+
+/// Whether a type is abstract.
+pub fn is_abstract(core: &Core, ty: u32) -> Result<bool, NoMemory> {
+    Ok(kind(core, ty)? == Kind::Abstract)
+}

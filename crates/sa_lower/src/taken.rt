@@ -1,0 +1,133 @@
+//! The types of what an implementation takes and gives, which may differ from those of the signature that it implements.
+
+use crate::signatures::{is_abstract, is_immutable};
+use sa_class_table::{BOOL, CHAR, INT, STR};
+use sa_core::{Core, FeatureCore, ImplCore, SharedCore, Target, TypeInfo};
+use sa_flat::held;
+use sa_prelude::BuiltinFeature;
+use sa_tree::NoMemory;
+
+/// Whether an implementation takes the argument at this place at an abstract type.
+pub fn takes_abstract(
+    core: &Core,
+    implementation: &ImplCore,
+    place: usize,
+) -> Result<bool, NoMemory> {
+    match implementation.target {
+        Target::Feature(number) => is_abstract(core, variable_type(core, number, place)?),
+        Target::Set(place) => is_abstract(core, attribute_type(core, implementation.ty, place)?),
+        Target::SetShared(number) => is_abstract(core, shared(core, number)?.ty),
+        Target::Builtin(number) => {
+            builtin_takes_abstract(core, implementation.ty, builtin(number)?, place)
+        }
+        Target::Get(_) | Target::GetShared(_) => Ok(false),
+    }
+}
+
+/// Whether a built-in feature of a type takes this argument at an abstract type: `ob_eq` both, and `aset` the element where
+/// that is of an abstract type.
+fn builtin_takes_abstract(
+    core: &Core,
+    ty: u32,
+    builtin: BuiltinFeature,
+    place: usize,
+) -> Result<bool, NoMemory> {
+    match builtin {
+        BuiltinFeature::SysObEq => Ok(true),
+        BuiltinFeature::ArefAset => {
+            if place == 0 {
+                return Ok(false);
+            }
+            is_abstract(core, element_type(core, ty)?)
+        }
+        _ => Ok(false),
+    }
+}
+
+/// The type of what an implementation gives, if it gives anything.
+pub fn given(core: &Core, implementation: &ImplCore) -> Result<Option<u32>, NoMemory> {
+    match implementation.target {
+        Target::Feature(number) => Ok(feature(core, number)?.result),
+        Target::Get(place) => Ok(Some(attribute_type(core, implementation.ty, place)?)),
+        Target::GetShared(number) => Ok(Some(shared(core, number)?.ty)),
+        Target::Set(_) => writer_gives(core, implementation.ty),
+        Target::SetShared(_) => Ok(None),
+        Target::Builtin(number) => builtin_gives(core, implementation.ty, builtin(number)?),
+    }
+}
+
+/// What the writer of an attribute gives: in an immutable class the changed copy.
+fn writer_gives(core: &Core, ty: u32) -> Result<Option<u32>, NoMemory> {
+    if is_immutable(core, ty)? {
+        return Ok(Some(ty));
+    }
+    Ok(None)
+}
+
+/// The type of what a built-in feature of a type gives.
+fn builtin_gives(core: &Core, ty: u32, builtin: BuiltinFeature) -> Result<Option<u32>, NoMemory> {
+    match builtin {
+        BuiltinFeature::BoolIsEq
+        | BuiltinFeature::BoolNot
+        | BuiltinFeature::IntIsEq
+        | BuiltinFeature::IntIsLt
+        | BuiltinFeature::CharIsEq
+        | BuiltinFeature::CharIsLt
+        | BuiltinFeature::SysObEq => Ok(Some(BOOL)),
+        BuiltinFeature::IntPlus
+        | BuiltinFeature::IntMinus
+        | BuiltinFeature::IntTimes
+        | BuiltinFeature::IntNegate
+        | BuiltinFeature::IntDiv
+        | BuiltinFeature::IntMod
+        | BuiltinFeature::IntBand
+        | BuiltinFeature::IntBor
+        | BuiltinFeature::IntBxor
+        | BuiltinFeature::CharInt
+        | BuiltinFeature::StrSize
+        | BuiltinFeature::InGetByte
+        | BuiltinFeature::ArefAsize => Ok(Some(INT)),
+        BuiltinFeature::IntChar | BuiltinFeature::StrAget => Ok(Some(CHAR)),
+        BuiltinFeature::IntStr
+        | BuiltinFeature::CharStr
+        | BuiltinFeature::StrCat
+        | BuiltinFeature::StrSubstring
+        | BuiltinFeature::StrOf => Ok(Some(STR)),
+        BuiltinFeature::OutPut
+        | BuiltinFeature::OutPutInt
+        | BuiltinFeature::OutPutChar
+        | BuiltinFeature::ArefAset => Ok(None),
+        BuiltinFeature::ArefAget => Ok(Some(element_type(core, ty)?)),
+        BuiltinFeature::ArrayCreate => Ok(Some(ty)),
+    }
+}
+
+/// A feature by its number.
+pub fn feature(core: &Core, number: u32) -> Result<&FeatureCore, NoMemory> {
+    held(core.features.get(number as usize))
+}
+
+/// The type of a variable of a feature.
+pub fn variable_type(core: &Core, number: u32, place: usize) -> Result<u32, NoMemory> {
+    held(feature(core, number)?.vars.get(place).copied())
+}
+
+fn builtin(number: u8) -> Result<BuiltinFeature, NoMemory> {
+    held(BuiltinFeature::of_number(number))
+}
+
+fn shared(core: &Core, number: u32) -> Result<&SharedCore, NoMemory> {
+    held(core.shareds.get(number as usize))
+}
+
+fn info(core: &Core, ty: u32) -> Result<&TypeInfo, NoMemory> {
+    held(core.types.get(ty as usize))
+}
+
+fn attribute_type(core: &Core, ty: u32, place: u32) -> Result<u32, NoMemory> {
+    held(info(core, ty)?.attrs.get(place as usize).copied())
+}
+
+fn element_type(core: &Core, ty: u32) -> Result<u32, NoMemory> {
+    held(info(core, ty)?.elem)
+}

@@ -1,0 +1,111 @@
+//! The body that does each implementation of a signature: that of the feature, or a body of its own. As soon as one
+//! implementation of a signature needs a body of its own, all of them have one, so that a dispatched call, which doesn't know
+//! which one it will reach, can make the checks of a call for all or for none.
+
+use crate::own_body::own_body;
+use crate::passing::{Passing, passing_of, widened_result};
+use crate::signatures::{SignatureTypes, is_immutable, signature_types, type_numbers};
+use sa_core::{Core, ImplCore, SigCore, Target};
+use sa_flat::{Draft, FlatBody, FlatFormal, held};
+use sa_tree::NoMemory;
+use sqlite_items::Items;
+use std::alloc::Global;
+
+/// The number of the body of each implementation, in the order of the signatures and of their implementations. The bodies
+/// that are made for them stand behind the others.
+pub fn targets(
+    alloc: Global,
+    core: &Core,
+    draft: &mut Draft,
+    bodies: &mut Items<FlatBody>,
+) -> Result<Items<u32>, NoMemory> {
+    let numbers = type_numbers(alloc, core.types.as_slice())?;
+    let mut targets = Items::new(alloc);
+    for signature in core.sigs.as_slice() {
+        let types = signature_types(alloc, &numbers, signature)?;
+        if needs_own_bodies(core, signature, &types)? {
+            add_own_bodies(alloc, core, signature, &types, draft, bodies, &mut targets)?;
+        } else {
+            add_features(signature.impls.as_slice(), &mut targets)?;
+        }
+    }
+    Ok(targets)
+}
+
+/// A body of its own for each implementation of a signature.
+fn add_own_bodies(
+    alloc: Global,
+    core: &Core,
+    signature: &SigCore,
+    types: &SignatureTypes,
+    draft: &mut Draft,
+    bodies: &mut Items<FlatBody>,
+    targets: &mut Items<u32>,
+) -> Result<(), NoMemory> {
+    for implementation in signature.impls.as_slice() {
+        let number = held(u32::try_from(bodies.len()).ok())?;
+        bodies.push(own_body(alloc, core, implementation, types, draft)?)?;
+        targets.push(number)?;
+    }
+    Ok(())
+}
+
+/// The bodies of the features that implement a signature.
+fn add_features(implementations: &[ImplCore], targets: &mut Items<u32>) -> Result<(), NoMemory> {
+    for implementation in implementations {
+        targets.push(held(feature_number(implementation.target))?)?;
+    }
+    Ok(())
+}
+
+fn feature_number(target: Target) -> Option<u32> {
+    match target {
+        Target::Feature(number) => Some(number),
+        _ => None,
+    }
+}
+
+/// Whether the implementations of a signature have bodies of their own.
+fn needs_own_bodies(
+    core: &Core,
+    signature: &SigCore,
+    types: &SignatureTypes,
+) -> Result<bool, NoMemory> {
+    for implementation in signature.impls.as_slice() {
+        if needs_own_body(core, implementation, types)? {
+            return Ok(true);
+        }
+    }
+    Ok(false)
+}
+
+/// Whether an implementation is no feature, or is called with another receiver, arguments or result than the signature has.
+fn needs_own_body(
+    core: &Core,
+    implementation: &ImplCore,
+    types: &SignatureTypes,
+) -> Result<bool, NoMemory> {
+    if feature_number(implementation.target).is_none() {
+        return Ok(true);
+    }
+    if is_immutable(core, implementation.ty)? {
+        return Ok(true);
+    }
+    if widened_result(core, implementation, types)?.is_some() {
+        return Ok(true);
+    }
+    is_any_argument_widened(core, implementation, types.formals.as_slice())
+}
+
+fn is_any_argument_widened(
+    core: &Core,
+    implementation: &ImplCore,
+    formals: &[FlatFormal],
+) -> Result<bool, NoMemory> {
+    for (place, formal) in formals.iter().enumerate() {
+        if passing_of(core, implementation, place, *formal)? != Passing::Plain {
+            return Ok(true);
+        }
+    }
+    Ok(false)
+}

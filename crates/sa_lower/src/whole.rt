@@ -1,0 +1,105 @@
+//! A whole typed program as a flat one.
+
+use crate::features::feature_bodies;
+use crate::run::run_body;
+use crate::targets::targets;
+use indexmap::IndexSet;
+use sa_core::{Core, SharedCore, TypeInfo, positions};
+use sa_flat::{Draft, FlatProgram, Layout};
+use sa_tree::{Name, NoMemory};
+use sqlite_items::Items;
+use std::alloc::Global;
+use std::mem;
+
+/// The flat program of a typed one, which has a line for each of its positions.
+///
+/// # Errors
+///
+/// `NoMemory`, also where the program holds a call of an iter, a bind, a protect, a yield or a quit outside the bodies of
+/// iters.
+pub fn lower(alloc: Global, core: &Core) -> Result<FlatProgram, NoMemory> {
+    let mut program = tables(alloc, core)?;
+    let mut draft = Draft::new(alloc, program.sites.as_slice(), core.lines.as_slice())?;
+    add_bodies(alloc, core, &mut draft, &mut program)?;
+    program.texts = texts(alloc, draft)?;
+    Ok(program)
+}
+
+/// Puts the bodies into a program, and the targets of its signatures.
+fn add_bodies(
+    alloc: Global,
+    core: &Core,
+    draft: &mut Draft,
+    program: &mut FlatProgram,
+) -> Result<(), NoMemory> {
+    program.bodies = feature_bodies(alloc, core, draft)?;
+    program.targets = targets(alloc, core, draft, &mut program.bodies)?;
+    program.bodies.push(run_body(alloc, core, draft)?)?;
+    Ok(())
+}
+
+/// A program without bodies and texts, with what the typed one says of its types, shareds and positions.
+fn tables(alloc: Global, core: &Core) -> Result<FlatProgram, NoMemory> {
+    let mut program = empty(alloc);
+    program.sites = positions(alloc, core)?;
+    program.types = slots(alloc, core.types.as_slice())?;
+    program.layouts = layouts(alloc, core.types.as_slice())?;
+    program.shareds = shared_types(alloc, core.shareds.as_slice())?;
+    Ok(program)
+}
+
+fn empty(alloc: Global) -> FlatProgram {
+    FlatProgram {
+        bodies: Items::new(alloc),
+        texts: Items::new(alloc),
+        sites: Items::new(alloc),
+        types: Items::new(alloc),
+        targets: Items::new(alloc),
+        layouts: Items::new(alloc),
+        shareds: Items::new(alloc),
+        binds: Items::new(alloc),
+    }
+}
+
+/// The texts of a program, in the order of their numbers.
+fn texts(alloc: Global, mut draft: Draft) -> Result<Items<Name>, NoMemory> {
+    let set = mem::replace(&mut draft.texts, IndexSet::new(alloc));
+    let mut texts = Items::new(alloc);
+    for text in set {
+        texts.push(text)?;
+    }
+    Ok(texts)
+}
+
+/// The number of attributes of each type.
+fn slots(alloc: Global, types: &[TypeInfo]) -> Result<Items<u32>, NoMemory> {
+    let mut slots = Items::new(alloc);
+    for info in types {
+        slots.push(info.slots)?;
+    }
+    Ok(slots)
+}
+
+/// The layout of each type.
+fn layouts(alloc: Global, types: &[TypeInfo]) -> Result<Items<Layout>, NoMemory> {
+    let mut layouts = Items::new(alloc);
+    for info in types {
+        layouts.push(Layout {
+            kind: info.kind,
+            attrs: Items::from_slice(alloc, info.attrs.as_slice())?,
+            array: info.array,
+            elem: info.elem,
+            above: Items::from_slice(alloc, info.above.as_slice())?,
+        })?;
+    }
+    Ok(layouts)
+}
+
+/// The number of the type of each shared.
+fn shared_types(alloc: Global, shareds: &[SharedCore]) -> Result<Items<u32>, NoMemory> {
+    let mut types = Items::new(alloc);
+    for shared in shareds {
+        types.push(shared.ty)?;
+    }
+    Ok(types)
+}
