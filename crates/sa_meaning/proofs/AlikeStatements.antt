@@ -1,0 +1,223 @@
+-- Expressions and statements, of which one runs to a level what turns begin, and the other to a greater one.
+use Rattle.std.proofs.Common.{◌≡◌, ℕ, zero, suc, ◌+◌, Bool, List, [], Option, Some, None, refl, subst, arith}
+use Rattle.sa_tree.specs.declared.pos.Pos.{Pos}
+use Rattle.sa_tree.specs.declared.ty.Mode.{Mode}
+use Rattle.sa_core.specs.declared.feature.CalledCore.{CalledCore}
+use Rattle.sa_core.specs.declared.feature.CalledCore.TheVariants as called
+use Rattle.sa_core.specs.Tree as tree
+use Rattle.sa_core.specs.Tree.{Expr, VoidOf, Me, Var, Exception, IsVoid, New, NewArray, Elements, Call, IterCall, Bind, Swapped, And, Or, Widen, Exprs, no_exprs, expr, Arg, Variable, Left, Args, no_args, arg}
+use Rattle.sa_core.specs.Tree.{Stmt, Let, Do, If, Loop, Leave, TypeCase, Protect, Return, Yield, Quit, Raise, Stop, Stmts, no_stmts, stmt, Tests, no_tests, branch, Arms, no_arms, arm, Else, no_else, otherwise}
+use Rattle.sa_meaning.specs.Value.{Value}
+use Rattle.sa_meaning.specs.Program.{Program}
+use Rattle.sa_meaning.specs.State.{Residue, Over, Next, Rest, Sites, Instance, Cause, Broke, Raised, Failed, InputFailed, Stuck, Flow, Done, Yielding, Returning, Quitting}
+use Rattle.sa_meaning.specs.Steps.{Eval}
+use Rattle.sa_meaning.specs.Calls.{Callee}
+use Rattle.sa_meaning.specs.Evaluation.{new_object, array_of, bound_value, bound_to_callee, bound, station, this_site, iter_call, evaluate, evaluate_all, evaluate_args, evaluate_arg, evaluate_tests}
+use Rattle.sa_meaning.specs.Statements.{after_statement, followed, with_exception, not_suspended, caught, is_left, takes, raised, round, after_round, out_of_round, value_of, test_of, execute, execute_all, execute_first, execute_case, execute_branch, execute_else, execute_else_with, left, run_to}
+use Rattle.sa_meaning.proofs.Alike.{ends, ends_first, Alike, Steady, alike_resolve, alike_then, alike_before, alike_if, turns, steady_pure, steady_stop, steady_look, steady_change, steady_or_stuck}
+use Rattle.sa_meaning.proofs.SteadySteps.{steady_charge, steady_add_object, steady_fault, steady_read, steady_write}
+use Rattle.sa_meaning.proofs.SteadyBuiltin.{steady_new_array}
+use Rattle.sa_meaning.proofs.AlikeCalls.{steady_dynamic_type, steady_widened, steady_callee, steady_handed, steady_this_feature, steady_clear_loop, steady_end_loop, alike_reached, alike_call, alike_start, alike_resume}
+
+module _ (p : Program) (at : Pos) where
+  steady_new_object : {level : ℕ} (ty : ℕ) → Steady level (new_object p at ty)
+  steady_new_object ty = alike_then (steady_or_stuck _) (λ t. alike_before (steady_charge at _) (alike_then (steady_add_object _) (λ number. steady_pure _)))
+
+  steady_array_of : {level : ℕ} (ty : ℕ) (elements : List Value) → Steady level (array_of p at ty elements)
+  steady_array_of ty elements = alike_then (steady_or_stuck _) (λ t. alike_before (steady_charge at _) (alike_then (steady_add_object _) (λ number. steady_pure _)))
+
+  steady_bound_value : {level : ℕ} (ty : ℕ) (c : Callee) (given : List (Option Value)) → Steady level (bound_value p at ty c given)
+  steady_bound_value ty c given =
+      alike_then (steady_or_stuck _) (λ class. alike_before (steady_charge at _) (alike_then (steady_add_object _) (λ number. steady_pure _)))
+
+  steady_bound_to_callee : {level : ℕ} (c : CalledCore) (ty : ℕ) (v : Value) (given : List (Option Value)) → Steady level (bound_to_callee p at c ty v given)
+  steady_bound_to_callee called ty v given =
+      alike_then (steady_callee p at called v) (λ c. alike_then (steady_handed p at called c given []) (λ h. steady_bound_value ty c h.given))
+
+  steady_bound : {level : ℕ} (c : CalledCore) (ty : ℕ) (v : Value) (given : List (Option Value)) → Steady level (bound p at c ty v given)
+  steady_bound called.Bound ty v given = steady_stop _
+  steady_bound (called.Static target class) ty v given = steady_bound_to_callee (called.Static target class) ty v given
+  steady_bound (called.Dispatch k) ty v given = steady_bound_to_callee (called.Dispatch k) ty v given
+
+-- ---- statements by their ends
+
+alike_followed : {level : ℕ} {f g h i : Eval Flow} (rest : Residue) → Alike level f g → Alike level h i → Alike level (followed f rest h) (followed g rest i)
+alike_followed {level = level} {h = h} {i = i} rest a b = alike_then a after
+  where
+    after : (flow : Flow) → Alike level (after_statement rest h flow) (after_statement rest i flow)
+    after Done = b
+    after (Yielding v r) = steady_pure _
+    after (Returning v) = steady_pure _
+    after Quitting = steady_pure _
+
+steady_not_suspended : {level : ℕ} (flow : Flow) → Steady level (not_suspended flow)
+steady_not_suspended Done = steady_pure _
+steady_not_suspended (Yielding v r) = steady_stop _
+steady_not_suspended (Returning v) = steady_pure _
+steady_not_suspended Quitting = steady_pure _
+
+alike_with_exception : {level : ℕ} (v : Value) {f g : Eval Flow} → Alike level f g → Alike level (with_exception v f) (with_exception v g)
+alike_with_exception v e =
+    alike_then (steady_look _ (λ d s. refl)) (λ before. alike_before (steady_change _ (λ d s. refl) (λ s. refl) (λ s. refl)) (alike_then e (λ flow. alike_before (steady_change _ (λ d s. refl) (λ s. refl) (λ s. refl)) (steady_not_suspended flow))))
+
+alike_caught : {level : ℕ} (f g : Value → Option ℕ → Eval Flow → Eval Flow) → ((v : Value) (ty : Option ℕ) (again : Eval Flow) → Steady level again → Alike level (f v ty again) (g v ty again)) → (cause : Cause) → Alike level (caught f cause) (caught g cause)
+alike_caught f g e (Raised v kind at) = alike_then (steady_dynamic_type v) (λ dynamic. e v dynamic _ (steady_stop _))
+alike_caught f g e Broke = steady_stop _
+alike_caught f g e (Failed kind at) = steady_stop _
+alike_caught f g e InputFailed = steady_stop _
+alike_caught f g e Stuck = steady_stop _
+
+steady_is_left : {level : ℕ} (kind : ℕ) (b : Bool) → Steady level (is_left kind b)
+steady_is_left zero b = steady_stop _
+steady_is_left (suc zero) b = alike_if b (steady_pure _) (steady_stop _)
+steady_is_left (suc (suc n)) b = alike_if b (steady_stop _) (steady_pure _)
+
+steady_raised : {level : ℕ} (p : Program) (at : Pos) (v : Value) → Steady level (raised p at v)
+steady_raised p at v = alike_if _ (steady_fault Flow p _ at) (steady_stop _)
+
+-- ---- what a turn begins
+
+module _ (p : Program) (level : ℕ) (go to : Residue → Eval Flow) (alike : (r : Residue) → Alike level (go r) (to r)) where
+  module _ (site : ℕ) (at : Pos) where
+    steady_station : Alike (suc level) (station p go site at) (station p to site at)
+    steady_station = alike_then (steady_look _ (λ d s. refl)) (λ caller. alike_then (steady_or_stuck _) (λ feature. steady_pure _))
+
+    steady_this_site : Alike (suc level) (this_site p go site at) (this_site p to site at)
+    steady_this_site = alike_then steady_this_feature (λ k. alike_then (steady_or_stuck _) (λ f. steady_or_stuck _))
+
+    alike_iter_call : (self self' : Eval Value) (once once' others others' : Eval (List (Option Value))) (back : List (Option ℕ)) → Alike (suc level) self self' → Alike (suc level) once once' → Alike (suc level) others others' → (o : Option (Instance × Sites)) → Alike (suc level) (iter_call p go site at self once others back o) (iter_call p to site at self' once' others' back o)
+    alike_iter_call self self' once once' others others' back a b c None =
+        alike_then a (λ v. alike_then b (λ first. alike_then c (λ second. alike_then steady_this_site (λ s. alike_then (steady_callee p at _ v) (λ e. alike_then (steady_handed p at _ e _ back) (λ h.
+        alike_then steady_station (λ here. alike_start p level go to alike here e h)))))))
+    alike_iter_call self self' once once' others others' back a b c (Some e) =
+        alike_then c (λ given. alike_then steady_this_site (λ s. alike_then (steady_handed p at _ _ given back) (λ h.
+        alike_then steady_station (λ here. alike_resume p level go to alike here e.0 e.1 h))))
+
+  mutual
+    pub alike_evaluate : (e : Expr) → Alike (suc level) (evaluate p go e) (evaluate p to e)
+    alike_evaluate (tree.Int z) = steady_pure _
+    alike_evaluate (tree.Truth b) = steady_pure _
+    alike_evaluate (tree.Char byte) = steady_pure _
+    alike_evaluate (tree.Text bytes) = steady_pure _
+    alike_evaluate (VoidOf ty) = steady_pure _
+    alike_evaluate Me = steady_look _ (λ d s. refl)
+    alike_evaluate (Var var) = steady_read var
+    alike_evaluate Exception = alike_then (steady_look _ (λ d s. refl)) steady_or_stuck
+    alike_evaluate (IsVoid of) = alike_then (alike_evaluate of) (λ v. steady_pure _)
+    alike_evaluate (New ty at) = steady_new_object p at ty
+    alike_evaluate (NewArray ty size at) = alike_then (alike_evaluate size) (λ v. alike_then (steady_or_stuck _) (λ count. steady_new_array p ty at count))
+    alike_evaluate (Elements ty elements at) = alike_then (alike_evaluate_all elements) (λ vs. steady_array_of p at ty vs)
+    alike_evaluate (Call called on arguments at) =
+        alike_then (alike_evaluate on) (λ v. alike_then (alike_evaluate_args _ arguments) (λ given. alike_call p level go to alike at called v given _))
+    alike_evaluate (IterCall site on arguments at) =
+        alike_then (steady_look _ (λ d s. refl)) (λ sites. alike_iter_call site at _ _ _ _ _ _ _ (alike_evaluate on) (alike_evaluate_args _ arguments) (alike_evaluate_args _ arguments) _)
+    alike_evaluate (Bind called on arguments ty at) =
+        alike_then (alike_evaluate on) (λ v. alike_then (alike_evaluate_args _ arguments) (λ given. steady_bound p at called ty v given))
+    alike_evaluate (Swapped target first second at) =
+        alike_then (alike_evaluate first) (λ v. alike_then (alike_evaluate second) (λ self. alike_then (alike_reached p level go to alike at target None self _) (λ r. steady_pure _)))
+    alike_evaluate (And first second) =
+        alike_then (alike_then (alike_evaluate first) (λ v. steady_or_stuck _)) (λ b. alike_if b (alike_evaluate second) (steady_pure _))
+    alike_evaluate (Or first second) =
+        alike_then (alike_then (alike_evaluate first) (λ v. steady_or_stuck _)) (λ b. alike_if b (steady_pure _) (alike_evaluate second))
+    alike_evaluate (Widen ty of at) = alike_then (alike_evaluate of) (λ v. steady_widened p at v)
+
+    alike_evaluate_all : (es : Exprs) → Alike (suc level) (evaluate_all p go es) (evaluate_all p to es)
+    alike_evaluate_all no_exprs = steady_pure _
+    alike_evaluate_all (expr e more) = alike_then (alike_evaluate e) (λ v. alike_then (alike_evaluate_all more) (λ vs. steady_pure _))
+
+    alike_evaluate_args : (test : Mode → Bool) (arguments : Args) → Alike (suc level) (evaluate_args p go test arguments) (evaluate_args p to test arguments)
+    alike_evaluate_args test no_args = steady_pure _
+    alike_evaluate_args test (arg a more) = alike_then (alike_evaluate_arg test a) (λ v. alike_then (alike_evaluate_args test more) (λ vs. steady_pure _))
+
+    alike_evaluate_arg : (test : Mode → Bool) (a : Arg) → Alike (suc level) (evaluate_arg p go test a) (evaluate_arg p to test a)
+    alike_evaluate_arg test (tree.Value mode e) = alike_if _ (alike_then (alike_evaluate e) (λ v. steady_pure _)) (steady_pure _)
+    alike_evaluate_arg test (Variable mode var) = alike_if _ (alike_if _ (alike_then (steady_read var) (λ v. steady_pure _)) (steady_pure _)) (steady_pure _)
+    alike_evaluate_arg test Left = steady_pure _
+
+  alike_evaluate_tests : (es : Exprs) → Alike (suc level) (evaluate_tests p go es) (evaluate_tests p to es)
+  alike_evaluate_tests no_exprs = steady_pure _
+  alike_evaluate_tests (expr e more) =
+      alike_then (alike_then (alike_evaluate e) (λ v. steady_or_stuck _)) (λ b. alike_if b (steady_pure _) (alike_evaluate_tests more))
+
+  alike_round : (loop : ℕ) (body : Stmts) → Alike (suc level) (round p go loop body) (round p to loop body)
+  alike_round loop body = turns (alike _)
+
+  alike_after_round : (loop : ℕ) (body : Stmts) (flow : Flow) → Alike (suc level) (after_round p go loop body flow) (after_round p to loop body flow)
+  alike_after_round loop body Done = alike_round loop body
+  alike_after_round loop body (Yielding v r) = steady_pure _
+  alike_after_round loop body (Returning v) = alike_before (steady_end_loop p loop) (steady_pure _)
+  alike_after_round loop body Quitting = alike_before (steady_end_loop p loop) (steady_pure _)
+
+  alike_out_of_round : (loop : ℕ) (cause : Cause) → Alike (suc level) (out_of_round p go loop cause) (out_of_round p to loop cause)
+  alike_out_of_round loop Broke = alike_before (steady_end_loop p loop) (steady_pure _)
+  alike_out_of_round loop (Raised v kind at) = alike_before (steady_end_loop p loop) (steady_stop _)
+  alike_out_of_round loop (Failed kind at) = steady_stop _
+  alike_out_of_round loop InputFailed = steady_stop _
+  alike_out_of_round loop Stuck = steady_stop _
+
+  alike_value_of : (e : Option Expr) → Alike (suc level) (value_of p go e) (value_of p to e)
+  alike_value_of None = steady_pure _
+  alike_value_of (Some e) = alike_evaluate e
+
+  alike_test_of : (e : Option Expr) → Alike (suc level) (test_of p go e) (test_of p to e)
+  alike_test_of None = steady_pure _
+  alike_test_of (Some e) = alike_then (alike_evaluate e) (λ v. steady_or_stuck _)
+
+  mutual
+    alike_execute : (a : Stmt) → Alike (suc level) (execute p go a) (execute p to a)
+    alike_execute (Let var e) = alike_before (alike_then (alike_evaluate e) (λ v. steady_write var v)) (steady_pure _)
+    alike_execute (Do e) = alike_before (alike_evaluate e) (steady_pure _)
+    alike_execute (If tests other) = alike_execute_first tests (alike_execute_all other)
+    alike_execute (Loop loop body) = alike_before (steady_clear_loop p loop) (alike_round loop body)
+    alike_execute (Leave kind test) = alike_then (alike_test_of test) (steady_is_left kind)
+    alike_execute (TypeCase var arms other at) =
+        alike_then (steady_read var) (λ v. alike_then (steady_dynamic_type v) (λ dynamic. alike_execute_case v dynamic arms (alike_execute_else other (steady_fault Flow p _ at))))
+    alike_execute (Protect body arms other) =
+        alike_resolve (alike_execute_all body) steady_not_suspended (alike_caught _ _ (λ v dynamic again e. alike_execute_branch v dynamic arms (alike_execute_else_with v other e)))
+    alike_execute (Return value) = alike_then (alike_value_of value) (λ v. steady_pure _)
+    alike_execute (Yield value) = alike_then (alike_value_of value) (λ v. steady_pure _)
+    alike_execute Quit = steady_pure _
+    alike_execute (Raise e at) = alike_then (alike_evaluate e) (λ v. steady_raised p at v)
+    alike_execute (Stop kind at) = steady_fault Flow p kind at
+
+    alike_execute_all : (list : Stmts) → Alike (suc level) (execute_all p go list) (execute_all p to list)
+    alike_execute_all no_stmts = steady_pure _
+    alike_execute_all (stmt a more) = alike_followed _ (alike_execute a) (alike_execute_all more)
+
+    alike_execute_first : (tests : Tests) {f g : Eval Flow} → Alike (suc level) f g → Alike (suc level) (execute_first p go tests f) (execute_first p to tests g)
+    alike_execute_first no_tests e = e
+    alike_execute_first (branch tests body more) e = alike_then (alike_evaluate_tests tests) (λ b. alike_if b (alike_execute_all body) (alike_execute_first more e))
+
+    alike_execute_case : (v : Value) (dynamic : Option ℕ) (arms : Arms) {f g : Eval Flow} → Alike (suc level) f g → Alike (suc level) (execute_case p go v dynamic arms f) (execute_case p to v dynamic arms g)
+    alike_execute_case v dynamic no_arms e = e
+    alike_execute_case v dynamic (arm ty var body more) e =
+        alike_if (takes p ty dynamic) (alike_before (steady_write var _) (alike_execute_all body)) (alike_execute_case v dynamic more e)
+
+    alike_execute_branch : (v : Value) (dynamic : Option ℕ) (arms : Arms) {f g : Eval Flow} → Alike (suc level) f g → Alike (suc level) (execute_branch p go v dynamic arms f) (execute_branch p to v dynamic arms g)
+    alike_execute_branch v dynamic no_arms e = e
+    alike_execute_branch v dynamic (arm ty var body more) e =
+        alike_if (takes p ty dynamic) (alike_with_exception _ (alike_execute_all body)) (alike_execute_branch v dynamic more e)
+
+    alike_execute_else : (other : Else) {f g : Eval Flow} → Alike (suc level) f g → Alike (suc level) (execute_else p go other f) (execute_else p to other g)
+    alike_execute_else no_else e = e
+    alike_execute_else (otherwise body) e = alike_execute_all body
+
+    alike_execute_else_with : (v : Value) (other : Else) {f g : Eval Flow} → Alike (suc level) f g → Alike (suc level) (execute_else_with p go v other f) (execute_else_with p to v other g)
+    alike_execute_else_with v no_else e = e
+    alike_execute_else_with v (otherwise body) e = alike_with_exception v (alike_execute_all body)
+
+  alike_left : (r : Residue) → Alike (suc level) (left p go r) (left p to r)
+  alike_left Over = steady_pure _
+  alike_left (Next a rest) = alike_followed _ (alike_execute a) (alike_left rest)
+  alike_left (Rest loop body inner rest) =
+      alike_followed _ (alike_resolve (alike_left inner) (alike_after_round loop body) (alike_out_of_round loop)) (alike_left rest)
+
+same_run_to : (level : ℕ) (p : Program) (r : Residue) → Steady level (run_to p level r)
+same_run_to zero p r = ends
+same_run_to (suc level) p r = alike_left p level _ _ (same_run_to level p) r
+
+pub alike_run_to : (n m : ℕ) (p : Program) (r : Residue) → Alike n (run_to p n r) (run_to p (n + m) r)
+alike_run_to zero m p r = ends_first (same_run_to (0 + m) p r)
+alike_run_to (suc n) m p r =
+    let e : suc (n + m) ≡ suc n + m = omega arith in
+    subst (λ k. Alike (suc n) (run_to p (suc n) r) (run_to p k r)) e (alike_left p n _ _ (alike_run_to n m p) r)

@@ -1,0 +1,8 @@
+pub mod Alike
+mod Computed
+pub mod AlikeCalls
+pub mod AlikeStatements
+pub mod Laws
+pub mod SteadyBuiltin
+pub mod SteadySteps
+pub mod WholeRuns

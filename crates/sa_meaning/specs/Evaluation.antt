@@ -1,0 +1,185 @@
+-- What expressions give.
+use Rattle.std.specs.Prelude.{ℕ, ◌+◌, Bool, true, false, not, if◌then◌else◌, List, [], ◌∷◌, map, length, Option, Some, None, is_none}
+use Rattle.sa_tree.specs.declared.pos.Pos.{Pos}
+use Rattle.sa_tree.specs.declared.ty.Mode.{Mode}
+use Rattle.sa_tree.specs.declared.ty.Mode.TheVariants as mode
+use Rattle.sa_core.specs.declared.feature.CalledCore.{CalledCore}
+use Rattle.sa_core.specs.declared.feature.CalledCore.TheVariants as called
+use Rattle.sa_core.specs.declared.feature.SiteCore.{SiteCore}
+use Rattle.sa_core.specs.declared.feature.Target.TheVariants as target
+use Rattle.sa_core.specs.Tree as tree
+use Rattle.sa_core.specs.Tree.{Expr, VoidOf, Me, Var, Exception, IsVoid, New, NewArray, Elements, Call, IterCall, Bind, Swapped, And, Or, Widen, Exprs, no_exprs, expr, Arg, Variable, Left, Args, no_args, arg}
+use Rattle.sa_meaning.specs.Value.{Value, Int, Truth, Char, Text, Ref, Bound, is_void, as_int, as_truth}
+use Rattle.sa_meaning.specs.Program.{Program, void_of}
+use Rattle.sa_meaning.specs.State.{Residue, Sites, Instance, Flow, Stuck}
+use Rattle.sa_meaning.specs.Steps.{Eval, ◌>>=◌, ◌>>◌, pure, look, stop, or_stuck, at_place, charge, object_size, add_object, plain, read}
+use Rattle.sa_meaning.specs.Builtin.{new_array}
+use Rattle.sa_meaning.specs.Calls.{Callee, callee, handed, reached, call, widened, only_given}
+use Rattle.sa_meaning.specs.Instances.{Station, is_once, found, this_feature, start, resume}
+
+-- ---- arguments
+
+abbrev pub is_read : Mode → Bool
+is_read mode.Inout = true
+is_read _ = false
+
+-- by the arguments, the variables that get a value back
+abbrev pub variables_of : Args → List (Option ℕ)
+variables_of no_args = []
+variables_of (arg (Variable mode var) more) = Some var ∷ variables_of more
+variables_of (arg _ more) = None ∷ variables_of more
+
+-- by the arguments, the first value that there is
+abbrev pub either : List (Option Value) → List (Option Value) → List (Option Value)
+either (None ∷ first) (v ∷ second) = v ∷ either first second
+either (Some v ∷ first) (_ ∷ second) = Some v ∷ either first second
+either first _ = first
+
+abbrev pub every : Mode → Bool
+every _ = true
+
+abbrev pub not_once : Mode → Bool
+not_once mode = not (is_once mode)
+
+-- ---- tests
+
+abbrev pub truth_of : Value → Eval Bool
+truth_of v = or_stuck (as_truth v)
+
+-- ---- new objects
+
+module _ (p : Program) (at : Pos) where
+  abbrev pub new_object : ℕ → Eval Value
+  new_object ty = do
+    t ← at_place p.types ty
+    charge at (object_size (length t.attrs) 0)
+    number ← add_object (plain ty (map (void_of p) t.attrs) [])
+    pure (Ref number)
+
+  -- an array that has these elements
+  abbrev pub array_of : ℕ → List Value → Eval Value
+  array_of ty elements = do
+    t ← at_place p.types ty
+    charge at (object_size (length t.attrs) (length elements))
+    number ← add_object (plain ty (map (void_of p) t.attrs) elements)
+    pure (Ref number)
+
+  abbrev pub bound_value : ℕ → Callee → List (Option Value) → Eval Value
+  bound_value ty c given = do
+    class ← or_stuck c.class
+    charge at (object_size (1 + length (only_given given)) 0)
+    number ← add_object (record { ty = ty; fields = c.self ∷ only_given given; elements = []; binding = Some (record { target = c.target; class = class; is_open = map is_none given }) })
+    pure (Bound number)
+
+  abbrev pub bound_to_callee : CalledCore → ℕ → Value → List (Option Value) → Eval Value
+  bound_to_callee called ty v given = do
+    c ← callee p at called v
+    h ← handed p at called c given []
+    bound_value ty c h.given
+
+  -- A bind chooses the implementation, and widens what it keeps. The call of a bound value isn't bound.
+  abbrev pub bound : CalledCore → ℕ → Value → List (Option Value) → Eval Value
+  bound called.Bound ty v given = stop Stuck
+  bound called ty v given = bound_to_callee called ty v given
+
+-- ---- iter calls
+
+module _ (p : Program) (go : Residue → Eval Flow) (site : ℕ) (at : Pos) where
+  abbrev pub station : Eval Station
+  station = do
+    caller ← look (λ s. s.here)
+    feature ← or_stuck caller.feature
+    pure (record { caller = caller; feature = feature; site = site; at = at })
+
+  abbrev pub this_site : Eval SiteCore
+  this_site = do
+    k ← this_feature
+    f ← at_place p.features k
+    at_place f.sites site
+
+  -- Self and the `once` arguments are evaluated at a start alone, and before the others.
+  abbrev pub iter_call : Eval Value → Eval (List (Option Value)) → Eval (List (Option Value)) → List (Option ℕ) → Option (Instance × Sites) → Eval Value
+  iter_call self once others back None = do
+    v ← self
+    first ← once
+    second ← others
+    s ← this_site
+    c ← callee p at s.called v
+    h ← handed p at s.called c (either first second) back
+    here ← station
+    start p go here c h
+  iter_call self once others back (Some e) = do
+    given ← others
+    s ← this_site
+    h ← handed p at s.called (record { target = target.Feature e.0.feature; class = None; self = e.0.self; through = e.0.through }) given back
+    here ← station
+    resume p go here e.0 e.1 h
+
+-- ---- expressions
+
+module _ (p : Program) (go : Residue → Eval Flow) where
+  abbrev mutual
+    pub evaluate : Expr → Eval Value
+    evaluate (tree.Int z) = pure (Int z)
+    evaluate (tree.Truth b) = pure (Truth b)
+    evaluate (tree.Char byte) = pure (Char byte)
+    evaluate (tree.Text bytes) = pure (Text bytes)
+    evaluate (VoidOf ty) = pure (void_of p ty)
+    evaluate Me = look (λ s. s.here.self)
+    evaluate (Var var) = read var
+    evaluate Exception = look (λ s. s.here.exception) >>= or_stuck
+    evaluate (IsVoid of) = evaluate of >>= (λ v. pure (Truth (is_void v)))
+    evaluate (New ty at) = new_object p at ty
+    evaluate (NewArray ty size at) = do
+      v ← evaluate size
+      count ← or_stuck (as_int v)
+      new_array p ty at count
+    evaluate (Elements ty elements at) = evaluate_all elements >>= array_of p at ty
+    evaluate (Call called on arguments at) = do
+      v ← evaluate on
+      given ← evaluate_args every arguments
+      call p go at called v given (variables_of arguments)
+    evaluate (IterCall site on arguments at) = do
+      sites ← look (λ s. s.here.sites)
+      iter_call p go site at (evaluate on) (evaluate_args is_once arguments) (evaluate_args not_once arguments) (variables_of arguments) (found site sites)
+    evaluate (Bind called on arguments ty at) = do
+      v ← evaluate on
+      given ← evaluate_args every arguments
+      bound p at called ty v given
+    evaluate (Swapped target first second at) = do
+      v ← evaluate first
+      self ← evaluate second
+      r ← reached p go at target None self (Some v ∷ [])
+      pure r.0
+    evaluate (And first second) = evaluate first >>= truth_of >>= (λ b. if b then evaluate second else pure (Truth false))
+    evaluate (Or first second) = evaluate first >>= truth_of >>= (λ b. if b then pure (Truth true) else evaluate second)
+    evaluate (Widen ty of at) = evaluate of >>= widened p at
+
+    pub evaluate_all : Exprs → Eval (List Value)
+    evaluate_all no_exprs = pure []
+    evaluate_all (expr e more) = do
+      v ← evaluate e
+      vs ← evaluate_all more
+      pure (v ∷ vs)
+
+    -- the arguments of such modes, and none at the others, nor where the callee alone sets a variable
+    pub evaluate_args : (Mode → Bool) → Args → Eval (List (Option Value))
+    evaluate_args test no_args = pure []
+    evaluate_args test (arg a more) = do
+      v ← evaluate_arg test a
+      vs ← evaluate_args test more
+      pure (v ∷ vs)
+
+    pub evaluate_arg : (Mode → Bool) → Arg → Eval (Option Value)
+    evaluate_arg test (tree.Value mode e) = if test mode then (evaluate e >>= (λ v. pure (Some v))) else pure None
+    evaluate_arg test (Variable mode var) = if test mode then (if is_read mode then (read var >>= (λ v. pure (Some v))) else pure None) else pure None
+    evaluate_arg test Left = pure None
+
+  -- a test of a condition
+  abbrev pub evaluate_truth : Expr → Eval Bool
+  evaluate_truth e = evaluate e >>= truth_of
+
+  -- whether one of the tests is true, where those behind it aren't evaluated
+  abbrev pub evaluate_tests : Exprs → Eval Bool
+  evaluate_tests no_exprs = pure false
+  evaluate_tests (expr e more) = evaluate_truth e >>= (λ b. if b then pure true else evaluate_tests more)

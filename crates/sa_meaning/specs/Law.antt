@@ -1,0 +1,29 @@
+-- Laws of whole runs.
+use Rattle.std.specs.Prelude.{◌≡◌, ℕ, ◌≤◌, List, ◌++◌}
+use Rattle.sa_core.specs.declared.program.Core.{Core}
+use Rattle.sa_meaning.specs.Program.{program_of}
+use Rattle.sa_meaning.specs.State.{Input}
+use Rattle.sa_meaning.specs.Run.{End, Spent, run, outcome, last_state, output}
+
+abbrev pub IsOver : End → Type 0
+IsOver (Spent output) = ⊥
+IsOver _ = Unit {0}
+
+abbrev pub IsSpent : End → Type 0
+IsSpent (Spent output) = Unit {0}
+IsSpent _ = ⊥
+
+abbrev pub IsPrefix : List ℕ → List ℕ → Type 0
+IsPrefix a b = (bytes : List ℕ) × (b ≡ a ++ bytes)
+
+-- a run that is over in n turns is the same in more
+abbrev pub IsSteady : Core → Type 0
+IsSteady core = (input : Input) (room n m : ℕ) → n ≤ m → IsOver (run core input room n) → run core input room m ≡ run core input room n
+
+-- the output in n turns is a prefix of the output in more
+abbrev pub IsGrowing : Core → Type 0
+IsGrowing core = (input : Input) (room n m : ℕ) → n ≤ m → IsPrefix (output core input room n) (output core input room m)
+
+-- a run that isn't over has no turn left
+abbrev pub IsSpending : Core → Type 0
+IsSpending core = (input : Input) (room n : ℕ) → IsSpent (run core input room n) → (last_state (outcome (program_of core) input room n)).turns ≡ 0

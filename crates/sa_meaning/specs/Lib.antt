@@ -1,0 +1,12 @@
+pub mod Builtin
+pub mod Calls
+pub mod Evaluation
+pub mod Instances
+pub mod Law
+pub mod Program
+pub mod Run
+pub mod Samples
+pub mod State
+pub mod Statements
+pub mod Steps
+pub mod Value

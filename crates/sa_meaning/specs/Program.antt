@@ -1,0 +1,158 @@
+-- A typed program as its meaning sees it, and which of these a tree of the checker is.
+use Rattle.std.specs.Prelude.{ℕ, zero, suc, pos, Bool, true, false, ◌&&◌, ◌||◌, ◌==◌, if◌then◌else◌, List, [], map, length, slice_get, position, find, Option, is_some, unwrap_or, option_and_then}
+use Rattle.std.specs.Option.{option_map_or}
+use Rattle.sa_tree.specs.declared.class.Kind.{Kind}
+use Rattle.sa_tree.specs.declared.class.Kind.TheVariants as kind
+use Rattle.sa_tree.specs.declared.pos.Pos.{Pos}
+use Rattle.sa_tree.specs.declared.ty.Mode.{Mode}
+use Rattle.sa_tree.specs.Types.{BareTy, Rout, Iter, BareResult, no_result, gives, bare, option_bare}
+use Rattle.sa_types.specs.Abstract.{is_abstract_bare}
+use Rattle.sa_core.specs.declared.feature.FeatureCore.{FeatureCore}
+use Rattle.sa_core.specs.declared.feature.SiteCore.{SiteCore}
+use Rattle.sa_core.specs.declared.program.Core.{Core}
+use Rattle.sa_core.specs.declared.program.ImplCore.{ImplCore}
+use Rattle.sa_core.specs.declared.program.SharedCore.{SharedCore}
+use Rattle.sa_core.specs.declared.program.SigCore.{SigCore}
+use Rattle.sa_core.specs.declared.program.TypeInfo.{TypeInfo}
+use Rattle.sa_core.specs.Copy.{block_of, option_expr_of}
+use Rattle.sa_core.specs.PositionList.{core_positions}
+use Rattle.sa_core.specs.Tree.{Expr, Stmts}
+use Rattle.sa_meaning.specs.Value.{Value, Void, Int, Truth, Char, Imm, fields_of}
+
+-- A type. A bound type has the kind of a reference class and no attributes.
+pub record TypeRow : Type 0 where
+  pub kind : Kind
+  -- the numbers of the attributes' types
+  pub attrs : List ℕ
+  -- the number of the elements' type, where the class reads or writes elements
+  pub elem : Option ℕ
+  -- the other types that it is below
+  pub above : List ℕ
+  -- a bound type whose result is of an abstract type
+  pub wide : Bool
+
+pub record Feature : Type 0 where
+  pub iter : Bool
+  -- the modes of the arguments, which are the first variables
+  pub modes : List Mode
+  -- the numbers of the variables' types
+  pub vars : List ℕ
+  pub sites : List SiteCore
+  pub body : Stmts
+  pub pos : Pos
+
+-- A signature of an abstract type.
+pub record Signature : Type 0 where
+  pub impls : List ImplCore
+  -- its result is of an abstract type
+  pub wide : Bool
+
+pub record SharedRow : Type 0 where
+  pub ty : ℕ
+  pub start : Option Expr
+
+pub record Program : Type 0 where
+  pub types : List TypeRow
+  pub features : List Feature
+  pub signatures : List Signature
+  pub shareds : List SharedRow
+  pub main : ℕ
+  -- the positions at which faults can stand, and the line of each
+  pub places : List Pos
+  pub lines : List ℕ
+
+-- ---- the program that a typed tree is
+
+abbrev pub is_wide_result : BareResult → Bool
+is_wide_result no_result = false
+is_wide_result (gives ty) = is_abstract_bare ty
+
+abbrev pub has_wide_result : BareTy → Bool
+has_wide_result (Rout args result) = is_wide_result result
+has_wide_result (Iter args result) = is_wide_result result
+has_wide_result _ = false
+
+abbrev pub type_row : TypeInfo → TypeRow
+type_row t = record { kind = t.kind; attrs = t.attrs; elem = t.elem; above = t.above; wide = has_wide_result (bare t.ty) }
+
+abbrev pub feature_of : FeatureCore → Feature
+feature_of f = record { iter = f.iter; modes = f.modes; vars = f.vars; sites = f.sites; body = block_of f.body; pos = f.pos }
+
+abbrev pub signature_of : SigCore → Signature
+signature_of s = record { impls = s.impls; wide = is_wide_result (option_bare s.sig.result) }
+
+abbrev pub shared_row : SharedCore → SharedRow
+shared_row s = record { ty = s.ty; start = option_expr_of s.start }
+
+abbrev pub program_of : Core → Program
+program_of core = record {
+  types = map type_row core.types;
+  features = map feature_of core.features;
+  signatures = map signature_of core.sigs;
+  shareds = map shared_row core.shareds;
+  main = core.main;
+  places = core_positions core;
+  lines = core.lines;
+}
+
+-- ---- types by their numbers
+
+abbrev pub bool_type : ℕ
+bool_type = 3
+
+abbrev pub int_type : ℕ
+int_type = 4
+
+abbrev pub char_type : ℕ
+char_type = 5
+
+abbrev pub str_type : ℕ
+str_type = 6
+
+abbrev pub fault_type : ℕ
+fault_type = 7
+
+abbrev pub is_abstract_kind : Kind → Bool
+is_abstract_kind kind.Abstract = true
+is_abstract_kind _ = false
+
+abbrev pub is_immutable_kind : Kind → Bool
+is_immutable_kind kind.Immutable = true
+is_immutable_kind _ = false
+
+-- what a type shows, or else something other
+abbrev pub of_type : {A : Type 0} → Program → (TypeRow → A) → A → ℕ → A
+of_type p see other ty = option_map_or see (slice_get p.types ty) other
+
+abbrev pub is_abstract : Program → ℕ → Bool
+is_abstract p = of_type p (λ t. is_abstract_kind t.kind) false
+
+abbrev pub is_immutable : Program → ℕ → Bool
+is_immutable p = of_type p (λ t. is_immutable_kind t.kind) false
+
+-- the type is the other one or above it
+abbrev pub holds : Program → ℕ → ℕ → Bool
+holds p ty other = ty == other || is_some (find (λ above. above == ty) (of_type p (λ t. t.above) [] other))
+
+-- ---- the void value of a type
+
+-- No immutable class reaches itself by attributes of immutable classes, so that the number of types is depth enough.
+abbrev pub void_in : Program → ℕ → ℕ → Value
+void_in p zero ty = Void
+void_in p (suc depth) ty =
+    if ty == bool_type then Truth false
+    else (if ty == int_type then Int (pos 0)
+    else (if ty == char_type then Char 0
+    else (if is_immutable p ty then Imm ty (fields_of (map (void_in p depth) (of_type p (λ t. t.attrs) [] ty))) else Void)))
+
+abbrev pub void_of : Program → ℕ → Value
+void_of p = void_in p (length p.types)
+
+-- ---- lines
+
+abbrev pub same_place : Pos → Pos → Bool
+same_place a b = a.file == b.file && a.at == b.at
+
+-- the line of a position, or 0 where the program has none
+abbrev pub line_at : Program → Pos → ℕ
+line_at p at = unwrap_or (option_and_then (slice_get p.lines) (position (same_place at) p.places)) 0

@@ -1,0 +1,122 @@
+-- What a running program has at each moment, and how a step of it ends.
+use Rattle.std.specs.Prelude.{ℕ, Bool, List, Option}
+use Rattle.sa_tree.specs.declared.pos.Pos.{Pos}
+use Rattle.sa_core.specs.declared.feature.Target.{Target}
+use Rattle.sa_core.specs.Tree.{Stmt, Stmts, no_stmts, stmt}
+use Rattle.sa_meaning.specs.Value.{Value}
+
+-- ---- objects
+
+-- What a bound value calls: a target, by the type whose feature it is, with the arguments that are left open.
+pub record Binding : Type 0 where
+  pub target : Target
+  pub class : ℕ
+  pub is_open : List Bool
+
+-- An object. Those of a bound value have the receiver and the given values as fields.
+pub record Object : Type 0 where
+  pub ty : ℕ
+  pub fields : List Value
+  pub elements : List Value
+  pub binding : Option Binding
+
+-- ---- activations and instances
+
+-- What is still to be done: nothing, a statement not begun, or a running loop with the rest of its round; and then more.
+pub data Residue : Type 0 where
+  Over : Residue
+  Next : Stmt → Residue → Residue
+  Rest : (loop : ℕ) → (body : Stmts) → (inner after : Residue) → Residue
+
+abbrev pub all_of : Stmts → Residue
+all_of no_stmts = Over
+all_of (stmt a more) = Next a (all_of more)
+
+-- the one, and then the other
+abbrev pub joined : Residue → Residue → Residue
+joined Over after = after
+joined (Next a rest) after = Next a (joined rest after)
+joined (Rest loop body inner rest) after = Rest loop body inner (joined rest after)
+
+-- A suspended iter. Its `once` arguments stay in its variables.
+pub record Instance : Type 0 where
+  pub number : ℕ
+  pub feature : ℕ
+  pub self : Value
+  -- the bound value that it was started through
+  pub through : Option ℕ
+  pub variables : List Value
+  pub left : Residue
+
+-- instances by their sites, the lowest first, each with those inside it
+pub data Sites : Type 0 where
+  Empty : Sites
+  Entry : (site : ℕ) → Instance → (inside others : Sites) → Sites
+
+pub record Activation : Type 0 where
+  -- none in the initialiser of a shared
+  pub feature : Option ℕ
+  pub self : Value
+  pub variables : List Value
+  pub sites : Sites
+  -- that of the innermost branch of a protect
+  pub exception : Option Value
+  -- how many calls, starts and resumptions are running
+  pub depth : ℕ
+
+-- ---- what is told of a run
+
+pub data Event : Type 0 where
+  Start Resume Yields Quits Abandon : (feature site number : ℕ) → Event
+
+-- entries into features, their ends or suspensions, and the bytes that are put
+pub data Mark : Type 0 where
+  Enter Leave : (feature : ℕ) → Mark
+  Byte : (byte : ℕ) → Mark
+
+-- ---- the state
+
+-- The bytes that are left, and how many times their end can still be told, where this is limited.
+pub record Input : Type 0 where
+  pub bytes : List ℕ
+  pub ends : Option ℕ
+
+pub record State : Type 0 where
+  pub objects : List Object
+  pub shareds : List Value
+  pub output : List ℕ
+  pub input : Input
+  -- the bytes that may still be charged
+  pub room : ℕ
+  -- the turns that are left
+  pub turns : ℕ
+  pub live : ℕ
+  pub started : ℕ
+  pub events : List Event
+  pub trail : List Mark
+  pub here : Activation
+
+-- ---- how a step ends
+
+-- why a run goes on elsewhere or stops
+pub data Cause : Type 0 where
+  -- the innermost loop is left
+  Broke : Cause
+  Raised : (exception : Value) → (kind : ℕ) → (at : Pos) → Cause
+  -- a fault that no protect catches
+  Failed : (kind : ℕ) → (at : Pos) → Cause
+  InputFailed : Cause
+  -- no rule says how to go on
+  Stuck : Cause
+
+pub data Out (A : Type 0) : Type 0 where
+  Gives : A → State → Out A
+  Stops : Cause → State → Out A
+  -- a turn is due, and none is left
+  Exhausts : State → Out A
+
+-- how a statement ends
+pub data Flow : Type 0 where
+  Done Quitting : Flow
+  Yielding : Value → Residue → Flow
+  Returning : Value → Flow

@@ -1,0 +1,204 @@
+-- The steps of which a run is made, and how they follow one another.
+use Rattle.std.specs.Prelude.{ℕ, zero, suc, ◌+◌, ◌-◌, ◌*◌, ◌/◌, ℤ, pos, negsuc, if◌then◌else◌, nat_le, List, [], ◌∷◌, ◌++◌, length, set, slice_get, Option, Some, None}
+use Rattle.sa_tree.specs.declared.pos.Pos.{Pos}
+use Rattle.sa_meaning.specs.Value.{Value, Int, Text, Ref}
+use Rattle.sa_meaning.specs.Program.{Program, fault_type, line_at}
+use Rattle.sa_meaning.specs.State.{State, Object, Activation, Enter, Leave, Byte, Cause, Raised, Failed, InputFailed, Stuck, Out, Gives, Stops, Exhausts}
+
+abbrev pub Eval : Type 0 → Type 0
+Eval A = State → Out A
+
+abbrev pub resolved : {A B : Type 0} → Out A → (A → Eval B) → (Cause → Eval B) → Out B
+resolved (Gives a s) next stopped = next a s
+resolved (Stops c s) next stopped = stopped c s
+resolved (Exhausts s) next stopped = Exhausts s
+
+-- a step, and then one step where it gives a value, and another where it stops
+unfoldable pub resolve : {A B : Type 0} → Eval A → (A → Eval B) → (Cause → Eval B) → Eval B
+resolve f next stopped = λ s. resolved (f s) next stopped
+
+abbrev pub stop : {A : Type 0} → Cause → Eval A
+stop c = λ s. Stops c s
+
+infixl 10 ◌>>=◌
+abbrev pub ◌>>=◌ : {A B : Type 0} → Eval A → (A → Eval B) → Eval B
+f >>= next = resolve f next stop
+
+infixl 10 ◌>>◌
+abbrev pub ◌>>◌ : {A B : Type 0} → Eval A → Eval B → Eval B
+f >> g = resolve f (λ _. g) stop
+
+abbrev pub pure : {A : Type 0} → A → Eval A
+pure a = λ s. Gives a s
+
+abbrev pub look : {A : Type 0} → (State → A) → Eval A
+look see = λ s. Gives (see s) s
+
+abbrev pub change : (State → State) → Eval (Unit {0})
+change f = λ s. Gives tt (f s)
+
+unfoldable pub or_stuck : {A : Type 0} → Option A → Eval A
+or_stuck (Some a) = pure a
+or_stuck None = stop Stuck
+
+-- what the option has, where the program has such a thing
+abbrev pub at_place : {A : Type 0} → List A → ℕ → Eval A
+at_place list place = or_stuck (slice_get list place)
+
+-- ---- turns
+
+abbrev pub turned : {A : Type 0} → ℕ → Eval A → Eval A
+turned zero f s = Exhausts s
+turned (suc n) f s = f (record s { turns = n })
+
+-- a step that takes a turn before it
+abbrev pub turn : {A : Type 0} → Eval A → Eval A
+turn f = λ s. turned s.turns f s
+
+abbrev pub spend : ℕ → Eval (Unit {0})
+spend zero = pure tt
+spend (suc n) = turn (spend n)
+
+-- ---- the kinds of faults
+
+abbrev pub overflow : ℕ
+overflow = 1
+
+abbrev pub division_by_zero : ℕ
+division_by_zero = 2
+
+abbrev pub void : ℕ
+void = 3
+
+abbrev pub index : ℕ
+index = 4
+
+abbrev pub no_branch : ℕ
+no_branch = 5
+
+abbrev pub no_return : ℕ
+no_return = 6
+
+abbrev pub assertion : ℕ
+assertion = 7
+
+-- that of the statement `raise`
+abbrev pub uncaught : ℕ
+uncaught = 8
+
+abbrev pub no_room : ℕ
+no_room = 9
+
+abbrev pub too_deep : ℕ
+too_deep = 10
+
+-- too many live instances
+abbrev pub frames : ℕ
+frames = 11
+
+-- ---- room
+
+-- the bytes of an object of so many attributes and elements
+abbrev pub object_size : ℕ → ℕ → ℕ
+object_size attributes elements = 8 * (attributes + 1) + 8 * elements
+
+-- how many times eight bytes so many bytes begin
+abbrev pub eights : ℕ → ℕ
+eights bytes = (bytes + 7) / 8
+
+abbrev pub text_size : ℕ → ℕ
+text_size bytes = 8 + 8 * eights bytes
+
+abbrev pub take_room : ℕ → Eval (Unit {0})
+take_room size = change (λ s. record s { room = s.room - size })
+
+abbrev pub charge : Pos → ℕ → Eval (Unit {0})
+charge at size = do
+  room ← look (λ s. s.room)
+  if nat_le size room then take_room size else stop (Failed no_room at)
+
+-- ---- objects
+
+-- a new object, by its number
+abbrev pub add_object : Object → Eval ℕ
+add_object o = λ s. Gives (length s.objects) (record s { objects = s.objects ++ o ∷ [] })
+
+abbrev pub object_at : ℕ → Eval Object
+object_at number = look (λ s. s.objects) >>= (λ objects. at_place objects number)
+
+abbrev pub set_object : ℕ → Object → Eval (Unit {0})
+set_object number o = change (λ s. record s { objects = set s.objects number o })
+
+abbrev pub plain : ℕ → List Value → List Value → Object
+plain ty fields elements = record { ty = ty; fields = fields; elements = elements; binding = None }
+
+-- ---- faults
+
+abbrev pub fault_object : Program → ℕ → Pos → Object
+fault_object p kind at = plain fault_type (Int (pos kind) ∷ Int (pos (line_at p at)) ∷ []) []
+
+abbrev pub raise_new : {A : Type 0} → Object → ℕ → Pos → Eval A
+raise_new o kind at = do
+  take_room (object_size 2 0)
+  number ← add_object o
+  stop (Raised (Ref number) kind at)
+
+-- A fault raises a new object that tells its kind and its line. Where the room lacks, nothing catches it.
+abbrev pub fault : {A : Type 0} → Program → ℕ → Pos → Eval A
+fault p kind at = do
+  room ← look (λ s. s.room)
+  if nat_le (object_size 2 0) room then raise_new (fault_object p kind at) kind at else stop (Failed kind at)
+
+-- ---- texts, output and input
+
+abbrev pub new_text : Pos → List ℕ → Eval Value
+new_text at bytes = charge at (text_size (length bytes)) >> pure (Text bytes)
+
+abbrev pub put_byte : ℕ → Eval (Unit {0})
+put_byte byte = change (λ s. record s { output = s.output ++ byte ∷ []; trail = s.trail ++ Byte byte ∷ [] })
+
+abbrev pub put_bytes : List ℕ → Eval (Unit {0})
+put_bytes [] = pure tt
+put_bytes (byte ∷ more) = put_byte byte >> put_bytes more
+
+-- a turn before each eight bytes, of which so many are paid for
+abbrev pub put_text : ℕ → List ℕ → Eval (Unit {0})
+put_text paid [] = pure tt
+put_text zero (byte ∷ more) = turn (put_byte byte >> put_text 7 more)
+put_text (suc paid) (byte ∷ more) = put_byte byte >> put_text paid more
+
+abbrev pub set_input : List ℕ → Option ℕ → Eval (Unit {0})
+set_input bytes ends = change (λ s. record s { input = record { bytes = bytes; ends = ends } })
+
+abbrev pub got : List ℕ → Option ℕ → Eval ℤ
+got (byte ∷ more) ends = set_input more ends >> pure (pos byte)
+got [] None = pure (negsuc 0)
+got [] (Some zero) = stop InputFailed
+got [] (Some (suc ends)) = set_input [] (Some ends) >> pure (negsuc 0)
+
+-- the next byte of the input, or -1 at its end
+abbrev pub get_byte : Eval ℤ
+get_byte = look (λ s. s.input) >>= (λ input. got input.bytes input.ends)
+
+-- ---- variables
+
+abbrev pub read : ℕ → Eval Value
+read var = look (λ s. s.here.variables) >>= (λ variables. at_place variables var)
+
+abbrev pub write : ℕ → Value → Eval (Unit {0})
+write var v = change (λ s. record s { here = record (s.here) { variables = set s.here.variables var v } })
+
+-- ---- entries and exits of features
+
+abbrev pub enter : ℕ → Activation → Eval (Unit {0})
+enter feature a = change (λ s. record s { here = a; trail = s.trail ++ Enter feature ∷ [] })
+
+-- back to the caller
+abbrev pub leave : ℕ → Activation → Eval (Unit {0})
+leave feature a = change (λ s. record s { here = a; trail = s.trail ++ Leave feature ∷ [] })
+
+abbrev pub checked_depth : Pos → Activation → Eval (Unit {0})
+checked_depth at caller = if nat_le 10000 caller.depth then stop (Failed too_deep at) else pure tt
+
+abbrev pub checked_live : Pos → Eval (Unit {0})
+checked_live at = look (λ s. s.live) >>= (λ live. if nat_le 10000 live then stop (Failed frames at) else pure tt)

@@ -1,0 +1,31 @@
+//! Laws of the definitions, each as what a function of an empty body ensures.
+
+ghost use Rattle.std.specs.Prelude.{◌≡◌};
+ghost use Rattle.sa_meaning.specs.Builtin.{builtins};
+ghost use Rattle.sa_meaning.specs.Law.{IsGrowing, IsSpending, IsSteady};
+
+use sa_core::Core;
+use sa_prelude::BUILTIN_FEATURES;
+
+/// A run that is over in some turns is the same in more, whatever the input and the room.
+#[tactic(auto, using(crate::proofs::WholeRuns::steady))]
+pub fn is_steady(core: &Core)
+    ensures { IsSteady core.now }
+{}
+
+/// What a run puts in some turns is the beginning of what it puts in more.
+#[tactic(auto, using(crate::proofs::WholeRuns::growing))]
+pub fn is_growing(core: &Core)
+    ensures { IsGrowing core.now }
+{}
+
+/// A run that isn't over has spent all its turns.
+#[tactic(auto, using(crate::proofs::WholeRuns::spending))]
+pub fn is_spending(core: &Core)
+    ensures { IsSpending core.now }
+{}
+
+/// The definitions number the built-in features as the prelude's crate does.
+pub fn numbers_builtins()
+    ensures { builtins ≡ BUILTIN_FEATURES }
+{}
