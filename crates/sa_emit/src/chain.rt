@@ -1,0 +1,262 @@
+//! The code of a head: of its block, and of the blocks behind it up to jumps to heads and to exits that leave the body.
+
+use crate::heads::DEEPEST;
+use crate::held::{held, sum};
+use sa_emit_step::{Around, NOT_A_HEAD, add_jump, add_leaving, add_step, local_of};
+use sa_flat::{FlatExit, FlatStep};
+use sqlite_items::Items;
+use std::alloc::Global;
+use wa_syntax::{Instr, NoMemory, opcode};
+
+/// A place in the code of a head.
+#[derive(Clone, Copy, Debug)]
+pub struct Spot {
+    /// The label of the dispatch's loop.
+    inside: u32,
+    /// The loop around the code of this head alone, where there is one.
+    own: Option<OwnLoop>,
+}
+
+/// A loop around the code of a head alone.
+#[derive(Clone, Copy, Debug)]
+struct OwnLoop {
+    /// The block of the head.
+    block: u32,
+    label: u32,
+}
+
+/// Adds the code of a head whose code jumps to it: in a loop of its own, so that these jumps need no dispatch.
+pub fn add_repeating(
+    alloc: Global,
+    code: &mut Items<Instr>,
+    around: &Around<'_>,
+    block: u32,
+    inside: u32,
+) -> Result<(), NoMemory> {
+    let mut body = Items::new(alloc);
+    let spot = Spot {
+        inside: sum(inside, 1)?,
+        own: Some(OwnLoop { block, label: 0 }),
+    };
+    add_chain(alloc, &mut body, around, block, spot, DEEPEST)?;
+    code.push(Instr::Loop(None, body))?;
+    Ok(())
+}
+
+/// Adds the code of a head whose code doesn't jump to it.
+pub fn add_head(
+    alloc: Global,
+    code: &mut Items<Instr>,
+    around: &Around<'_>,
+    block: u32,
+    inside: u32,
+) -> Result<(), NoMemory> {
+    let spot = Spot { inside, own: None };
+    add_chain(alloc, code, around, block, spot, DEEPEST)
+}
+
+/// What stands behind the code of a block.
+#[derive(Clone, Copy, Debug)]
+enum Behind {
+    Nothing,
+    /// The code of this block.
+    Block(u32),
+    /// The code of `yes` where the test holds, and else of `no`.
+    Sides { yes: u32, no: u32 },
+}
+
+/// Adds the code that begins with this block. `depth` is the number of branches that may stand one inside the other there.
+#[cycle(chain)]
+fn add_chain(
+    alloc: Global,
+    code: &mut Items<Instr>,
+    around: &Around<'_>,
+    first: u32,
+    spot: Spot,
+    depth: u32,
+) -> Result<(), NoMemory> {
+    let mut next = first;
+    for _ in 0..around.body.blocks.len() {
+        match add_block(alloc, code, around, next, spot)? {
+            Behind::Nothing => return Ok(()),
+            Behind::Block(block) => next = block,
+            Behind::Sides { yes, no } => {
+                add_side(alloc, code, around, yes, spot, depth)?;
+                next = no;
+            }
+        }
+    }
+    Err(endless())
+}
+
+/// Adds the code that begins with the block `yes` of a branch, for where the test holds.
+#[cycle(chain)]
+fn add_side(
+    alloc: Global,
+    code: &mut Items<Instr>,
+    around: &Around<'_>,
+    yes: u32,
+    spot: Spot,
+    depth: u32,
+) -> Result<(), NoMemory> {
+    if depth == 0 {
+        return Err(too_deep());
+    }
+    let mut side = Items::new(alloc);
+    add_chain(alloc, &mut side, around, yes, further_in(spot)?, depth - 1)?;
+    code.push(Instr::If(None, side, Items::new(alloc)))?;
+    Ok(())
+}
+
+/// The answer where more blocks stand behind a head than the body has, which can't be: a block that two exits lead to is a
+/// head.
+fn endless() -> NoMemory {
+    NoMemory
+}
+
+/// The answer where branches stand too deep, which can't be: the block that would stand there is a head.
+fn too_deep() -> NoMemory {
+    NoMemory
+}
+
+/// Adds the code of a block, and says what stands behind it.
+fn add_block(
+    alloc: Global,
+    code: &mut Items<Instr>,
+    around: &Around<'_>,
+    number: u32,
+    spot: Spot,
+) -> Result<Behind, NoMemory> {
+    let block = held(around.body.blocks.get(number as usize))?;
+    add_steps(alloc, code, around, block.steps.as_slice(), spot.inside)?;
+    match &block.exit {
+        FlatExit::Jump(to) => add_going_on(alloc, code, around, *to, spot),
+        FlatExit::Branch { test, yes, no } => {
+            add_test(code, around, *test)?;
+            add_branch(alloc, code, around, *yes, *no, spot)
+        }
+        exit => {
+            add_leaving(alloc, code, around, exit, spot.inside)?;
+            Ok(Behind::Nothing)
+        }
+    }
+}
+
+/// Adds the code of steps.
+fn add_steps(
+    alloc: Global,
+    code: &mut Items<Instr>,
+    around: &Around<'_>,
+    steps: &[FlatStep],
+    inside: u32,
+) -> Result<(), NoMemory> {
+    for step in steps {
+        add_step(alloc, code, around, step, inside)?;
+    }
+    Ok(())
+}
+
+/// Adds a jump to a block that is a head. The code of another one stands here.
+fn add_going_on(
+    alloc: Global,
+    code: &mut Items<Instr>,
+    around: &Around<'_>,
+    block: u32,
+    spot: Spot,
+) -> Result<Behind, NoMemory> {
+    if !is_head(around, block)? {
+        return Ok(Behind::Block(block));
+    }
+    add_jump_to(alloc, code, around, block, spot)?;
+    Ok(Behind::Nothing)
+}
+
+/// Adds what follows the test of a branch: a jump for a side that is a head, so that the other side goes on here.
+fn add_branch(
+    alloc: Global,
+    code: &mut Items<Instr>,
+    around: &Around<'_>,
+    yes: u32,
+    no: u32,
+    spot: Spot,
+) -> Result<Behind, NoMemory> {
+    if is_head(around, yes)? {
+        add_jump_where(alloc, code, around, yes, spot)?;
+        return add_going_on(alloc, code, around, no, spot);
+    }
+    if is_head(around, no)? {
+        code.push(Instr::Plain(opcode::I32_EQZ))?;
+        add_jump_where(alloc, code, around, no, spot)?;
+        return Ok(Behind::Block(yes));
+    }
+    Ok(Behind::Sides { yes, no })
+}
+
+/// Adds the value of a variable as an operand of a test.
+fn add_test(code: &mut Items<Instr>, around: &Around<'_>, test: u32) -> Result<(), NoMemory> {
+    code.push(Instr::LocalGet(local_of(around.body, test)))?;
+    code.push(Instr::Plain(opcode::I32_WRAP_I64))?;
+    Ok(())
+}
+
+/// Adds a jump to a head, for where the test holds.
+fn add_jump_where(
+    alloc: Global,
+    code: &mut Items<Instr>,
+    around: &Around<'_>,
+    head: u32,
+    spot: Spot,
+) -> Result<(), NoMemory> {
+    if let Some(label) = label_of(spot, head) {
+        return Ok(code.push(Instr::BrIf(label))?);
+    }
+    let mut jump = Items::new(alloc);
+    add_jump(alloc, &mut jump, around, head, sum(spot.inside, 1)?)?;
+    code.push(Instr::If(None, jump, Items::new(alloc)))?;
+    Ok(())
+}
+
+/// Adds a jump to a head: back to its own loop, or to the dispatch.
+fn add_jump_to(
+    alloc: Global,
+    code: &mut Items<Instr>,
+    around: &Around<'_>,
+    head: u32,
+    spot: Spot,
+) -> Result<(), NoMemory> {
+    match label_of(spot, head) {
+        Some(label) => Ok(code.push(Instr::Br(label))?),
+        None => add_jump(alloc, code, around, head, spot.inside),
+    }
+}
+
+/// The label of the loop around the code of a head alone, at a place in that code.
+fn label_of(spot: Spot, head: u32) -> Option<u32> {
+    let own = spot.own?;
+    if own.block == head {
+        return Some(own.label);
+    }
+    None
+}
+
+/// The place one branch further in.
+fn further_in(spot: Spot) -> Result<Spot, NoMemory> {
+    Ok(Spot {
+        inside: sum(spot.inside, 1)?,
+        own: own_further_in(spot.own)?,
+    })
+}
+
+fn own_further_in(own: Option<OwnLoop>) -> Result<Option<OwnLoop>, NoMemory> {
+    match own {
+        Some(OwnLoop { block, label }) => {
+            let label = sum(label, 1)?;
+            Ok(Some(OwnLoop { block, label }))
+        }
+        None => Ok(None),
+    }
+}
+
+fn is_head(around: &Around<'_>, block: u32) -> Result<bool, NoMemory> {
+    Ok(*held(around.heads.get(block as usize))? != NOT_A_HEAD)
+}

@@ -1,0 +1,161 @@
+//! The heads of a body behind one another, and the choice between them by the number in the local `BLOCK`: a tree of tables of
+//! up to eight parts. A choice of level 0 is between heads, one of level `n` between runs of `8^n` heads.
+
+use crate::chain::{add_head, add_repeating};
+use crate::held::{held, number, sum};
+use sa_emit_step::{Around, BLOCK};
+use sqlite_items::Items;
+use std::alloc::Global;
+use wa_syntax::{Instr, NoMemory, opcode};
+
+/// How many parts a choice has at most.
+const FAN_OUT: u32 = 8;
+
+/// How many bits of a head's number a choice looks at.
+const BITS: u32 = 3;
+
+/// The body whose heads are placed.
+#[derive(Clone, Copy)]
+pub struct Dispatch<'a> {
+    pub around: &'a Around<'a>,
+    /// The block of each head.
+    pub heads: &'a [u32],
+    /// For each head whether its own code jumps to it.
+    pub repeats: &'a [bool],
+}
+
+/// Adds the code of a body whose heads are jumped to: a loop around the choice between them.
+pub fn add_loop(
+    alloc: Global,
+    code: &mut Items<Instr>,
+    dispatch: &Dispatch<'_>,
+) -> Result<(), NoMemory> {
+    let mut body = Items::new(alloc);
+    add_heads(
+        alloc,
+        &mut body,
+        dispatch,
+        0,
+        level_of(dispatch.heads.len()),
+        0,
+    )?;
+    code.push(Instr::Loop(None, body))?;
+    code.push(Instr::Plain(opcode::UNREACHABLE))?;
+    Ok(())
+}
+
+/// The level of the choice between so many heads.
+fn level_of(heads: usize) -> u32 {
+    match heads.saturating_sub(1).checked_ilog2() {
+        Some(bits) => bits / BITS,
+        None => 0,
+    }
+}
+
+/// Adds the code of the heads from `first` on that a choice of this level is between. `inside` is the label of the loop there.
+#[cycle(choice)]
+fn add_heads(
+    alloc: Global,
+    code: &mut Items<Instr>,
+    dispatch: &Dispatch<'_>,
+    first: u32,
+    level: u32,
+    inside: u32,
+) -> Result<(), NoMemory> {
+    let last = last_part(dispatch.heads.len(), first, level)?;
+    if last == 0 {
+        return add_part(alloc, code, dispatch, first, level, inside);
+    }
+    let mut before = choosing(alloc, last, level, level_of(dispatch.heads.len()))?;
+    for part in 0..last {
+        let mut behind = Items::new(alloc);
+        behind.push(Instr::Block(None, before))?;
+        let label = sum(inside, last - part)?;
+        let head = first_of(first, part, level)?;
+        add_part(alloc, &mut behind, dispatch, head, level, label)?;
+        before = behind;
+    }
+    code.push(Instr::Block(None, before))?;
+    add_part(
+        alloc,
+        code,
+        dispatch,
+        first_of(first, last, level)?,
+        level,
+        inside,
+    )
+}
+
+/// Adds the code of the part of a choice that begins with this head.
+#[cycle(choice)]
+fn add_part(
+    alloc: Global,
+    code: &mut Items<Instr>,
+    dispatch: &Dispatch<'_>,
+    head: u32,
+    level: u32,
+    inside: u32,
+) -> Result<(), NoMemory> {
+    if level == 0 {
+        return add_one(alloc, code, dispatch, head, inside);
+    }
+    add_heads(alloc, code, dispatch, head, level - 1, inside)
+}
+
+/// Adds the code of a head.
+fn add_one(
+    alloc: Global,
+    code: &mut Items<Instr>,
+    dispatch: &Dispatch<'_>,
+    head: u32,
+    inside: u32,
+) -> Result<(), NoMemory> {
+    let block = *held(dispatch.heads.get(head as usize))?;
+    if *held(dispatch.repeats.get(head as usize))? {
+        return add_repeating(alloc, code, dispatch.around, block, inside);
+    }
+    add_head(alloc, code, dispatch.around, block, inside)
+}
+
+/// The number of the last part of the choice between the heads from `first` on.
+fn last_part(heads: usize, first: u32, level: u32) -> Result<u32, NoMemory> {
+    let behind = number(heads)?.saturating_sub(first).saturating_sub(1);
+    let last = held(behind.checked_div(width_of(level)?))?;
+    Ok(last.min(FAN_OUT - 1))
+}
+
+/// The first head of a part of the choice between the heads from `first` on.
+fn first_of(first: u32, part: u32, level: u32) -> Result<u32, NoMemory> {
+    sum(first, held(part.checked_mul(width_of(level)?))?)
+}
+
+/// How many heads a part of a choice of this level has.
+fn width_of(level: u32) -> Result<u32, NoMemory> {
+    held(FAN_OUT.checked_pow(level))
+}
+
+/// The code that goes to the end of the block that the part of the head in `BLOCK` stands behind. The choice of the highest level
+/// sees no bits of the number but its own.
+fn choosing(alloc: Global, last: u32, level: u32, highest: u32) -> Result<Items<Instr>, NoMemory> {
+    let mut code = Items::new(alloc);
+    code.push(Instr::LocalGet(BLOCK))?;
+    if level > 0 {
+        code.push(Instr::I32Const(held(level.checked_mul(BITS))?))?;
+        code.push(Instr::Plain(opcode::I32_SHR_U))?;
+    }
+    if level < highest {
+        code.push(Instr::I32Const(FAN_OUT - 1))?;
+        code.push(Instr::Plain(opcode::I32_AND))?;
+    }
+    code.push(Instr::BrTable(labels(alloc, last)?, last))?;
+    Ok(code)
+}
+
+/// The labels of the parts before the last.
+fn labels(alloc: Global, last: u32) -> Result<Items<u32>, NoMemory> {
+    let mut labels = Items::new(alloc);
+    for label in 0..last {
+        labels.push(label)?;
+    }
+    Ok(labels)
+}

@@ -1,0 +1,156 @@
+//! What leads to each block of a body: exits, raises and resumptions, of the blocks alone that can be reached from the first.
+
+use crate::held::held;
+use sa_emit_step::leaves;
+use sa_flat::{FlatBlock, FlatBody, FlatExit, FlatStep, Raised};
+use sqlite_items::Items;
+use std::alloc::Global;
+use wa_syntax::NoMemory;
+
+/// What leads to a block.
+#[derive(Clone, Copy, Debug, PartialEq, Eq)]
+pub enum Entrance {
+    /// Nothing does.
+    Never,
+    /// The body begins in it, and nothing else leads to it.
+    First,
+    /// One exit.
+    Once,
+    /// Several exits, a raise, or a resumption.
+    Jumps,
+}
+
+/// What was found of the blocks of a body.
+#[derive(Drop)]
+struct Found {
+    entrances: Items<Entrance>,
+    /// The blocks that are reached and haven't been looked at.
+    waiting: Items<u32>,
+}
+
+/// What leads to each block.
+pub fn entrances(alloc: Global, body: &FlatBody) -> Result<Items<Entrance>, NoMemory> {
+    let mut found = begun(alloc, body)?;
+    for _ in 0..body.blocks.len() {
+        let Some(number) = found.waiting.pop() else {
+            break;
+        };
+        let block = held(body.blocks.get(number as usize))?;
+        found.add_raises(body, block)?;
+        found.add_exit(body, &block.exit)?;
+    }
+    let Found {
+        entrances,
+        waiting: _,
+    } = found;
+    Ok(entrances)
+}
+
+/// The first block alone is reached.
+fn begun(alloc: Global, body: &FlatBody) -> Result<Found, NoMemory> {
+    let mut entrances = Items::new(alloc);
+    for _ in 0..body.blocks.len() {
+        entrances.push(Entrance::Never)?;
+    }
+    let mut found = Found {
+        entrances,
+        waiting: Items::new(alloc),
+    };
+    found.reach(0, Entrance::First)?;
+    Ok(found)
+}
+
+impl Found {
+    /// The places that raises of the steps go to.
+    fn add_raises(&mut self, body: &FlatBody, block: &FlatBlock) -> Result<(), NoMemory> {
+        for step in block.steps.as_slice() {
+            if let Some(raised) = raised_of(step) {
+                self.add_raise(body, raised)?;
+            }
+        }
+        Ok(())
+    }
+
+    /// The places that an exit goes to.
+    fn add_exit(&mut self, body: &FlatBody, exit: &FlatExit) -> Result<(), NoMemory> {
+        match exit {
+            FlatExit::Jump(to) => self.add_once(*to),
+            FlatExit::Branch { test: _, yes, no } => {
+                self.add_once(*yes)?;
+                self.add_once(*no)
+            }
+            FlatExit::Suspend { value: _, resume } => self.add_resumption(*resume),
+            FlatExit::Stop { kind: _, fail } => self.add_raise(body, fail.raised),
+            FlatExit::Return { value: _ } => Ok(()),
+            FlatExit::Quit => Ok(()),
+            FlatExit::Raise { .. } => Ok(()),
+        }
+    }
+
+    /// One exit goes to this block.
+    fn add_once(&mut self, block: u32) -> Result<(), NoMemory> {
+        match self.entrance(block)? {
+            Entrance::Never => self.reach(block, Entrance::Once),
+            _ => self.change(block, Entrance::Jumps),
+        }
+    }
+
+    /// A raise goes to its block, unless its code leaves the body at once.
+    fn add_raise(&mut self, body: &FlatBody, raised: Raised) -> Result<(), NoMemory> {
+        if leaves(body, raised) {
+            return Ok(());
+        }
+        self.add_jump(raised.block)
+    }
+
+    /// A resumption goes to its block.
+    fn add_resumption(&mut self, resume: Option<u32>) -> Result<(), NoMemory> {
+        match resume {
+            Some(block) => self.add_jump(block),
+            None => Ok(()),
+        }
+    }
+
+    /// A jump goes to this block.
+    fn add_jump(&mut self, block: u32) -> Result<(), NoMemory> {
+        match self.entrance(block)? {
+            Entrance::Never => self.reach(block, Entrance::Jumps),
+            _ => self.change(block, Entrance::Jumps),
+        }
+    }
+
+    fn entrance(&self, block: u32) -> Result<Entrance, NoMemory> {
+        held(self.entrances.get(block as usize).copied())
+    }
+
+    /// A block is reached for the first time.
+    fn reach(&mut self, block: u32, entrance: Entrance) -> Result<(), NoMemory> {
+        self.change(block, entrance)?;
+        self.waiting.push(block)?;
+        Ok(())
+    }
+
+    fn change(&mut self, block: u32, entrance: Entrance) -> Result<(), NoMemory> {
+        let at = block as usize;
+        if at >= self.entrances.len() {
+            return Err(NoMemory);
+        }
+        self.entrances.set(at, entrance);
+        Ok(())
+    }
+}
+
+/// Where a fault or a raise of a step goes.
+fn raised_of(step: &FlatStep) -> Option<Raised> {
+    match step {
+        FlatStep::New { fail, .. } => Some(fail.raised),
+        FlatStep::NewArray { fail, .. } => Some(fail.raised),
+        FlatStep::Widen { fail, .. } => Some(fail.raised),
+        FlatStep::NotVoid { fail, .. } => Some(fail.raised),
+        FlatStep::Call { plan } => Some(plan.fail.raised),
+        FlatStep::Bind { plan, .. } => Some(plan.fail.raised),
+        FlatStep::Start { plan, .. } => Some(plan.fail.raised),
+        FlatStep::Resume { plan, .. } => Some(plan.fail.raised),
+        _ => None,
+    }
+}

@@ -1,0 +1,32 @@
+//! The exported function `main`: it runs the last body of the program, and stops the machine where a raise leaves it.
+
+use crate::types::MAIN_TYPE;
+use sa_runtime::layout::{EXCEPTION_KIND, EXCEPTION_PLACE, RESULT, STOP};
+use sqlite_items::Items;
+use std::alloc::Global;
+use wa_syntax::{Func, Instr, Locals, NoMemory, opcode};
+
+/// The function that runs the body whose function has this number. It answers the low half of the body's result.
+pub fn main_function(alloc: Global, body: u32) -> Result<Func, NoMemory> {
+    let mut code = Items::new(alloc);
+    code.push(Instr::I32Const(0))?;
+    code.push(Instr::I32Const(0))?;
+    code.push(Instr::Call(body))?;
+    code.push(Instr::If(None, stopping(alloc)?, Items::new(alloc)))?;
+    code.push(Instr::GlobalGet(RESULT))?;
+    code.push(Instr::Plain(opcode::I32_WRAP_I64))?;
+    Ok(Func {
+        ty: MAIN_TYPE,
+        locals: Locals::new(alloc),
+        body: code,
+    })
+}
+
+/// Stops the machine with the kind and the place of the raise.
+fn stopping(alloc: Global) -> Result<Items<Instr>, NoMemory> {
+    let mut code = Items::new(alloc);
+    code.push(Instr::GlobalGet(EXCEPTION_KIND))?;
+    code.push(Instr::GlobalGet(EXCEPTION_PLACE))?;
+    code.push(Instr::Call(STOP))?;
+    Ok(code)
+}

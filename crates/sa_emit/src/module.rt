@@ -1,0 +1,103 @@
+//! The module: imports, the runtime's functions, those of the bodies, `main`, and what they work on.
+
+use crate::entry::main_function;
+use crate::function::{Common, add_bodies};
+use crate::globals::globals;
+use crate::held::{held, number, sum};
+use crate::memory::Memory;
+use crate::table::{elements, tables};
+use crate::texts::segments;
+use crate::types::{GET_TYPE, PUT_TYPE, STOP_TYPE, own_types};
+use sa_runtime::layout::FIRST_BODY;
+use sa_runtime::{RuntimeCode, code, support};
+use sqlite_items::Items;
+use std::alloc::Global;
+use wa_syntax::{
+    Export, ExportKind, Func, FuncTy, Import, ImportKind, Limits, Module, Name, NoMemory,
+};
+
+/// The module of a program whose objects have so many KiB.
+pub fn module(
+    alloc: Global,
+    common: &Common<'_>,
+    memory: &Memory,
+    room: u32,
+) -> Result<Module, NoMemory> {
+    let mut types = own_types(alloc)?;
+    let mut funcs = Items::new(alloc);
+    add_runtime(&mut types, &mut funcs, code(alloc, memory.base, room)?)?;
+    add_runtime(&mut types, &mut funcs, support(alloc)?)?;
+    add_bodies(alloc, &mut funcs, common)?;
+    let main = sum(FIRST_BODY, number(common.flat.bodies.len())?)?;
+    funcs.push(main_function(alloc, held(main.checked_sub(1))?)?)?;
+    Ok(Module {
+        types,
+        imports: imports(alloc)?,
+        funcs,
+        tables: tables(alloc, common.rows)?,
+        memories: memories(alloc, memory.pages)?,
+        globals: globals(alloc, memory.base)?,
+        exports: exports(alloc, main)?,
+        start: None,
+        elems: elements(alloc, common.flat, common.rows)?,
+        segments: segments(alloc, common.flat, memory.texts_at)?,
+    })
+}
+
+/// Adds functions of the runtime, whose types stand behind those that are there. They are few, so each is taken from the front.
+fn add_runtime(
+    types: &mut Items<FuncTy>,
+    funcs: &mut Items<Func>,
+    code: RuntimeCode,
+) -> Result<(), NoMemory> {
+    let RuntimeCode {
+        types: more,
+        funcs: mut waiting,
+    } = code;
+    let first = number(types.len())?;
+    types.append(more)?;
+    for _ in 0..waiting.len() {
+        if waiting.is_empty() {
+            return Ok(());
+        }
+        let Func { ty, locals, body } = waiting.remove(0);
+        let ty = sum(first, ty)?;
+        funcs.push(Func { ty, locals, body })?;
+    }
+    Ok(())
+}
+
+/// The host's three functions.
+fn imports(alloc: Global) -> Result<Items<Import>, NoMemory> {
+    let mut imports = Items::new(alloc);
+    imports.push(import(alloc, b"put", PUT_TYPE)?)?;
+    imports.push(import(alloc, b"get", GET_TYPE)?)?;
+    imports.push(import(alloc, b"stop", STOP_TYPE)?)?;
+    Ok(imports)
+}
+
+fn import(alloc: Global, name: &[u8], ty: u32) -> Result<Import, NoMemory> {
+    Ok(Import {
+        module: Name::from_slice(alloc, b"env")?,
+        name: Name::from_slice(alloc, name)?,
+        kind: ImportKind::Func(ty),
+    })
+}
+
+fn memories(alloc: Global, pages: Limits) -> Result<Items<Limits>, NoMemory> {
+    Ok(Items::from_slice(alloc, &[pages])?)
+}
+
+fn exports(alloc: Global, main: u32) -> Result<Items<Export>, NoMemory> {
+    let mut exports = Items::new(alloc);
+    exports.push(export(alloc, b"main", ExportKind::Func(main))?)?;
+    exports.push(export(alloc, b"memory", ExportKind::Memory(0))?)?;
+    Ok(exports)
+}
+
+fn export(alloc: Global, name: &[u8], kind: ExportKind) -> Result<Export, NoMemory> {
+    Ok(Export {
+        name: Name::from_slice(alloc, name)?,
+        kind,
+    })
+}

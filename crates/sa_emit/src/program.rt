@@ -1,0 +1,66 @@
+//! A flat program as a module, with what its reader has to know of it.
+
+use crate::function::Common;
+use crate::held::{number, sum};
+use crate::memory::memory_of;
+use crate::module::module;
+use sa_dispatch::Rows;
+use sa_emit_step::Below;
+use sa_flat::FlatProgram;
+use sa_runtime::layout::FIRST_BODY;
+use sa_tree::Pos;
+use sqlite_items::Items;
+use std::alloc::Global;
+use wa_syntax::{Module, NoMemory};
+
+/// How many words a frame has.
+const SLOT_WORDS: u32 = 8;
+
+/// A program as a module.
+#[derive(Drop)]
+pub struct Emitted {
+    pub module: Module,
+    /// The number of the function of each body.
+    pub func_of: Items<u32>,
+    /// The positions that places of faults and raises stand for.
+    pub sites: Items<Pos>,
+    /// How many words the frame of a suspended iter takes.
+    pub slot_words: u32,
+}
+
+/// The module of a program, whose objects have so many KiB.
+///
+/// # Errors
+///
+/// `NoMemory`, also where an address or a number of the module doesn't fit 32 bits, and where a number of the program names
+/// nothing.
+pub fn emit(
+    alloc: Global,
+    flat: &FlatProgram,
+    rows: &Rows,
+    room: u32,
+) -> Result<Emitted, NoMemory> {
+    let memory = memory_of(alloc, flat, room)?;
+    let below = Below::of(alloc, flat)?;
+    let common = Common {
+        flat,
+        rows,
+        texts: memory.texts.as_slice(),
+        below: &below,
+    };
+    Ok(Emitted {
+        module: module(alloc, &common, &memory, room)?,
+        func_of: functions(alloc, flat.bodies.len())?,
+        sites: Items::from_slice(alloc, flat.sites.as_slice())?,
+        slot_words: SLOT_WORDS,
+    })
+}
+
+/// The numbers of the functions of so many bodies.
+fn functions(alloc: Global, bodies: usize) -> Result<Items<u32>, NoMemory> {
+    let mut functions = Items::new(alloc);
+    for body in 0..number(bodies)? {
+        functions.push(sum(FIRST_BODY, body)?)?;
+    }
+    Ok(functions)
+}

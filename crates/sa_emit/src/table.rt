@@ -1,0 +1,94 @@
+//! The table of functions that dispatched calls go through: for each implementation of a signature with a span the function that
+//! does it.
+
+use crate::held::{held, number, sum};
+use sa_dispatch::Rows;
+use sa_flat::FlatProgram;
+use sa_runtime::layout::FIRST_BODY;
+use sqlite_items::Items;
+use std::alloc::Global;
+use std::mem;
+use wa_syntax::{Elem, Init, Limits, NoMemory};
+
+/// The table, where there are rows with a place in it.
+pub fn tables(alloc: Global, rows: &Rows) -> Result<Items<Limits>, NoMemory> {
+    let mut tables = Items::new(alloc);
+    if rows.size() > 0 {
+        tables.push(Limits {
+            min: rows.size(),
+            max: Some(rows.size()),
+        })?;
+    }
+    Ok(tables)
+}
+
+/// The segments so far, and the functions of neighbouring places that aren't in one yet.
+#[derive(Drop)]
+struct Filled {
+    elems: Items<Elem>,
+    first: u32,
+    funcs: Items<u32>,
+}
+
+/// The segments of the table: one for each run of neighbouring places.
+pub fn elements(alloc: Global, flat: &FlatProgram, rows: &Rows) -> Result<Items<Elem>, NoMemory> {
+    let mut filled = Filled {
+        elems: Items::new(alloc),
+        first: 0,
+        funcs: Items::new(alloc),
+    };
+    for sig in 0..rows.signatures() {
+        add_signature(alloc, &mut filled, flat, rows, sig)?;
+    }
+    filled.close(alloc)?;
+    let Filled {
+        elems,
+        first: _,
+        funcs: _,
+    } = filled;
+    Ok(elems)
+}
+
+/// Adds the functions of a signature's implementations that have a place.
+fn add_signature(
+    alloc: Global,
+    filled: &mut Filled,
+    flat: &FlatProgram,
+    rows: &Rows,
+    sig: u32,
+) -> Result<(), NoMemory> {
+    for ty in rows.types(sig) {
+        if let Some(place) = rows.place(sig, *ty) {
+            let row = held(rows.row(sig, *ty))?;
+            let body = *held(flat.targets.get(row as usize))?;
+            filled.add(alloc, place, sum(FIRST_BODY, body)?)?;
+        }
+    }
+    Ok(())
+}
+
+impl Filled {
+    /// Adds the function of a place, which is greater than those before it.
+    fn add(&mut self, alloc: Global, place: u32, func: u32) -> Result<(), NoMemory> {
+        if sum(self.first, number(self.funcs.len())?)? != place {
+            self.close(alloc)?;
+            self.first = place;
+        }
+        self.funcs.push(func)?;
+        Ok(())
+    }
+
+    /// Makes a segment of the functions that aren't in one yet.
+    fn close(&mut self, alloc: Global) -> Result<(), NoMemory> {
+        if self.funcs.is_empty() {
+            return Ok(());
+        }
+        let funcs = mem::replace(&mut self.funcs, Items::new(alloc));
+        self.elems.push(Elem {
+            table: 0,
+            offset: Init::Const32(self.first),
+            funcs,
+        })?;
+        Ok(())
+    }
+}

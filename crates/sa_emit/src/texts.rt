@@ -1,0 +1,49 @@
+//! The literal texts as they lie in memory when a program begins: one segment, with a text object for each.
+
+use crate::held::number;
+use sa_flat::FlatProgram;
+use sa_runtime::layout::{STR, TEXT, header};
+use sa_tree::Name;
+use sqlite_items::Items;
+use std::alloc::Global;
+use wa_syntax::{Init, NoMemory, Segment};
+
+/// The bytes of a word.
+const WORD: usize = 8;
+
+/// The segment of the texts, from this address on: none where there are no texts.
+pub fn segments(
+    alloc: Global,
+    flat: &FlatProgram,
+    texts_at: u32,
+) -> Result<Items<Segment>, NoMemory> {
+    let mut segments = Items::new(alloc);
+    if !flat.texts.is_empty() {
+        segments.push(Segment {
+            memory: 0,
+            offset: Init::Const32(texts_at),
+            bytes: texts(alloc, flat.texts.as_slice())?,
+        })?;
+    }
+    Ok(segments)
+}
+
+/// The text objects, one after the other.
+fn texts(alloc: Global, list: &[Name]) -> Result<Items<u8>, NoMemory> {
+    let mut bytes = Vec::new(alloc);
+    for text in list {
+        add_text(&mut bytes, text.as_slice())?;
+    }
+    Ok(Items::from_vec(bytes))
+}
+
+/// Adds a text object: its header, its bytes, and zeros up to a whole word.
+fn add_text(to: &mut Vec<u8>, text: &[u8]) -> Result<(), NoMemory> {
+    let header = header(STR, TEXT, number(text.len())?);
+    to.extend_from_slice(&header.to_le_bytes())?;
+    to.extend_from_slice(text)?;
+    for _ in 0..(WORD - text.len() % WORD) % WORD {
+        to.push(0)?;
+    }
+    Ok(())
+}
