@@ -7,11 +7,11 @@ use Rattle.sa_read.specs.Front.{IsTakenUpTo}
 use Rattle.sa_read.specs.Program.{IsReadAs}
 use Rattle.sa_read.specs.declared.program.Program.{Program}
 use Rattle.sa_drive.specs.Answer.{ComesOf, ComesOfProgram}
-use Rattle.sa_drive.specs.Ends.{BuildEnds, CheckEnds, RunEnds}
+use Rattle.sa_drive.specs.Ends.{BuildEnds, CheckEnds, ProgramEnds, RunEnds}
 use Rattle.sa_drive.specs.Files.{ComesOfFiles, Explains, ExplainsProgram, IsTakenProgram}
 use Rattle.sa_drive.specs.Lines.{IsPlaced}
 use Rattle.sa_outside.proofs.Counts.{Rose-earlier}
-use Rattle.sa_drive.specs.Seen.{Count, Failed, Seen, count, seen}
+use Rattle.sa_drive.specs.Seen.{Count, Seen, count, seen}
 use Rattle.sa_drive.specs.declared.cause.Cause.{Cause}
 use Rattle.sa_drive.specs.declared.cause.Cause.TheVariants as cause
 
@@ -20,6 +20,11 @@ pub placed_run : (seen : Seen) (fuel : ℕ) (sources : Sources) (ends : Cause) �
 placed_run seen fuel sources (cause.Refused refusal) run = absurd run
 placed_run seen fuel sources (cause.Fault kind pos) run = absurd run
 placed_run seen fuel sources _ run = tt
+
+-- the end of its module is one of the program
+pub of_run : (seen : Seen) (fuel : ℕ) (ends : Cause) → RunEnds seen fuel ends → ProgramEnds seen fuel ends
+of_run seen fuel (cause.Fault kind pos) run = tt
+of_run seen fuel _ run = run
 
 pub placed_build : (seen : Seen) (sources : Sources) (ends : Cause) → BuildEnds seen ends → IsPlaced sources ends
 placed_build seen sources (cause.Refused refusal) build = absurd build
@@ -48,11 +53,6 @@ of_program files failed names program (Err ends) read whole (inr (none, explains
 pub of_module : {X : Type 0} (seen : Seen) (names : List (List ℕ)) (Ends Early : Cause → Type 0) (made : Result X Cause) (bytes : X) (sources told : Sources) (ends stands : Cause) → made ≡ Ok bytes → MatchResult made (λ _. IsTakenProgram seen.files names sources) Early → told ≡ sources → stands ≡ ends → Ends ends → ComesOfProgram seen names Ends told stands
 of_module seen names Ends Early made bytes sources told ends stands is taken same cause end =
     rw (same, cause) (inr (subst (λ made. MatchResult made (λ _. IsTakenProgram seen.files names sources) Early) is taken, end))
-
--- the end of a command for which there is a program that can't be compiled
-pub of_unbuilt : {X : Type 0} (seen : Seen) (names : List (List ℕ)) (Ends : Cause → Type 0) (made : Result X Cause) (sources told : Sources) (ends stands : Cause) → made ≡ Err cause.NotBuilt → MatchResult made (λ _. IsTakenProgram seen.files names sources) (ComesOfFiles seen.files (Failed seen.store) names sources) → told ≡ sources → stands ≡ ends → Ends ends → ComesOfProgram seen names Ends told stands
-of_unbuilt seen names Ends made sources told ends stands is taken same cause end =
-    rw (same, cause) (inr (subst (λ made. MatchResult made (λ _. IsTakenProgram seen.files names sources) (ComesOfFiles seen.files (Failed seen.store) names sources)) is taken, end))
 
 -- the cause that stands after the report
 pub reported : (seen : Seen) (words : List (List ℕ)) (sources : Sources) (told stands : Cause) → (stands ≡ cause.NoMemory) ⊎ (stands ≡ told) → ComesOf seen words sources told → ComesOf seen words sources stands

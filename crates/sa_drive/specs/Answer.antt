@@ -4,7 +4,7 @@ use Rattle.sa_tree.specs.declared.pos.Sources.{Sources}
 use Rattle.sa_outside.specs.Files.{Files, Lacks, Writes, WritesFront}
 use Rattle.sa_read.specs.Read.{HasFile, HasLonger}
 use Rattle.sa_words.specs.Line.{Build, Check, Exec, Line, Run, line_in}
-use Rattle.sa_drive.specs.Ends.{BuildEnds, CheckEnds, RunEnds}
+use Rattle.sa_drive.specs.Ends.{BuildEnds, CheckEnds, ProgramEnds, RunEnds}
 use Rattle.sa_drive.specs.Files.{ComesOfFiles, IsTakenProgram}
 use Rattle.sa_drive.specs.Lines.{lines_of}
 use Rattle.sa_drive.specs.Seen.{Failed, Seen}
@@ -30,7 +30,7 @@ ComesOfModule seen file fuel cause = IsUnread seen file cause ⊎ ((bytes : List
 
 -- where the cause of a command comes from
 abbrev pub ComesOfLine : Seen → Line → Sources → Cause → Type 0
-ComesOfLine seen (Run fuel room stats names) sources cause = ComesOfProgram seen names (RunEnds seen fuel) sources cause
+ComesOfLine seen (Run fuel room stats names) sources cause = ComesOfProgram seen names (ProgramEnds seen fuel) sources cause
 ComesOfLine seen (Build room out names) sources cause = ComesOfProgram seen names (BuildEnds seen) sources cause
 ComesOfLine seen (Check names) sources cause = ComesOfProgram seen names (CheckEnds seen) sources cause
 ComesOfLine seen (Exec fuel stats file) sources cause = ComesOfModule seen file fuel cause

@@ -19,6 +19,11 @@ RunEnds seen fuel (cause.NotListing line) = ⊥
 RunEnds seen fuel cause.NotBuilt = ⊥
 RunEnds seen fuel _ = ⊤
 
+-- the end of a program that is run with this fuel: that of its module, or a fault
+abbrev pub ProgramEnds : Seen → ℕ → Cause → Type 0
+ProgramEnds seen fuel (cause.Fault kind pos) = ⊤
+ProgramEnds seen fuel ends = RunEnds seen fuel ends
+
 -- the end of a module that is written
 abbrev pub BuildEnds : Seen → Cause → Type 0
 BuildEnds seen cause.Done = ⊤

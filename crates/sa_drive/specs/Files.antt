@@ -32,6 +32,12 @@ abbrev pub IsAmong : ℕ → FrontFault → Type 0
 IsAmong texts (Refused refusal) = refusal.pos.file < texts
 IsAmong texts NoMemory = ⊤
 
+-- an accepted program has no module: it can't be compiled yet, or memory has run out
+abbrev pub IsUnbuilt : Cause → Type 0
+IsUnbuilt cause.NotBuilt = ⊤
+IsUnbuilt cause.NoMemory = ⊤
+IsUnbuilt _ = ⊥
+
 -- why texts give no module
 abbrev pub Explains : List (List ℕ) → Cause → Type 0
 Explains texts (cause.Refused refusal) = IsRefusalFor texts refusal

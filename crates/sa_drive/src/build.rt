@@ -8,7 +8,7 @@ ghost use Rattle.sa_drive.specs.Lines.{IsPlaced};
 ghost use Rattle.sa_drive.specs.Seen.{Count, count, seen};
 
 use crate::cause::Cause;
-use crate::compile::{Compiled, compile_files};
+use crate::compile::{Compiled, Goal, compile_files};
 use crate::outcome::Outcome;
 use sa_outside::{Outage, Store};
 use sa_words::Build;
@@ -23,11 +23,12 @@ pub fn build<'a, S: Store>(alloc: Global, line: &Build<'a>, store: &mut S) -> Ou
     ensures written { result.cause ≡ Cause.Done → Writes (S.files store.old) (S.files store.new) line.now.out.now result.«module».items }
     ensures files { WritesFront (S.files store.old) (S.files store.new) line.now.out.now result.«module».items }
 {
-    let Compiled { sources, module } = compile_files(alloc, store, line.files.as_slice());
+    let goal = Goal::Module(line.room);
+    let Compiled { sources, module } = compile_files(alloc, store, line.files.as_slice(), goal);
     match module {
-        Ok(module) => {
-            let cause = written(store, line.out, module.as_slice());
-            Outcome::without_run(cause, sources, module)
+        Ok(built) => {
+            let cause = written(store, line.out, built.bytes.as_slice());
+            Outcome::without_run(cause, sources, built.bytes)
         }
         Err(cause) => Outcome::without_run(cause, sources, Vec::new(alloc)),
     }

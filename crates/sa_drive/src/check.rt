@@ -9,7 +9,7 @@ ghost use Rattle.sa_drive.specs.Lines.{IsPlaced};
 ghost use Rattle.sa_drive.specs.Seen.{Count, count, seen};
 
 use crate::cause::Cause;
-use crate::compile::{Compiled, compile_files};
+use crate::compile::{Compiled, Goal, compile_files};
 use crate::outcome::Outcome;
 use sa_outside::{Outage, Sink, Store};
 use sa_words::Check;
@@ -33,10 +33,14 @@ pub fn check<'a, S: Store, O: Sink>(
     ensures output { Grew (O.output out.old) (O.output out.new) }
     ensures untouched { ComesBeforeOutput result.cause → out.new ≡ out.old }
 {
-    let Compiled { sources, module } = compile_files(alloc, store, line.files.as_slice());
+    let Compiled { sources, module } = compile_files(
+        alloc,
+        store,
+        line.files.as_slice(),
+        Goal::Check,
+    );
     match module {
         Ok(_module) => Outcome::without_run(told(out), sources, Vec::new(alloc)),
-        Err(Cause::NotBuilt) => Outcome::without_run(told(out), sources, Vec::new(alloc)),
         Err(cause) => Outcome::without_run(cause, sources, Vec::new(alloc)),
     }
 }

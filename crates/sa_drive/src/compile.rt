@@ -3,37 +3,46 @@
 ghost use Rattle.std.specs.Prelude.{◌≡◌, ◌≤◌, ◌<◌, All, length, map, None, IfErr, IfOk, IfSome, MatchResult};
 ghost use Rattle.sa_outside.specs.Faults.{Rose};
 ghost use Rattle.sa_read.specs.Front.{IsTakenUpTo};
-ghost use Rattle.sa_drive.specs.Files.{ComesOfFiles, Explains, ExplainsProgram, IsAmong, IsTakenProgram};
+ghost use Rattle.sa_drive.specs.Files.{ComesOfFiles, Explains, ExplainsProgram, IsAmong, IsTakenProgram, IsUnbuilt};
 ghost use Rattle.sa_drive.specs.Lines.{IsPlaced};
 
 use crate::cause::Cause;
-use crate::first_form::joined_texts;
-use crate::program::printing;
 use sa_check::check;
+use sa_compile::{BuildFault, Built, module_of};
+use sa_core::Core;
 use sa_outside::Store;
 use sa_read::{Program, ReadFault, classes, read_program};
 use sa_tree::{Class, FrontFault, Sources};
 use sqlite_items::Items;
-use std::alloc::{AllocError, Global};
-use wa_encode::encode;
+use std::alloc::Global;
 
-/// The texts of a program, and its module's bytes or the cause why there are none.
+/// What is made of the files of a program.
+#[derive(Clone, Copy, Debug, PartialEq, Eq, Hash)]
+pub enum Goal {
+    /// Nothing: it is asked whether the program is accepted.
+    Check,
+    /// Its module, with so many KiB of room for objects.
+    Module(u32),
+}
+
+/// The texts of a program, and its module or the cause why there is none. Where only a check was asked for, the module is
+/// empty.
 #[derive(Drop)]
 pub struct Compiled {
     pub sources: Sources,
-    pub module: Result<Vec<u8>, Cause>,
+    pub module: Result<Built, Cause>,
 }
 
 /// Reads the files of a program and compiles it.
-pub fn compile_files<S: Store>(alloc: Global, store: &mut S, files: &[&str]) -> Compiled
+pub fn compile_files<S: Store>(alloc: Global, store: &mut S, files: &[&str], goal: Goal) -> Compiled
     ensures module { MatchResult result.«module» (λ _. IsTakenProgram (S.files store.old) (map (λ file. file.now) files.now) result.sources) (ComesOfFiles (S.files store.old) (Rose (S.faults store.old) (S.faults store.new)) (map (λ file. file.now) files.now) result.sources) }
-    ensures size { IfOk result.«module» (λ bytes. length bytes.items < 4294967295) }
+    ensures size { IfOk result.«module» (λ built. length built.bytes.items < 4294967295) }
     ensures placed { IfErr result.«module» (IsPlaced result.sources) }
     ensures files { S.files store.new ≡ S.files store.old }
     ensures count { S.faults store.old ≤ S.faults store.new }
 {
     match read_program(alloc, store, files) {
-        Ok(program) => compile_program(alloc, program),
+        Ok(program) => compile_program(alloc, program, goal),
         Err(fault) => Compiled {
             sources: no_sources(alloc),
             module: Err(unread(fault)),
@@ -42,19 +51,19 @@ pub fn compile_files<S: Store>(alloc: Global, store: &mut S, files: &[&str]) -> 
 }
 
 /// The module of a program, unless its files are too large.
-fn compile_program(alloc: Global, program: Program) -> Compiled
+fn compile_program(alloc: Global, program: Program, goal: Goal) -> Compiled
     requires short { All (λ text. length text < 4294967295) program.sources.texts }
     requires few { length program.sources.texts ≤ 65536 }
     requires placed { IfSome program.cut (λ refusal. refusal.pos.file < length program.sources.texts) }
     ensures same { result.sources ≡ program.sources }
-    ensures size { IfOk result.«module» (λ bytes. length bytes.items < 4294967295) }
+    ensures size { IfOk result.«module» (λ built. length built.bytes.items < 4294967295) }
     ensures whole { IfOk result.«module» (λ _. (program.cut ≡ None) × IsTakenUpTo program.sources.texts (length program.sources.texts)) }
     ensures fault { IfErr result.«module» (ExplainsProgram program) }
     ensures placed { IfErr result.«module» (IsPlaced result.sources) }
 {
     let Program { sources, cut } = program;
     match cut {
-        None => with_module(alloc, sources),
+        None => with_module(alloc, sources, goal),
         Some(refusal) => Compiled {
             sources,
             module: Err(Cause::Refused(refusal)),
@@ -82,24 +91,24 @@ pub fn unread(fault: ReadFault) -> Cause
 }
 
 /// The module of a program of these texts, with the texts.
-fn with_module(alloc: Global, sources: Sources) -> Compiled
+fn with_module(alloc: Global, sources: Sources, goal: Goal) -> Compiled
     requires short { All (λ text. length text < 4294967295) sources.texts }
     requires few { length sources.texts < 4294967295 }
     ensures same { result.sources ≡ sources }
-    ensures size { IfOk result.«module» (λ bytes. length bytes.items < 4294967295) }
+    ensures size { IfOk result.«module» (λ built. length built.bytes.items < 4294967295) }
     ensures made { IfOk result.«module» (λ _. IsTakenUpTo sources.texts (length sources.texts)) }
     ensures fault { IfErr result.«module» (Explains sources.texts) }
 {
-    let module = compile(alloc, sources.texts.as_slice());
+    let module = compile(alloc, sources.texts.as_slice(), goal);
     Compiled { sources, module }
 }
 
-/// The bytes of the module of a program of these texts, or the cause why there are none.
-fn compile(alloc: Global, texts: &[Items<u8>]) -> Result<Vec<u8>, Cause>
+/// The module of a program of these texts, or the cause why there is none.
+fn compile(alloc: Global, texts: &[Items<u8>], goal: Goal) -> Result<Built, Cause>
     requires short { All (λ text. length text < 4294967295) texts.now }
     requires few { length texts.now < 4294967295 }
     ensures made { IfOk result (λ _. IsTakenUpTo texts.now (length texts.now)) }
-    ensures size { IfOk result (λ bytes. length bytes.items < 4294967295) }
+    ensures size { IfOk result (λ built. length built.bytes.items < 4294967295) }
     ensures fault { IfErr result (Explains texts.now) }
 {
     let classes = match classes(alloc, texts) {
@@ -107,24 +116,19 @@ fn compile(alloc: Global, texts: &[Items<u8>]) -> Result<Vec<u8>, Cause>
         Err(FrontFault::Refused(refusal)) => return Err(Cause::Refused(refusal)),
         Err(FrontFault::NoMemory) => return Err(Cause::NoMemory),
     };
-    match accepted(alloc, classes.as_slice(), texts.len()) {
-        Ok(()) => {}
-        Err(FrontFault::Refused(broken)) => return Err(Cause::Refused(broken)),
-        Err(FrontFault::NoMemory) => return Err(Cause::NoMemory),
-    }
-    match joined_texts(alloc, behind_prelude(classes.as_slice())) {
-        Ok(Some(texts)) => bytes_of(alloc, texts.as_slice()),
-        Ok(None) => Err(Cause::NotBuilt),
-        Err(AllocError) => Err(Cause::NoMemory),
+    match accepted(alloc, classes, texts.len()) {
+        Ok(core) => made(alloc, core, texts, goal),
+        Err(FrontFault::Refused(broken)) => Err(Cause::Refused(broken)),
+        Err(FrontFault::NoMemory) => Err(Cause::NoMemory),
     }
 }
 
-/// Whether the classes of so many texts are accepted.
-fn accepted(alloc: Global, classes: &[Class], texts: usize) -> Result<(), FrontFault>
+/// The typed program of the classes of so many texts, where they are accepted.
+fn accepted(alloc: Global, classes: Items<Class>, texts: usize) -> Result<Core, FrontFault>
     ensures { IfErr result (IsAmong texts) }
 {
-    match check(alloc, classes) {
-        Ok(_core) => Ok(()),
+    match check(alloc, classes.as_slice()) {
+        Ok(core) => Ok(core),
         Err(FrontFault::Refused(refusal)) => {
             if refusal.pos.file as usize >= texts {
                 return Err(FrontFault::NoMemory);
@@ -135,25 +139,20 @@ fn accepted(alloc: Global, classes: &[Class], texts: usize) -> Result<(), FrontF
     }
 }
 
-/// The classes of the command's files, which stand behind those of the prelude.
-fn behind_prelude(classes: &[Class]) -> &[Class] {
-    let own = classes.iter().position(|class| class.name.pos.file > 0);
-    match own {
-        None => &[],
-        Some(first) => &classes[first..],
-    }
-}
-
-/// The bytes of the module that prints these texts.
-fn bytes_of(alloc: Global, texts: &[u8]) -> Result<Vec<u8>, Cause>
-    ensures size { IfOk result (λ bytes. length bytes.items < 4294967295) }
-    ensures memory { IfErr result (λ cause. cause ≡ Cause.NoMemory) }
+/// What is made of a typed program of these texts.
+fn made(alloc: Global, core: Core, texts: &[Items<u8>], goal: Goal) -> Result<Built, Cause>
+    ensures size { IfOk result (λ built. length built.bytes.items < 4294967295) }
+    ensures fault { IfErr result IsUnbuilt }
 {
-    let Ok(module) = printing(alloc, texts) else {
-        return Err(Cause::NoMemory);
-    };
-    match encode(alloc, &module) {
-        Ok(bytes) if bytes.len() < u32::MAX as usize => Ok(bytes),
-        _ => Err(Cause::NoMemory),
+    match goal {
+        Goal::Check => Ok(Built {
+            bytes: Vec::new(alloc),
+            sites: Items::new(alloc),
+        }),
+        Goal::Module(room) => match module_of(alloc, core, texts, room) {
+            Ok(built) => Ok(built),
+            Err(BuildFault::NotBuilt) => Err(Cause::NotBuilt),
+            Err(BuildFault::NoMemory) => Err(Cause::NoMemory),
+        },
     }
 }

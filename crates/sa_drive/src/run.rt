@@ -1,16 +1,19 @@
 //! The command `run`: a program is compiled, and its module's bytes are run.
 
-ghost use Rattle.std.specs.Prelude.{◌≡◌, ◌&&◌, [], is_some, map};
+ghost use Rattle.std.specs.Prelude.{◌≡◌, ◌&&◌, ℕ, [], is_some, map, IsTrue};
 ghost use Rattle.sa_outside.specs.Output.{Grew};
 ghost use Rattle.sa_drive.specs.Answer.{ComesOfProgram, has_steps};
-ghost use Rattle.sa_drive.specs.Ends.{ComesBeforeOutput, RunEnds};
-ghost use Rattle.sa_drive.specs.Lines.{IsPlaced};
-ghost use Rattle.sa_drive.specs.Seen.{count, seen};
+ghost use Rattle.sa_drive.specs.Ends.{ComesBeforeOutput, ProgramEnds, RunEnds};
+ghost use Rattle.sa_drive.specs.Lines.{IsInside, IsPlaced};
+ghost use Rattle.sa_drive.specs.Seen.{Seen, count, seen};
 
-use crate::compile::{Compiled, compile_files};
-use crate::exec::run_module;
+use crate::cause::Cause;
+use crate::compile::{Compiled, Goal, compile_files};
+use crate::exec::{Ended, run_module};
 use crate::outcome::Outcome;
+use sa_compile::Built;
 use sa_outside::{Sink, Source, Store};
+use sa_tree::{Pos, Sources};
 use sa_words::Run;
 use std::alloc::Global;
 
@@ -22,7 +25,7 @@ pub fn run<'a, S: Store, I: Source, O: Sink>(
     input: &mut I,
     out: &mut O,
 ) -> Outcome<'a>
-    ensures comes { ComesOfProgram (seen (S.files store.old) (count (S.faults store.old) (S.faults store.new)) (count (I.faults input.old) (I.faults input.new)) (count (O.faults out.old) (O.faults out.new))) (map (λ file. file.now) line.now.files.items) (RunEnds (seen (S.files store.old) (count (S.faults store.old) (S.faults store.new)) (count (I.faults input.old) (I.faults input.new)) (count (O.faults out.old) (O.faults out.new))) line.now.fuel) result.sources result.cause }
+    ensures comes { ComesOfProgram (seen (S.files store.old) (count (S.faults store.old) (S.faults store.new)) (count (I.faults input.old) (I.faults input.new)) (count (O.faults out.old) (O.faults out.new))) (map (λ file. file.now) line.now.files.items) (ProgramEnds (seen (S.files store.old) (count (S.faults store.old) (S.faults store.new)) (count (I.faults input.old) (I.faults input.new)) (count (O.faults out.old) (O.faults out.new))) line.now.fuel) result.sources result.cause }
     ensures placed { IsPlaced result.sources result.cause }
     ensures told { is_some result.steps ≡ (line.now.stats && has_steps result.cause) }
     ensures file { result.file.now ≡ [] }
@@ -30,12 +33,54 @@ pub fn run<'a, S: Store, I: Source, O: Sink>(
     ensures output { Grew (O.output out.old) (O.output out.new) }
     ensures untouched { ComesBeforeOutput result.cause → out.new ≡ out.old }
 {
-    let Compiled { sources, module } = compile_files(alloc, store, line.files.as_slice());
+    let goal = Goal::Module(line.room);
+    let Compiled { sources, module } = compile_files(alloc, store, line.files.as_slice(), goal);
     match module {
-        Ok(module) => {
-            let ended = run_module(alloc, module.as_slice(), line.fuel, input, out);
-            ended.outcome(sources, "", module, line.stats)
+        Ok(Built { bytes, sites }) => {
+            let ended = run_module(alloc, bytes.as_slice(), line.fuel, input, out);
+            let cause = at_place(ended.cause, sites.as_slice(), &sources);
+            Ended { cause, ..ended }.outcome(sources, "", bytes, line.stats)
         }
         Err(cause) => Outcome::without_run(cause, sources, Vec::new(alloc)),
+    }
+}
+
+/// The cause of a program whose module ended with this one: where the module stopped, the fault at the position whose number
+/// it told.
+#[tactic(auto, using(crate::proofs::EndLemmas::of_run))]
+fn at_place(cause: Cause, sites: &[Pos], sources: &Sources) -> Cause
+    ensures ends { (s : Seen) (fuel : ℕ) → RunEnds s fuel cause → ProgramEnds s fuel result }
+    ensures placed { IsPlaced sources.now cause → IsPlaced sources.now result }
+    ensures untouched { ComesBeforeOutput result → ComesBeforeOutput cause }
+{
+    match cause {
+        Cause::Stopped(code, site) => fault_at(code, site, sites, sources),
+        _ => cause,
+    }
+}
+
+/// The fault of this kind at the position with this number. A stop that tells no kind of a fault or no position of the
+/// program, which no module of a program makes, stays as it is.
+fn fault_at(code: u32, site: u32, sites: &[Pos], sources: &Sources) -> Cause
+    ensures ends { (s : Seen) (fuel : ℕ) → ProgramEnds s fuel result }
+    ensures placed { IsPlaced sources.now result }
+    ensures later { ComesBeforeOutput result → ⊥ }
+{
+    let Ok(kind) = u8::try_from(code) else {
+        return Cause::Stopped(code, site);
+    };
+    match sites.get(site as usize) {
+        Some(pos) if is_inside(sources, *pos) => Cause::Fault(kind, *pos),
+        _ => Cause::Stopped(code, site),
+    }
+}
+
+/// Whether a position is in one of the texts.
+fn is_inside(sources: &Sources, pos: Pos) -> bool
+    ensures { IsTrue result → IsInside sources.now pos }
+{
+    match sources.texts.get(pos.file as usize) {
+        Some(text) => text.len() < u32::MAX as usize,
+        None => false,
     }
 }

@@ -1,0 +1,7 @@
+//! From a typed program to the bytes of its module.
+#![tactic(auto)]
+
+mod lines;
+mod module;
+
+pub use module::{BuildFault, Built, module_of};

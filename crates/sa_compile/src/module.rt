@@ -1,0 +1,69 @@
+//! The module of a typed program.
+
+ghost use Rattle.std.specs.Prelude.{◌<◌, length, IfOk};
+
+use crate::lines::lines;
+use sa_core::{Core, positions};
+use sa_dispatch::rows;
+use sa_emit::emit;
+use sa_lower::{is_built, lower};
+use sa_tree::{NoMemory, Pos};
+use sqlite_items::Items;
+use std::alloc::Global;
+use wa_encode::encode;
+
+/// The bytes of a program's module, and the positions that its faults name by number.
+#[derive(Drop)]
+pub struct Built {
+    pub bytes: Vec<u8>,
+    pub sites: Items<Pos>,
+}
+
+/// Why a program has no module.
+#[derive(Clone, Copy, Debug, PartialEq, Eq, Hash)]
+pub enum BuildFault {
+    /// It has iter calls, bound values or protects, which can't be compiled yet.
+    NotBuilt,
+    NoMemory,
+}
+
+/// The module of a typed program of these texts, with so many KiB of room for its objects.
+pub fn module_of(
+    alloc: Global,
+    core: Core,
+    texts: &[Items<u8>],
+    room: u32,
+) -> Result<Built, BuildFault>
+    ensures size { IfOk result (λ built. length built.bytes.items < 4294967295) }
+{
+    if !is_built(&core) {
+        return Err(BuildFault::NotBuilt);
+    }
+    match compiled(alloc, core, texts, room) {
+        Ok(built) => Ok(built),
+        Err(NoMemory) => Err(BuildFault::NoMemory),
+    }
+}
+
+/// The module of a program that can be compiled.
+fn compiled(alloc: Global, core: Core, texts: &[Items<u8>], room: u32) -> Result<Built, NoMemory>
+    ensures size { IfOk result (λ built. length built.bytes.items < 4294967295) }
+{
+    let positions = positions(alloc, &core)?;
+    let lines = lines(alloc, texts, positions.as_slice())?;
+    let core = Core { lines, ..core };
+    let rows = rows(alloc, &core)?;
+    let flat = lower(alloc, &core)?;
+    drop(core);
+    let Ok(emitted) = emit(alloc, &flat, &rows, room) else {
+        return Err(NoMemory);
+    };
+    drop(flat);
+    match encode(alloc, &emitted.module) {
+        Ok(bytes) if bytes.len() < u32::MAX as usize => Ok(Built {
+            bytes,
+            sites: emitted.sites,
+        }),
+        _ => Err(NoMemory),
+    }
+}
