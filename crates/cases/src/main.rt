@@ -16,7 +16,7 @@ use std::fs::{self, Files};
 use std::process::ExitCode;
 
 /// The files of the table, one for each subject.
-const TABLES: [&str; 15] = [
+const TABLES: [&str; 27] = [
     "hello.json",
     "commands.json",
     "tokens.json",
@@ -30,6 +30,18 @@ const TABLES: [&str; 15] = [
     "statements.json",
     "limits.json",
     "programs.json",
+    "run_numbers.json",
+    "run_texts.json",
+    "run_routines.json",
+    "run_statements.json",
+    "run_objects.json",
+    "run_immutables.json",
+    "run_dispatch.json",
+    "run_room.json",
+    "run_input.json",
+    "run_forms.json",
+    "run_programs.json",
+    "run_manual.json",
     "modules.json",
     "machine.json",
 ];
