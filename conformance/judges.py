@@ -5,6 +5,7 @@ and 'done STATUS'."""
 import json
 import os
 import re
+import resource
 import shutil
 import subprocess
 
@@ -64,20 +65,35 @@ def sather(program, folder, module, given=b'', words=()):
     return Run(end_of(line, ended.returncode), ended.stdout, steps)
 
 
-def v8(tasks):
-    """Judges modules by one process of node. A task is a module, an input, and whether to run it. Gives for each whether it
-    is valid, and its run or None; or None for all where node is missing."""
+def v8(tasks, stack=None):
+    """Judges modules by one process of node, with so many bytes of stack where they are given. A task is a module, an input,
+    and whether to run it. Gives for each whether it is valid, and its run or None; or None for all where node is missing."""
     node = shutil.which('node')
     if node is None:
         return None
+    words = [node, os.path.join(HERE, 'v8.js')]
+    if stack is not None:
+        words.insert(1, '--stack-size=%d' % (stack_within(stack) // 1024))
     lines = [json.dumps({'module': module.hex(), 'input': given.hex(), 'run': run}) for module, given, run in tasks]
-    ended = subprocess.run([node, os.path.join(HERE, 'v8.js')], input='\n'.join(lines) + '\n', capture_output=True,
-                           text=True, timeout=SECONDS + len(tasks))
+    ended = subprocess.run(words, input='\n'.join(lines) + '\n', capture_output=True, text=True,
+                           timeout=SECONDS + len(tasks), preexec_fn=None if stack is None else large_stack)
     answers = [json.loads(line) for line in ended.stdout.splitlines()]
     if len(answers) != len(tasks):
         raise RuntimeError('node answered %d of %d modules: %s' % (len(answers), len(tasks), ended.stderr))
     return [(answer['valid'], Run(answer['end'], bytes.fromhex(answer['output'])) if 'end' in answer else None)
             for answer in answers]
+
+
+def stack_within(stack):
+    """So many bytes of stack, or as many of them as the system lets a process have."""
+    _, most = resource.getrlimit(resource.RLIMIT_STACK)
+    return stack if most == resource.RLIM_INFINITY else min(stack, most * 3 // 4)
+
+
+def large_stack():
+    """Lets the process have as large a stack as the system allows."""
+    _, most = resource.getrlimit(resource.RLIMIT_STACK)
+    resource.setrlimit(resource.RLIMIT_STACK, (most, most))
 
 
 def has_wabt():

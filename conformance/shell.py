@@ -8,22 +8,26 @@ import sys
 import tempfile
 
 HELLO = b'class MAIN is main is #OUT + "Hello\\n"; end; end;'
-SUM = b'class MAIN is main is x ::= 1 + 2; end; end;'
+SUM = b'class MAIN is main is #OUT + (1 + 2); end; end;'
+ITER = b'class MAIN is main is loop #OUT + 1.upto!(3); end; end; end;'
+FAULT = b'class MAIN is main is #OUT + "a";\n#OUT + 1 / 0; end; end;'
+COPY = b'class MAIN is main is loop b ::= #IN.get_byte; while!(b >= 0); #OUT + b.char; end; end; end;'
 UNKNOWN = b'class MAIN is\nmain is x ::= y; end; end;'
+SOURCES = {'f.sa': HELLO, 'sum.sa': SUM, 'unknown.sa': UNKNOWN, 'iter.sa': ITER, 'fault.sa': FAULT, 'copy.sa': COPY}
 USAGE = b'usage: sather run, build, check, exec, gen or selftest\n'
 
 
 def run(words, folder, **streams):
     """The output, the lines on err and the status of the program."""
     streams.setdefault('stdout', subprocess.PIPE)
-    ended = subprocess.run([PROGRAM] + words, cwd=folder, stdin=subprocess.DEVNULL, stderr=subprocess.PIPE,
-                           timeout=60, **streams)
+    streams.setdefault('stdin', subprocess.DEVNULL)
+    ended = subprocess.run([PROGRAM] + words, cwd=folder, stderr=subprocess.PIPE, timeout=60, **streams)
     return ended.stdout or b'', ended.stderr, ended.returncode
 
 
 def cases(folder):
     """Each case: its name, what the program left, and what it should leave."""
-    for name, text in ('f.sa', HELLO), ('sum.sa', SUM), ('unknown.sa', UNKNOWN):
+    for name, text in SOURCES.items():
         with open(os.path.join(folder, name), 'wb') as file:
             file.write(text)
     os.mkdir(os.path.join(folder, 'folder'))
@@ -32,8 +36,14 @@ def cases(folder):
     yield 'a folder is a store fault', run(['run', 'folder'], folder), (b'', b'store fault\n', 123)
     yield 'without words the usage is told', run([], folder), (b'', USAGE, 124)
     yield 'a program is accepted', run(['check', 'f.sa'], folder), (b'accepted\n', b'', 0)
-    yield 'a program of another form is accepted', run(['check', 'sum.sa'], folder), (b'accepted\n', b'', 0)
-    yield 'a program of another form isn\'t built', run(['run', 'sum.sa'], folder), (b'', b'not built\n', 119)
+    yield 'a program with an iter call is accepted', run(['check', 'iter.sa'], folder), (b'accepted\n', b'', 0)
+    yield 'a program with an iter call isn\'t built', run(['run', 'iter.sa'], folder), (b'', b'not built\n', 119)
+    yield 'a program prints a sum', run(['run', 'sum.sa'], folder), (b'3', b'', 0)
+    fault = b'fault.sa:2: fault: division by zero\n'
+    yield 'a fault stops a program at its line', run(['run', 'fault.sa'], folder), (b'a', fault, 121)
+    with open(os.path.join(folder, 'copy.sa'), 'rb') as given:
+        copied = run(['run', 'copy.sa'], folder, stdin=given)
+    yield 'a program copies a file from its input', copied, (COPY, b'', 0)
     refused = b'unknown.sa:2: E30: unknown name\n'
     yield 'an unknown name is refused by check', run(['check', 'unknown.sa'], folder), (b'', refused, 120)
     yield 'an unknown name is refused by run', run(['run', 'unknown.sa'], folder), (b'', refused, 120)

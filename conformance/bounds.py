@@ -1,0 +1,162 @@
+#!/usr/bin/env python3
+"""bounds.py PROGRAM [--all]
+
+Builds programs with PROGRAM and counts what their modules hold against the bounds that every module of a program keeps:
+
+- at most 50 functions are none of a body of the flat program, with at most 10,000 instructions together;
+- blocks nest at most 1,000 deep, and a function declares at most 1,000,000 locals;
+- the table holds functions of bodies alone.
+
+The programs are those of the table of cases, the examples, and sources made here that go to the limits of the language: a
+routine of 200 variables, expressions and statements that nest as deep as they may, long chains of tests, many classes below
+one, many texts. Without --all one in ten of the table's programs is taken. Prints the greatest count of each kind, each
+program that passes a bound, and a last line 'N passed, M failed'; the status is 1 where any failed."""
+import argparse
+import glob
+import os
+import subprocess
+import sys
+import tempfile
+
+import programs
+from reader import Reader
+
+IMPORTS = 3
+FIRST_BODY = 42
+MOST = {'functions of no body': 50, 'their instructions': 10_000, 'nested blocks': 1000, 'locals of a function': 1_000_000,
+        'table entries of no body': 0}
+
+
+class Counter(Reader):
+    """A reader that counts."""
+
+    def __init__(self, spelled):
+        super().__init__(spelled)
+        self.functions_read = self.own_instructions = self.nested = self.locals = self.foreign = 0
+        self.count = self.declared = 0
+
+    def simple(self, opcode, labels):
+        self.count += 1
+        self.nested = max(self.nested, len(labels) - 1)
+        super().simple(opcode, labels)
+
+    def block_type(self):
+        self.count += 1
+        return super().block_type()
+
+    def run_of_locals(self):
+        count = super().run_of_locals()
+        self.declared += count
+        return count
+
+    def code(self, ty):
+        self.declared, self.count = 0, 0
+        super().code(ty)
+        self.locals = max(self.locals, self.declared)
+        number = IMPORTS + self.functions_read
+        self.functions_read += 1
+        if number < FIRST_BODY or self.functions_read == len(self.funcs):
+            self.own_instructions += self.count
+
+    def elem(self):
+        self.segment_number()
+        self.offset()
+        last = IMPORTS + len(self.funcs) - 1
+        self.foreign += sum(not FIRST_BODY <= func < last for func in self.vector(self.unsigned))
+
+    def counts(self):
+        """The counts of the bounds, by their names."""
+        return {'functions of no body': FIRST_BODY - IMPORTS + 1, 'their instructions': self.own_instructions,
+                'nested blocks': self.nested, 'locals of a function': self.locals, 'table entries of no body': self.foreign}
+
+
+def main_of(body, rest=''):
+    """A source whose `main` has these statements."""
+    return 'class MAIN is main is %s end; end; %s' % (body, rest)
+
+
+def sources():
+    """Sources at the limits of the language, by their names."""
+    names = ['v%d' % number for number in range(199)]
+    yield 'a routine of 200 variables', main_of('x ::= f(%s); #OUT + x;' % ', '.join('1' for _ in names)).replace(
+        'main is', 'f(%s:INT):INT is r ::= 0; %s return r; end; main is'
+        % (', '.join(names), ' '.join('r := r + %s;' % name for name in names)))
+    yield 'ifs inside ifs', main_of('x ::= 1; ' + 'if x = 1 then ' * 195 + 'x := 2;' + ' end;' * 195)
+    yield 'loops inside loops', main_of('x ::= 1; ' + 'loop ' * 195 + 'x := x + 1; break!;' + ' end; break!;' * 194 + ' end;')
+    yield 'parentheses inside parentheses', main_of('x ::= ' + '(1 + ' * 180 + '1' + ')' * 180 + '; #OUT + x;')
+    yield 'and and or inside one another', main_of(
+        'x ::= true; x := ' + '(x and (x or ' * 90 + 'x' + '))' * 90 + '; if x then #OUT + "y"; end;')
+    yield 'a chain of 10,000 tests', main_of(
+        'x ::= 9999; if x = 0 then #OUT + 0; ' + ' '.join('elsif x = %d then #OUT + %d;' % (n, n) for n in range(1, 10000)) + ' end;')
+    yield '10,000 tests in a loop that leave it', main_of(
+        'x ::= 0; loop %s x := x + 1; end; #OUT + x;' % ' '.join('while!(x < %d);' % n for n in range(10000, 20000)))
+    classes = ' '.join('class C%d < $A is create:SAME is return new; end; f:INT is return %d; end; end;' % (n, n)
+                       for n in range(900))
+    yield '900 classes below one', main_of(
+        'a:$A := #C0; ' + ' '.join('a := #C%d; x := x + a.f;' % n for n in range(900)) + ' #OUT + x;').replace(
+            'a:$A', 'x ::= 0; a:$A') + ' abstract class $A is f:INT; end; ' + classes
+    yield '5,000 texts', main_of('s ::= ""; ' + ' '.join('s := "text %d";' % n for n in range(5000)) + ' #OUT + s;')
+
+
+def sources_of_files():
+    """The examples and the sources made here, by their names."""
+    for path in sorted(glob.glob(os.path.join(os.path.dirname(os.path.abspath(__file__)), '..', 'examples', '*.sa'))):
+        with open(path, encoding='utf-8') as file:
+            yield os.path.basename(path), file.read()
+    yield from sources()
+
+
+def tried(all_):
+    """Each program: its name, its files, the words of its build, and whether it has to be compiled."""
+    cases = list(programs.programs(''))
+    for case in cases if all_ else cases[::10]:
+        yield case.name, case.files, case.words_of_build(), False
+    for name, text in sources_of_files():
+        yield name, {'f.sa': text.encode()}, ['-o', 'm', 'f.sa'], True
+
+
+def module_of(program, files, words, folder):
+    """The bytes of a program's module, or None with the line that the program was answered with."""
+    for name, text in files.items():
+        with open(os.path.join(folder, name), 'wb') as file:
+            file.write(text)
+    ended = subprocess.run([program, 'build', *words], cwd=folder, stdin=subprocess.DEVNULL, stdout=subprocess.PIPE,
+                           stderr=subprocess.PIPE, timeout=120)
+    if ended.returncode != 0:
+        return None, ended.stderr.decode('latin-1').strip()
+    with open(os.path.join(folder, 'm'), 'rb') as file:
+        return file.read(), ''
+
+
+def main():
+    parser = argparse.ArgumentParser()
+    parser.add_argument('program')
+    parser.add_argument('--all', action='store_true')
+    options = parser.parse_args()
+    program = os.path.abspath(options.program)
+    passed, failed, greatest = 0, 0, {}
+    for name, files, words, must in tried(options.all):
+        with tempfile.TemporaryDirectory() as folder:
+            spelled, line = module_of(program, files, words, folder)
+        if spelled is None:
+            failed += must
+            if must:
+                print('%s: %s' % (name, line))
+            continue
+        counter = Counter(spelled)
+        counter.module()
+        counts = counter.counts()
+        greatest = {kind: max(counts[kind], greatest.get(kind, 0)) for kind in counts}
+        passing = [kind for kind in counts if counts[kind] > MOST[kind]]
+        for kind in passing:
+            print('%s: %d %s' % (name, counts[kind], kind))
+        failed += bool(passing)
+        passed += not passing
+    for kind, count in greatest.items():
+        print('%s: at most %d of %d' % (kind, count, MOST[kind]))
+    print('%d passed, %d failed' % (passed, failed))
+    sys.exit(failed > 0)
+
+
+if __name__ == '__main__':
+    main()
