@@ -1,0 +1,177 @@
+-- What goes through calls is alike where what runs bodies is.
+use Rattle.std.proofs.Common.{ℕ, Bool, List, [], ◌∷◌, map, Option, Some, None, refl}
+use Rattle.sa_tree.specs.declared.ty.Mode.{Mode}
+use Rattle.sa_tree.specs.declared.ty.Mode.TheVariants as mode
+use Rattle.sa_flat.specs.declared.body.FlatBody.{FlatBody}
+use Rattle.sa_flat.specs.declared.call.Callee.{Callee}
+use Rattle.sa_flat.specs.declared.call.Callee.TheVariants.{Body, Builtin, Get, Set, GetShared, SetShared, Dispatch, Bound}
+use Rattle.sa_flat.specs.declared.call.CallPlan.{CallPlan}
+use Rattle.sa_flat.specs.declared.call.Fail.{Fail}
+use Rattle.sa_flat.specs.declared.call.FlatArg.{FlatArg}
+use Rattle.sa_flat.specs.declared.call.Raised.{Raised}
+use Rattle.sa_flat.specs.declared.program.FlatProgram.{FlatProgram}
+use Rattle.sa_meaning.specs.Value.{Value}
+use Rattle.sa_meaning.specs.Calls.{interleaved}
+use Rattle.sa_flat_meaning.specs.Frames as frames
+use Rattle.sa_flat_meaning.specs.Frames.{Activation, Ending, Way, Cause, Faulted, Failed, InputFailed, Stuck}
+use Rattle.sa_flat_meaning.specs.Order.{Eval, read, write, put, this, enter, leave}
+use Rattle.sa_flat_meaning.specs.Faults.{raised, fault_here, fault, faulted, guarded}
+use Rattle.sa_flat_meaning.specs.Calls.{given_as, given_by_all, copied_back, kept_in, all_given, all_backs, dispatched, bound_to, reached, checked_depth, run_body, call_in, call_body, simply, run_reached, after_call, call, read_all, bindable, bind}
+use Rattle.sa_flat_meaning.proofs.Alike.{Alike, Steady, turns, alike_resolve, alike_then, alike_before, alike_if, steady_stop, steady_pure, steady_look, steady_change, steady_or_stuck, steady_within}
+
+-- ---- variables and activations
+
+pub steady_read : {level : ℕ} (var : ℕ) → Steady level (read var)
+steady_read var = alike_then (steady_look _) (λ variables. steady_or_stuck _)
+
+pub steady_write : {level : ℕ} (var : ℕ) (v : Value) → Steady level (write var v)
+steady_write var v = steady_change _ (λ s. refl)
+
+pub steady_put : {level : ℕ} (var : Option ℕ) (v : Value) → Steady level (put var v)
+steady_put None v = steady_pure _
+steady_put (Some var) v = steady_write var v
+
+pub steady_this : {level : ℕ} → Steady level this
+steady_this = steady_look _
+
+pub steady_enter : {level : ℕ} (a : Activation) → Steady level (enter a)
+steady_enter a = steady_change _ (λ s. refl)
+
+pub steady_leave : {level : ℕ} (body : ℕ) (a : Activation) → Steady level (leave body a)
+steady_leave body a = steady_change _ (λ s. refl)
+
+-- ---- raises and faults
+
+pub steady_raised : {level : ℕ} (to : Raised) (v : Value) (place kind : ℕ) → Steady level (raised to v place kind)
+steady_raised to v place kind = alike_before (steady_write _ _) (alike_before (steady_write _ _) (alike_before (steady_write _ _) (steady_pure _)))
+
+steady_fault_here : {level : ℕ} (fail : Fail) (kind : ℕ) → Steady level (fault_here fail kind)
+steady_fault_here fail kind = alike_then (steady_look _) (λ room. alike_if _ (alike_before (steady_within _) (alike_then (steady_within _) (λ number. steady_raised _ _ _ _))) (steady_stop _))
+
+module _ (p : FlatProgram) where
+  pub steady_fault : {level : ℕ} (fail : Fail) (kind : ℕ) → Steady level (fault p fail kind)
+  steady_fault fail kind = alike_then steady_this (λ here. alike_if _ (steady_pure _) (steady_fault_here fail kind))
+
+  steady_faulted : {level : ℕ} (fail : Fail) (c : Cause) → Steady level (faulted p fail c)
+  steady_faulted fail (Faulted kind) = steady_fault fail kind
+  steady_faulted fail (Failed kind place) = steady_stop _
+  steady_faulted fail InputFailed = steady_stop _
+  steady_faulted fail Stuck = steady_stop _
+
+  pub alike_guarded : {level : ℕ} (fail : Fail) {f g : Eval Way} → Alike level f g → Alike level (guarded p fail f) (guarded p fail g)
+  alike_guarded fail a = alike_resolve a (λ w. steady_pure w) (λ c. steady_faulted fail c)
+
+-- ---- arguments
+
+steady_given_as : {level : ℕ} (m : Mode) (var : Option ℕ) → Steady level (given_as m var)
+steady_given_as mode.Out var = steady_pure _
+steady_given_as mode.In None = steady_pure _
+steady_given_as mode.In (Some var) = alike_then (steady_read var) (λ v. steady_pure _)
+steady_given_as mode.Inout None = steady_pure _
+steady_given_as mode.Inout (Some var) = alike_then (steady_read var) (λ v. steady_pure _)
+steady_given_as mode.Once None = steady_pure _
+steady_given_as mode.Once (Some var) = alike_then (steady_read var) (λ v. steady_pure _)
+
+pub steady_given : {level : ℕ} (args : List FlatArg) → Steady level (given_by_all args)
+steady_given [] = steady_pure _
+steady_given (a ∷ more) = alike_then (steady_given_as a.mode a.var) (λ v. alike_then (steady_given more) (λ vs. steady_pure _))
+
+pub steady_copied_back : {level : ℕ} (backs : List (Option ℕ)) (values : List Value) → Steady level (copied_back backs values)
+steady_copied_back (var ∷ more) (v ∷ rest) = alike_before (steady_put var v) (steady_copied_back more rest)
+steady_copied_back [] values = steady_pure _
+steady_copied_back (var ∷ more) [] = steady_pure _
+
+steady_kept_in : {level : ℕ} {A : Type 0} (see : List Bool → List Value → A) (object : ℕ) → Steady level (kept_in see object)
+steady_kept_in see object = alike_then (steady_within _) (λ o. alike_then (steady_or_stuck _) (λ b. steady_pure _))
+
+pub steady_all_given : {level : ℕ} (through : Option ℕ) (given : List (Option Value)) → Steady level (all_given through given)
+steady_all_given None given = steady_pure _
+steady_all_given (Some object) given = steady_kept_in (λ is_open kept. interleaved is_open given (map Some kept)) object
+
+pub steady_all_backs : {level : ℕ} (through : Option ℕ) (backs : List (Option ℕ)) → Steady level (all_backs through backs)
+steady_all_backs None backs = steady_pure _
+steady_all_backs (Some object) backs = steady_kept_in (λ is_open kept. interleaved is_open backs (map (λ _. None) kept)) object
+
+-- ---- what a call reaches
+
+module _ (p : FlatProgram) (rows : List (List ℕ)) where
+  steady_dispatched : {level : ℕ} (k class : ℕ) (v : Value) → Steady level (dispatched p rows k class v)
+  steady_dispatched k class v = alike_if _ (steady_stop _) (alike_then (steady_within _) (λ dynamic. alike_then (steady_or_stuck _) (λ ty. alike_then (steady_or_stuck _) (λ row. alike_then (steady_or_stuck _) (λ body. steady_pure _)))))
+
+  steady_bound_to : {level : ℕ} (object : ℕ) → Steady level (bound_to p rows object)
+  steady_bound_to object = alike_then (steady_within _) (λ o. alike_then (steady_or_stuck _) (λ b. alike_then (steady_or_stuck _) (λ receiver. steady_pure _)))
+
+  pub steady_reached : {level : ℕ} (callee : Callee) (class : ℕ) (v : Value) → Steady level (reached p rows callee class v)
+  steady_reached (Dispatch k) class v = steady_dispatched k class v
+  steady_reached Bound class v = alike_if _ (steady_stop _) (alike_then (steady_or_stuck _) (λ object. steady_bound_to object))
+  steady_reached (Body k) class v = steady_pure _
+  steady_reached (Builtin n) class v = steady_pure _
+  steady_reached (Get a) class v = steady_pure _
+  steady_reached (Set a) class v = steady_pure _
+  steady_reached (GetShared k) class v = steady_pure _
+  steady_reached (SetShared k) class v = steady_pure _
+
+pub steady_checked_depth : {level : ℕ} (caller : Activation) → Steady level (checked_depth caller)
+steady_checked_depth caller = alike_if _ (steady_stop _) (steady_pure _)
+
+-- ---- runs of bodies
+
+module _ (p : FlatProgram) (level : ℕ) (go to : ℕ → ℕ → Eval Ending) (alike : (block place : ℕ) → Alike level (go block place) (to block place)) where
+  pub alike_run_body : (block : ℕ) (a : Activation) → Alike level (run_body p go block a) (run_body p to block a)
+  alike_run_body block a =
+      alike_then steady_this (λ caller. alike_before (steady_enter a) (alike_then (alike block 0) (λ ending.
+      alike_then (steady_look _) (λ variables. alike_before (steady_leave _ _) (steady_pure _)))))
+
+  alike_call_in : (caller : Activation) (k : ℕ) (b : FlatBody) (self : Value) (given : List (Option Value)) → Alike level (call_in p go caller k b self given) (call_in p to caller k b self given)
+  alike_call_in caller k b self given = alike_if _ (turns (alike_before (steady_checked_depth caller) (alike_run_body _ _))) (alike_run_body _ _)
+
+  alike_call_body : (k : ℕ) (self : Value) (given : List (Option Value)) → Alike level (call_body p go k self given) (call_body p to k self given)
+  alike_call_body k self given = alike_then (steady_or_stuck _) (λ b. alike_then steady_this (λ caller. alike_if _ (steady_stop _) (alike_call_in caller k b self given)))
+
+  steady_simply : {f : Eval Value} → Steady level f → Alike level (simply p go f) (simply p to f)
+  steady_simply a = alike_then a (λ v. steady_pure _)
+
+  alike_run_reached : (callee : Callee) (class : ℕ) (self : Value) (given : List (Option Value)) → Alike level (run_reached p go callee class self given) (run_reached p to callee class self given)
+  alike_run_reached (Body k) class self given = alike_call_body k self given
+  alike_run_reached (Builtin n) class self given = steady_simply (alike_then (steady_or_stuck _) (λ f. steady_within _))
+  alike_run_reached (Get a) class self given = steady_simply (steady_within _)
+  alike_run_reached (Set a) class self given = steady_simply (alike_then (steady_or_stuck _) (λ v. steady_within _))
+  alike_run_reached (GetShared k) class self given = steady_simply (steady_within _)
+  alike_run_reached (SetShared k) class self given = steady_simply (alike_before (alike_then (steady_or_stuck _) (λ v. steady_within _)) (steady_pure _))
+  alike_run_reached (Dispatch k) class self given = steady_stop _
+  alike_run_reached Bound class self given = steady_stop _
+
+  alike_after_call : (plan : CallPlan) (backs : List (Option ℕ)) (r : Ending × List Value) → Alike level (after_call p go plan backs r) (after_call p to plan backs r)
+  alike_after_call plan backs (frames.Returned v, variables) = alike_before (alike_before (steady_put _ _) (steady_copied_back _ _)) (steady_pure _)
+  alike_after_call plan backs (frames.Raised v place kind, variables) = steady_raised _ _ _ _
+  alike_after_call plan backs (frames.Handed kind, variables) = steady_stop _
+  alike_after_call plan backs (frames.Suspended v frame, variables) = steady_stop _
+  alike_after_call plan backs (frames.Ended, variables) = steady_stop _
+
+  pub alike_call : (rows : List (List ℕ)) (plan : CallPlan) → Alike level (call p go rows plan) (call p to rows plan)
+  alike_call rows plan =
+      alike_then (steady_read _) (λ v. alike_then (steady_given _) (λ given. alike_then (steady_reached p rows _ _ _) (λ r.
+      alike_then (steady_all_given _ _) (λ values. alike_then (steady_all_backs _ _) (λ backs.
+      alike_then (alike_run_reached _ _ _ _) (λ ended. alike_after_call plan backs ended))))))
+
+-- ---- binds
+
+steady_read_all : {level : ℕ} (vars : List ℕ) → Steady level (read_all vars)
+steady_read_all [] = steady_pure _
+steady_read_all (var ∷ more) = alike_then (steady_read var) (λ v. alike_then (steady_read_all more) (λ vs. steady_pure _))
+
+steady_bindable : {level : ℕ} (callee : Callee) (v : Value) → Steady level (bindable callee v)
+steady_bindable (Dispatch k) v = alike_if _ (steady_stop _) (steady_pure _)
+steady_bindable Bound v = steady_pure _
+steady_bindable (Body k) v = steady_pure _
+steady_bindable (Builtin n) v = steady_pure _
+steady_bindable (Get a) v = steady_pure _
+steady_bindable (Set a) v = steady_pure _
+steady_bindable (GetShared k) v = steady_pure _
+steady_bindable (SetShared k) v = steady_pure _
+
+pub steady_bind : {level : ℕ} (p : FlatProgram) (plan : CallPlan) (entry : ℕ) → Steady level (bind p plan entry)
+steady_bind p plan entry =
+    alike_then (steady_read _) (λ v. alike_then (steady_read_all _) (λ kept. alike_then (steady_or_stuck _) (λ e.
+    alike_before (steady_bindable _ _) (alike_then (steady_or_stuck _) (λ t. alike_before (steady_within _) (alike_then (steady_within _) (λ number.
+    alike_before (steady_put _ _) (steady_pure _))))))))

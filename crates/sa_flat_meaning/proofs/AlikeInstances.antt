@@ -1,0 +1,166 @@
+-- What goes through instances is alike where what runs bodies is.
+use Rattle.std.proofs.Common.{ℕ, zero, suc, ◌+◌, List, [], ◌∷◌, Option, Some, None, refl}
+use Rattle.sa_flat.specs.declared.body.FlatBody.{FlatBody}
+use Rattle.sa_flat.specs.declared.call.Callee.{Callee}
+use Rattle.sa_flat.specs.declared.call.Callee.TheVariants.{Body, Builtin, Get, Set, GetShared, SetShared, Dispatch, Bound}
+use Rattle.sa_flat.specs.declared.call.CallPlan.{CallPlan}
+use Rattle.sa_flat.specs.declared.call.FlatArg.{FlatArg}
+use Rattle.sa_flat.specs.declared.program.FlatProgram.{FlatProgram}
+use Rattle.sa_meaning.specs.Value.{Value}
+use Rattle.sa_meaning.specs.State as language
+use Rattle.sa_flat_meaning.specs.Frames as frames
+use Rattle.sa_flat_meaning.specs.Frames.{Frame, Station, Activation, Ending, Way, Cause, Faulted, Failed, InputFailed, Stuck}
+use Rattle.sa_flat_meaning.specs.Order.{Eval}
+use Rattle.sa_flat_meaning.specs.Instances.{frame_at, set_frame, entry_at, set_entry, set_running, station, tell, ends, release_each, release, release_all, given_anew, anew, checked_live, after_run, run_instance, add_frame, begin, continue, after_iter, run_for, started, resumed, start_of, start, resume, handed_on, after_enter, run_entered, entered_for, enter_iter}
+use Rattle.sa_flat_meaning.proofs.Alike.{Alike, Steady, counts, turns, alike_resolve, alike_then, alike_before, alike_if, steady_stop, steady_pure, steady_look, steady_change, steady_or_stuck}
+use Rattle.sa_flat_meaning.proofs.AlikeCalls.{steady_read, steady_write, steady_put, steady_this, steady_raised, steady_given, steady_copied_back, steady_all_given, steady_all_backs, steady_reached, steady_checked_depth, alike_run_body}
+
+-- ---- frames, sites and events
+
+pub steady_frame_at : {level : ℕ} (number : ℕ) → Steady level (frame_at number)
+steady_frame_at number = alike_then (steady_look _) (λ frames. alike_then (steady_or_stuck _) (λ frame. steady_or_stuck _))
+
+pub steady_set_frame : {level : ℕ} (number : ℕ) (frame : Option Frame) → Steady level (set_frame number frame)
+steady_set_frame number frame = steady_change _ (λ s. refl)
+
+pub steady_entry_at : {level : ℕ} (site : ℕ) → Steady level (entry_at site)
+steady_entry_at site = alike_then (steady_look _) (λ sites. steady_or_stuck _)
+
+steady_set_entry : {level : ℕ} (site : ℕ) (frame : Option ℕ) → Steady level (set_entry site frame)
+steady_set_entry site frame = steady_change _ (λ s. refl)
+
+steady_set_running : {level : ℕ} (frame : Option ℕ) → Steady level (set_running frame)
+steady_set_running frame = steady_change _ (λ s. refl)
+
+steady_station : {level : ℕ} (p : FlatProgram) (site : ℕ) (through : Option ℕ) → Steady level (station p site through)
+steady_station p site through = alike_then steady_this (λ here. alike_then (steady_or_stuck _) (λ b. alike_then (steady_or_stuck _) (λ feature. steady_pure _)))
+
+steady_tell : {level : ℕ} (event : language.Event) → Steady level (tell event)
+steady_tell event = steady_change _ (λ s. refl)
+
+steady_ends : {level : ℕ} (feature site number : ℕ) (event : ℕ → ℕ → ℕ → language.Event) → Steady level (ends feature site number event)
+steady_ends feature site number event = alike_before (steady_set_frame _ _) (alike_before (steady_change _ (λ s. refl)) (steady_tell _))
+
+-- ---- releases
+
+steady_release_each : {level : ℕ} (r : ℕ → Option ℕ → Eval (Unit {0})) → ((site : ℕ) (frame : Option ℕ) → Steady level (r site frame)) → (site : ℕ) (list : List (Option ℕ)) → Steady level (release_each r site list)
+steady_release_each r a site [] = steady_pure _
+steady_release_each r a site (frame ∷ more) = alike_before (a site frame) (steady_release_each r a (site + 1) more)
+
+steady_release : {level : ℕ} (depth feature site : ℕ) (frame : Option ℕ) → Steady level (release depth feature site frame)
+steady_release depth feature site None = counts 1
+steady_release zero feature site (Some number) = steady_stop _
+steady_release (suc depth) feature site (Some number) =
+    alike_before (counts 1) (alike_then (steady_frame_at number) (λ frame.
+    alike_before (steady_release_each (release depth frame.feature) (λ inner entry. steady_release depth frame.feature inner entry) 0 frame.sites) (steady_ends feature site number language.Abandon)))
+
+pub steady_release_all : {level : ℕ} (p : FlatProgram) (sites : List ℕ) → Steady level (release_all p sites)
+steady_release_all p [] = steady_pure _
+steady_release_all p (site ∷ more) =
+    alike_then (steady_look _) (λ frames. alike_then (steady_station p site None) (λ here. alike_then (steady_entry_at site) (λ entry.
+    alike_before (steady_release _ _ _ _) (alike_before (steady_set_entry _ _) (steady_release_all p more)))))
+
+-- ---- arguments, and what follows a run
+
+steady_given_anew : {level : ℕ} (args : List FlatArg) → Steady level (given_anew args)
+steady_given_anew [] = steady_pure _
+steady_given_anew (a ∷ more) = alike_then (alike_if _ (steady_given (a ∷ [])) (steady_pure _)) (λ v. alike_then (steady_given_anew more) (λ vs. steady_pure _))
+
+steady_checked_live : {level : ℕ} → Steady level checked_live
+steady_checked_live = alike_then (steady_look _) (λ live. alike_if _ (steady_stop _) (steady_pure _))
+
+steady_after_run : {level : ℕ} (at : Station) (number : ℕ) (r : Ending × List Value) → Steady level (after_run at number r)
+steady_after_run at number (frames.Suspended v frame, variables) = alike_before (steady_tell _) (steady_pure _)
+steady_after_run at number (frames.Ended, variables) = alike_before (steady_ends _ _ _ language.Quits) (steady_pure _)
+steady_after_run at number (frames.Raised v place kind, variables) = alike_before (steady_ends _ _ _ language.Abandon) (steady_pure _)
+steady_after_run at number (frames.Returned v, variables) = steady_stop _
+steady_after_run at number (frames.Handed kind, variables) = steady_stop _
+
+-- ---- runs of instances
+
+module _ (p : FlatProgram) (level : ℕ) (go to : ℕ → ℕ → Eval Ending) (alike : (block place : ℕ) → Alike level (go block place) (to block place)) where
+  alike_run_instance : (at : Station) (k : ℕ) (b : FlatBody) (frame : Frame) → Alike level (run_instance p go at k b frame) (run_instance p to at k b frame)
+  alike_run_instance at k b frame =
+      alike_then steady_this (λ caller. alike_before (counts _) (alike_then (alike_run_body p level go to alike _ _) (λ r. steady_after_run at frame.number r)))
+
+  alike_add_frame : (at : Station) (entered feature : ℕ) (b : FlatBody) (self : Value) (given : List (Option Value)) → Alike level (add_frame p go at entered feature b self given) (add_frame p to at entered feature b self given)
+  alike_add_frame at entered feature b self given = alike_then (steady_look _) (λ number. alike_before (steady_change _ (λ s. refl)) (alike_before (steady_tell _) (steady_pure _)))
+
+  alike_begin : (at : Station) (entered k : ℕ) (self : Value) (given : List (Option Value)) → Alike level (begin p go at entered k self given) (begin p to at entered k self given)
+  alike_begin at entered k self given =
+      alike_then (steady_or_stuck _) (λ b. alike_then (steady_or_stuck _) (λ feature. alike_then steady_this (λ caller.
+      alike_before (steady_checked_depth caller) (alike_before steady_checked_live (alike_then (alike_add_frame at entered feature b self given) (λ frame. alike_run_instance at k b frame))))))
+
+  alike_continue : (at : Station) (k number : ℕ) (given : List (Option Value)) → Alike level (continue p go at k number given) (continue p to at k number given)
+  alike_continue at k number given =
+      alike_then (steady_or_stuck _) (λ b. alike_then (steady_frame_at number) (λ frame. alike_then steady_this (λ caller.
+      alike_before (steady_checked_depth caller) (alike_before (steady_tell _) (alike_run_instance at k b (record frame { variables = anew p b given frame.variables }))))))
+
+  alike_after_iter : (site : ℕ) (plan : CallPlan) (quit : ℕ) (backs : List (Option ℕ)) (r : Ending × List Value) → Alike level (after_iter p go site plan quit backs r) (after_iter p to site plan quit backs r)
+  alike_after_iter site plan quit backs (frames.Suspended v frame, variables) =
+      alike_before (steady_set_entry _ _) (alike_before (steady_write _ _) (alike_before (steady_put _ _) (alike_before (steady_copied_back _ _) (steady_pure _))))
+  alike_after_iter site plan quit backs (frames.Ended, variables) = alike_before (alike_before (steady_set_entry _ _) (steady_write _ _)) (steady_pure _)
+  alike_after_iter site plan quit backs (frames.Raised v place kind, variables) = alike_before (steady_set_entry _ _) (steady_raised _ _ _ _)
+  alike_after_iter site plan quit backs (frames.Handed kind, variables) = steady_stop _
+  alike_after_iter site plan quit backs (frames.Returned v, variables) = steady_stop _
+
+  -- ---- starts and resumptions
+
+  alike_run_for : (at : Station) (k : ℕ) (b : FlatBody) (self : Value) (frame : Option ℕ) (given : List (Option Value)) → Alike level (run_for p go at k b self frame given) (run_for p to at k b self frame given)
+  alike_run_for at k b self frame given = alike_then steady_this (λ caller. alike_run_body p level go to alike _ _)
+
+  alike_started : (at : Station) (k : ℕ) (self : Value) (given : List (Option Value)) → Alike level (started p go at k self given) (started p to at k self given)
+  alike_started at k self given = alike_then (steady_or_stuck _) (λ b. alike_if _ (steady_stop _) (alike_if _ (turns (alike_begin at k k self given)) (alike_run_for at k b self None given)))
+
+  alike_resumed : (at : Station) (frame : Frame) (given : List (Option Value)) → Alike level (resumed p go at frame given) (resumed p to at frame given)
+  alike_resumed at frame given = alike_then (steady_or_stuck _) (λ b. alike_if _ (turns (alike_continue at frame.body frame.number given)) (alike_run_for at frame.body b frame.self (Some frame.number) given))
+
+  alike_start_of : (at : Station) (callee : Callee) (self : Value) (given : List (Option Value)) → Alike level (start_of p go at callee self given) (start_of p to at callee self given)
+  alike_start_of at (Body k) self given = alike_started at k self given
+  alike_start_of at (Builtin n) self given = steady_stop _
+  alike_start_of at (Get a) self given = steady_stop _
+  alike_start_of at (Set a) self given = steady_stop _
+  alike_start_of at (GetShared k) self given = steady_stop _
+  alike_start_of at (SetShared k) self given = steady_stop _
+  alike_start_of at (Dispatch k) self given = steady_stop _
+  alike_start_of at Bound self given = steady_stop _
+
+  pub alike_start : (rows : List (List ℕ)) (site : ℕ) (plan : CallPlan) (quit : ℕ) → Alike level (start p go rows site plan quit) (start p to rows site plan quit)
+  alike_start rows site plan quit =
+      alike_then (steady_read _) (λ v. alike_then (steady_given _) (λ given. alike_then (steady_reached p rows _ _ _) (λ r.
+      alike_then (steady_all_given _ _) (λ values. alike_then (steady_all_backs _ _) (λ backs. alike_then (steady_station p site _) (λ at.
+      alike_then (alike_start_of at _ _ _) (λ ended. alike_after_iter site plan quit backs ended)))))))
+
+  pub alike_resume : (site : ℕ) (plan : CallPlan) (quit : ℕ) → Alike level (resume p go site plan quit) (resume p to site plan quit)
+  alike_resume site plan quit =
+      alike_then (steady_entry_at site) (λ entry. alike_then (steady_or_stuck _) (λ number. alike_then (steady_frame_at number) (λ frame.
+      alike_then (steady_given_anew _) (λ given. alike_then (steady_all_given _ _) (λ values. alike_then (steady_all_backs _ _) (λ backs.
+      alike_then (steady_station p site _) (λ at. alike_then (alike_resumed at frame _) (λ ended. alike_after_iter site plan quit backs ended))))))))
+
+  -- ---- entries into iters' bodies
+
+  alike_handed_on : (c : Cause) → Alike level (handed_on p go c) (handed_on p to c)
+  alike_handed_on (Faulted kind) = steady_pure _
+  alike_handed_on (Failed kind place) = steady_stop _
+  alike_handed_on InputFailed = steady_stop _
+  alike_handed_on Stuck = steady_stop _
+
+  alike_after_enter : (args : List FlatArg) (value : Option ℕ) (quit : ℕ) (r : Ending × List Value) → Alike level (after_enter p go args value quit r) (after_enter p to args value quit r)
+  alike_after_enter args value quit (frames.Suspended v frame, variables) =
+      alike_before (steady_set_running _) (alike_before (steady_write _ _) (alike_before (steady_put _ _) (alike_before (steady_copied_back _ _) (steady_pure _))))
+  alike_after_enter args value quit (frames.Ended, variables) = alike_before (steady_write _ _) (steady_pure _)
+  alike_after_enter args value quit (frames.Raised v place kind, variables) = steady_pure _
+  alike_after_enter args value quit (frames.Handed kind, variables) = steady_stop _
+  alike_after_enter args value quit (frames.Returned v, variables) = steady_stop _
+
+  alike_run_entered : (k : ℕ) (here : Activation) (at : Station) (given : List (Option Value)) (frame : Option ℕ) → Alike level (run_entered p go k here at given frame) (run_entered p to k here at given frame)
+  alike_run_entered k here at given None = turns (alike_begin at here.body k _ given)
+  alike_run_entered k here at given (Some number) = turns (alike_continue at k number given)
+
+  alike_entered_for : (k : ℕ) (args : List FlatArg) (value : Option ℕ) (quit : ℕ) → Alike level (entered_for p go k args value quit) (entered_for p to k args value quit)
+  alike_entered_for k args value quit =
+      alike_then steady_this (λ here. alike_then (steady_or_stuck _) (λ at. alike_then (steady_given _) (λ given.
+      alike_then (alike_run_entered k here at given here.frame) (λ ended. alike_after_enter args value quit ended))))
+
+  pub alike_enter_iter : (k : ℕ) (args : List FlatArg) (value : Option ℕ) (quit : ℕ) → Alike level (enter_iter p go k args value quit) (enter_iter p to k args value quit)
+  alike_enter_iter k args value quit = alike_resolve (alike_entered_for k args value quit) (λ way. steady_pure way) (λ c. alike_handed_on c)

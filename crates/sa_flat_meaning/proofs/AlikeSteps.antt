@@ -1,0 +1,131 @@
+-- Steps, exits and runs from a place are alike where what follows is; so a run has levels enough where these are no fewer than
+-- the steps that are left.
+use Rattle.std.proofs.Common.{ℕ, zero, suc, ◌+◌, ◌≤◌, List, slice_get, Option, Some, None, arith}
+use Rattle.sa_flat.specs.declared.body.FlatBlock.{FlatBlock}
+use Rattle.sa_flat.specs.declared.program.FlatProgram.{FlatProgram}
+use Rattle.sa_flat.specs.declared.step.FlatConst.{FlatConst}
+use Rattle.sa_flat.specs.declared.step.FlatConst.TheVariants as const
+use Rattle.sa_flat.specs.declared.step.FlatExit.{FlatExit}
+use Rattle.sa_flat.specs.declared.step.FlatExit.TheVariants.{Jump, Branch, Return, Suspend, Quit, Raise, Stop}
+use Rattle.sa_flat.specs.declared.step.FlatStep.{FlatStep}
+use Rattle.sa_flat.specs.declared.step.FlatStep.TheVariants.{Const, Move, Me, IsVoid, Turn, New, NewArray, PutItem, Widen, Unwrap, TypeIs, NotVoid, InitShared, Call, Bind, HasEntry, Start, Resume, Enter, Release, Raising}
+use Rattle.sa_meaning.specs.Value.{Value}
+use Rattle.sa_flat_meaning.specs.Frames.{Ending, Way, Onward, To, Leaving}
+use Rattle.sa_flat_meaning.specs.Order.{Eval}
+use Rattle.sa_flat_meaning.specs.Steps.{give, give_of, constant, array, has_type, put_item, not_void, step}
+use Rattle.sa_flat_meaning.specs.Exits.{value_of, number_in, store, suspend, exit}
+use Rattle.sa_flat_meaning.specs.Run.{this_block, next, step_or_exit, run_at, run_from}
+use Rattle.sa_flat_meaning.specs.Law.{HasLevels}
+use Rattle.sa_flat_meaning.proofs.Alike.{Alike, Steady, counts, turns, first, ends, alike_then, alike_before, alike_if, steady_stop, steady_pure, steady_or_stuck, steady_within, keeps}
+use Rattle.sa_flat_meaning.proofs.AlikeCalls.{steady_read, steady_write, steady_this, steady_fault, alike_guarded, alike_call, steady_bind}
+use Rattle.sa_flat_meaning.proofs.AlikeInstances.{steady_frame_at, steady_set_frame, steady_entry_at, steady_release_all, alike_start, alike_resume, alike_enter_iter}
+
+-- ---- steps
+
+steady_give : {level : ℕ} (to : ℕ) {f : Eval Value} → Steady level f → Steady level (give to f)
+steady_give to a = alike_before (alike_then a (λ v. steady_write to v)) (steady_pure _)
+
+steady_give_of : {level : ℕ} (to from : ℕ) (see : Value → Value) → Steady level (give_of to from see)
+steady_give_of to from see = steady_give to (alike_then (steady_read from) (λ v. steady_pure _))
+
+module _ (p : FlatProgram) where
+  steady_constant : {level : ℕ} (c : FlatConst) → Steady level (constant p c)
+  steady_constant (const.Void ty) = steady_pure _
+  steady_constant (const.Int z) = steady_pure _
+  steady_constant (const.Bool b) = steady_pure _
+  steady_constant (const.Char byte) = steady_pure _
+  steady_constant (const.Text text) = alike_then (steady_or_stuck _) (λ bytes. steady_pure _)
+
+  steady_array : {level : ℕ} (ty count : ℕ) → Steady level (array p ty count)
+  steady_array ty count = alike_then (steady_read count) (λ v. alike_then (steady_or_stuck _) (λ n. steady_within _))
+
+  steady_has_type : {level : ℕ} (from ty : ℕ) → Steady level (has_type p from ty)
+  steady_has_type from ty = alike_then (steady_read from) (λ v. alike_then (steady_within _) (λ dynamic. steady_pure _))
+
+steady_put_item : {level : ℕ} (array at value : ℕ) → Steady level (put_item array at value)
+steady_put_item array at value =
+    alike_then (steady_read _) (λ a. alike_then (steady_read _) (λ i. alike_then (steady_read _) (λ v. alike_then (steady_or_stuck _) (λ number.
+    alike_then (steady_or_stuck _) (λ place. alike_then (steady_within _) (λ o. alike_if _ (steady_within _) (steady_stop _)))))))
+
+steady_not_void : {level : ℕ} (v : Value) → Steady level (not_void v)
+steady_not_void v = alike_if _ (steady_stop _) (steady_pure _)
+
+module _ (p : FlatProgram) (rows : List (List ℕ)) (level : ℕ) (go to : ℕ → ℕ → Eval Ending) (alike : (block place : ℕ) → Alike level (go block place) (to block place)) where
+  alike_step : (a : FlatStep) → Alike level (step p rows go a) (step p rows to a)
+  alike_step (Const x value) = steady_give x (steady_constant p value)
+  alike_step (Move x from) = steady_give x (steady_read from)
+  alike_step (Me x) = steady_give x (alike_then steady_this (λ here. steady_pure _))
+  alike_step (IsVoid x from) = steady_give_of x from _
+  alike_step Turn = turns (steady_pure _)
+  alike_step (New x ty fail) = alike_guarded p fail (steady_give x (steady_within _))
+  alike_step (NewArray x ty count fail) = alike_guarded p fail (steady_give x (steady_array p ty count))
+  alike_step (PutItem array ty at value) = alike_before (steady_put_item array at value) (steady_pure _)
+  alike_step (Widen x from ty fail) = alike_guarded p fail (steady_give x (alike_then (steady_read from) (λ v. steady_within _)))
+  alike_step (Unwrap x from ty) = steady_give_of x from _
+  alike_step (TypeIs x from ty) = steady_give x (steady_has_type p from ty)
+  alike_step (NotVoid from fail) = alike_guarded p fail (alike_then (steady_read from) (λ v. steady_not_void v))
+  alike_step (InitShared shared from) = alike_before (alike_then (steady_read from) (λ v. steady_within _)) (steady_pure _)
+  alike_step (Call plan) = alike_guarded p plan.fail (alike_call p level go to alike rows plan)
+  alike_step (Bind plan entry) = alike_guarded p plan.fail (steady_bind p plan entry)
+  alike_step (HasEntry x site) = steady_give x (alike_then (steady_entry_at site) (λ entry. steady_pure _))
+  alike_step (Start site plan quit) = alike_guarded p plan.fail (alike_start p level go to alike rows site plan quit)
+  alike_step (Resume site plan quit) = alike_guarded p plan.fail (alike_resume p level go to alike site plan quit)
+  alike_step (Enter body args value quit) = alike_enter_iter p level go to alike body args value quit
+  alike_step (Release sites) = alike_before (steady_release_all p sites) (steady_pure _)
+  alike_step (Raising value place x) = alike_then (steady_read value) (λ v. alike_before (steady_write _ _) (alike_before (steady_write _ _) (alike_before (steady_write _ _) (steady_pure _))))
+
+-- ---- exits
+
+steady_value_of : {level : ℕ} (value : Option ℕ) → Steady level (value_of value)
+steady_value_of None = steady_pure _
+steady_value_of (Some var) = steady_read var
+
+steady_number_in : {level : ℕ} (var : ℕ) → Steady level (number_in var)
+steady_number_in var = alike_then (steady_read var) (λ v. alike_then (steady_or_stuck _) (λ z. steady_pure _))
+
+module _ (p : FlatProgram) where
+  steady_store : {level : ℕ} (number : ℕ) (resume : Option ℕ) → Steady level (store p number resume)
+  steady_store number None = steady_pure _
+  steady_store number (Some block) =
+      alike_then steady_this (λ here. alike_then (steady_or_stuck _) (λ b. alike_then (steady_frame_at number) (λ frame. alike_before (counts _) (steady_set_frame _ _))))
+
+  steady_suspend : {level : ℕ} (value resume : Option ℕ) → Steady level (suspend p value resume)
+  steady_suspend value resume =
+      alike_then (steady_value_of value) (λ v. alike_then steady_this (λ here. alike_then (steady_or_stuck _) (λ number. alike_before (steady_store number resume) (steady_pure _))))
+
+  steady_exit : {level : ℕ} (e : FlatExit) → Steady level (exit p e)
+  steady_exit (Jump block) = steady_pure _
+  steady_exit (Branch test a b) = alike_then (steady_read test) (λ v. alike_then (steady_or_stuck _) (λ b. steady_pure _))
+  steady_exit (Return value) = alike_then (steady_value_of value) (λ v. steady_pure _)
+  steady_exit (Suspend value resume) = steady_suspend value resume
+  steady_exit Quit = steady_pure _
+  steady_exit (Raise value place kind) = alike_then (steady_read value) (λ v. alike_then (steady_number_in place) (λ at. alike_then (steady_number_in kind) (λ k. steady_pure _)))
+  steady_exit (Stop kind fail) = steady_fault p fail kind
+
+-- ---- runs from a place
+
+steady_this_block : {level : ℕ} (p : FlatProgram) (block : ℕ) → Steady level (this_block p block)
+steady_this_block p block = alike_then steady_this (λ here. alike_then (steady_or_stuck _) (λ b. steady_or_stuck _))
+
+module _ (p : FlatProgram) (rows : List (List ℕ)) (level : ℕ) (go to : ℕ → ℕ → Eval Ending) (alike : (block place : ℕ) → Alike level (go block place) (to block place)) where
+  alike_step_or_exit : (b : FlatBlock) (a : Option FlatStep) → Alike level (step_or_exit p rows go b a) (step_or_exit p rows to b a)
+  alike_step_or_exit b None = steady_exit p b.exit
+  alike_step_or_exit b (Some a) = alike_step p rows level go to alike a
+
+  alike_next : (block place : ℕ) (way : Way) → Alike level (next go block place way) (next to block place way)
+  alike_next block place Onward = alike block (place + 1)
+  alike_next block place (To other) = alike other 0
+  alike_next block place (Leaving ending) = steady_pure _
+
+  alike_run_at : (block place : ℕ) → Alike (suc level) (run_at p rows go block place) (run_at p rows to block place)
+  alike_run_at block place = first (alike_then (steady_this_block p block) (λ b. alike_then (alike_step_or_exit b (slice_get b.steps place)) (λ way. alike_next block place way)))
+
+-- to a level, and to one that is no less
+alike_run_from : (p : FlatProgram) (rows : List (List ℕ)) (level other block place : ℕ) → level ≤ other → Alike level (run_from p rows level block place) (run_from p rows other block place)
+alike_run_from p rows zero zero block place few = steady_stop _
+alike_run_from p rows zero (suc other) block place few = ends _
+alike_run_from p rows (suc level) zero block place few = absurd (omega (arith, few))
+alike_run_from p rows (suc level) (suc other) block place few = alike_run_at p rows level _ _ (λ b k. alike_run_from p rows level other b k (omega (arith, few))) block place
+
+pub has_levels : (p : FlatProgram) (rows : List (List ℕ)) → HasLevels p rows
+has_levels p rows level block place s few = (keeps (alike_run_from p rows s.steps level block place few) s (omega arith)).0

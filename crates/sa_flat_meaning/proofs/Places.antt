@@ -1,0 +1,46 @@
+-- A run from a place begins with what stands there.
+use Rattle.std.proofs.Common.{◌≡◌, ℕ, ◌-◌, nat_le, Bool, true, false, if◌then◌else◌, List, slice_get, Option, Some, None, refl, ap, ◌∙◌}
+use Rattle.sa_flat.specs.declared.body.FlatBlock.{FlatBlock}
+use Rattle.sa_flat.specs.declared.program.FlatProgram.{FlatProgram}
+use Rattle.sa_flat.specs.declared.step.FlatStep.{FlatStep}
+use Rattle.sa_flat_meaning.specs.Frames.{State, Gives, Stops, Stuck}
+use Rattle.sa_flat_meaning.specs.Order.{Eval, resolved, resolve, ◌>>=◌, stop, or_stuck, at_place}
+use Rattle.sa_flat_meaning.specs.Exits.{exit}
+use Rattle.sa_flat_meaning.specs.Run.{this_block, next, step_or_exit, run_from}
+use Rattle.sa_flat_meaning.specs.Law.{RunsSteps, RunsExits}
+use Rattle.sa_flat_meaning.specs.Pieces.{HasBlock}
+
+counted_alike : {A : Type 0} (b : Bool) (s t : State) (f g : Eval A) → f t ≡ g t → resolved {A = Unit {0}} (if b then Gives tt t else Stops Stuck s) (λ _. f) stop ≡ resolved {A = Unit {0}} (if b then Gives tt t else Stops Stuck s) (λ _. g) stop
+counted_alike true s t f g e = e
+counted_alike false s t f g e = refl
+
+found : {A : Type 0} (list : List A) (place : ℕ) (a : A) (s : State) → slice_get list place ≡ Some a → at_place list place s ≡ Gives a s
+unfolding or_stuck
+found list place a s e = ap (λ o. or_stuck o s) e
+
+found_block : (p : FlatProgram) (block : ℕ) (b : FlatBlock) (s : State) → HasBlock p s.here.body block b → this_block p block s ≡ Gives b s
+unfolding resolve
+found_block p block b s h = ap (λ o. resolved o (λ b. at_place b.blocks block) stop) (found p.bodies s.here.body h.within s h.body_is) ∙ found h.within.blocks block b s h.block_is
+
+module _ (p : FlatProgram) (rows : List (List ℕ)) (level : ℕ) where
+  from_block : (block place : ℕ) (b : FlatBlock) (a : Option FlatStep) (s : State) → HasBlock p s.here.body block b → slice_get b.steps place ≡ a →
+      (this_block p block >>= (λ b. step_or_exit p rows (run_from p rows level) b (slice_get b.steps place) >>= next (run_from p rows level) block place)) s
+      ≡ (step_or_exit p rows (run_from p rows level) b a >>= next (run_from p rows level) block place) s
+  unfolding resolve
+  from_block block place b a s h e =
+      ap (λ o. resolved o (λ b. step_or_exit p rows (run_from p rows level) b (slice_get b.steps place) >>= next (run_from p rows level) block place) stop) (found_block p block b s h)
+      ∙ ap (λ a. (step_or_exit p rows (run_from p rows level) b a >>= next (run_from p rows level) block place) s) e
+
+-- with a step less
+abbrev after_one : State → State
+after_one s = record s { steps = s.steps - 1 }
+
+module _ (p : FlatProgram) (rows : List (List ℕ)) where
+  pub runs_steps : RunsSteps p rows
+  unfolding resolve
+  runs_steps level block place a s h = counted_alike (nat_le 1 s.steps) s (after_one s) _ _ (from_block p rows level block place h.0 (Some a) (after_one s) h.1 h.2)
+
+  pub runs_exits : RunsExits p rows
+  unfolding resolve
+  runs_exits level block place e s h = counted_alike (nat_le 1 s.steps) s (after_one s) _ _
+      (from_block p rows level block place h.0 None (after_one s) h.1 h.2 ∙ ap (λ e. (exit p e >>= next (run_from p rows level) block place) (after_one s)) h.3)

@@ -1,0 +1,62 @@
+-- Where each exit leads.
+use Rattle.std.specs.Prelude.{ℕ, if◌then◌else◌, Option, Some, None}
+use Rattle.sa_flat.specs.declared.step.FlatExit.{FlatExit}
+use Rattle.sa_flat.specs.declared.step.FlatExit.TheVariants.{Jump, Branch, Return, Suspend, Quit, Raise, Stop}
+use Rattle.sa_flat.specs.declared.program.FlatProgram.{FlatProgram}
+use Rattle.sa_meaning.specs.Value.{Value, Void, as_int, as_truth}
+use Rattle.sa_meaning.specs.Builtin.{place_of}
+use Rattle.sa_flat_meaning.specs.Frames.{Frame, Activation, Returned, Suspended, Ended, Raised, Way, To, Leaving}
+use Rattle.sa_flat_meaning.specs.Order.{Eval, ◌>>=◌, ◌>>◌, pure, or_stuck, at_place, count, read, this}
+use Rattle.sa_flat_meaning.specs.Faults.{fault}
+use Rattle.sa_flat_meaning.specs.Instances.{frame_at, set_frame}
+
+abbrev pub value_of : Option ℕ → Eval Value
+value_of None = pure Void
+value_of (Some var) = read var
+
+abbrev pub number_in : ℕ → Eval ℕ
+number_in var = do
+  v ← read var
+  z ← or_stuck (as_int v)
+  pure (place_of z)
+
+abbrev pub branch : ℕ → ℕ → ℕ → Eval Way
+branch test first second = do
+  v ← read test
+  b ← or_stuck (as_truth v)
+  pure (To (if b then first else second))
+
+abbrev pub left_at : ℕ → Activation → Frame → Frame
+left_at block here frame = record frame { block = block; variables = here.variables; sites = here.sites }
+
+module _ (p : FlatProgram) where
+  -- The instance is kept in its frame, with a step for each site. Where the body names no block, the frame stays as it is.
+  abbrev pub store : ℕ → Option ℕ → Eval (Unit {0})
+  store number None = pure tt
+  store number (Some block) = do
+    here ← this
+    b ← at_place p.bodies here.body
+    frame ← frame_at number
+    count b.sites
+    set_frame number (Some (left_at block here frame))
+
+  abbrev pub suspend : Option ℕ → Option ℕ → Eval Way
+  suspend value resume = do
+    v ← value_of value
+    here ← this
+    number ← or_stuck here.frame
+    store number resume
+    pure (Leaving (Suspended v number))
+
+  abbrev pub exit : FlatExit → Eval Way
+  exit (Jump block) = pure (To block)
+  exit (Branch test first second) = branch test first second
+  exit (Return value) = value_of value >>= (λ v. pure (Leaving (Returned v)))
+  exit (Suspend value resume) = suspend value resume
+  exit Quit = pure (Leaving Ended)
+  exit (Raise value place kind) = do
+    v ← read value
+    at ← number_in place
+    k ← number_in kind
+    pure (Leaving (Raised v at k))
+  exit (Stop kind fail) = fault p fail kind

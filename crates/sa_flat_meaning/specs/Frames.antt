@@ -1,0 +1,89 @@
+-- What a running flat program has at each moment, and how a body, a step and a run of steps end.
+use Rattle.std.specs.Prelude.{ℕ, List, Option}
+use Rattle.sa_meaning.specs.Value.{Value}
+use Rattle.sa_meaning.specs.State as language
+
+-- ---- instances
+
+-- The frame of an instance. Frames have the numbers of their instances.
+pub record Frame : Type 0 where
+  pub number : ℕ
+  -- the body that was entered at the start, which is another than the feature's where it was made for an implementation
+  pub body : ℕ
+  pub feature : ℕ
+  -- the block in which it goes on
+  pub block : ℕ
+  pub self : Value
+  -- the bound value that it was started through
+  pub through : Option ℕ
+  pub variables : List Value
+  -- the numbers of the frames at its sites
+  pub sites : List (Option ℕ)
+
+-- Where an instance is started or resumed: a site of a feature, with the bound value that a start goes through.
+pub record Station : Type 0 where
+  pub feature : ℕ
+  pub site : ℕ
+  pub through : Option ℕ
+
+-- ---- the run of a body
+
+pub record Activation : Type 0 where
+  pub body : ℕ
+  pub self : Value
+  -- those of the body, and behind them temporaries
+  pub variables : List Value
+  pub sites : List (Option ℕ)
+  -- the frame of the instance that it runs or is entered for; before a start there is none
+  pub frame : Option ℕ
+  -- where it is entered for, in a body that was made for an implementation by an iter
+  pub station : Option Station
+  -- how many calls, starts and resumptions of features are running
+  pub depth : ℕ
+
+-- ---- the state
+
+pub record State : Type 0 where
+  -- all that the meaning of the language has too, but its activation, which isn't used
+  pub world : language.State
+  -- by number, and none where the instance has ended
+  pub frames : List (Option Frame)
+  -- the flat steps that are left
+  pub steps : ℕ
+  pub here : Activation
+
+-- ---- how a body ends
+
+pub data Ending : Type 0 where
+  Returned : Value → Ending
+  Suspended : Value → (frame : ℕ) → Ending
+  Ended : Ending
+  -- the place is that of a position in the program's positions
+  Raised : (exception : Value) → (place kind : ℕ) → Ending
+  -- a fault that is one of the step that entered the body
+  Handed : (kind : ℕ) → Ending
+
+-- ---- where a step or an exit leads
+
+pub data Way : Type 0 where
+  -- to the next step
+  Onward : Way
+  To : (block : ℕ) → Way
+  Leaving : Ending → Way
+
+-- ---- how a run of steps ends
+
+pub data Cause : Type 0 where
+  -- a fault of the step, for which no object is made yet
+  Faulted : (kind : ℕ) → Cause
+  -- a fault that stops the program
+  Failed : (kind place : ℕ) → Cause
+  InputFailed : Cause
+  -- no rule says how to go on, or too many steps are done
+  Stuck : Cause
+
+pub data Out (A : Type 0) : Type 0 where
+  Gives : A → State → Out A
+  Stops : Cause → State → Out A
+  -- a turn is due, and none is left
+  Exhausts : State → Out A

@@ -1,0 +1,256 @@
+-- Instances of iters: their frames, starts and resumptions, suspensions and ends.
+use Rattle.std.specs.Prelude.{ℕ, zero, suc, ◌+◌, ◌-◌, Bool, true, false, not, nat_le, if◌then◌else◌, List, [], ◌∷◌, ◌++◌, map, length, set, Option, Some, None, is_some}
+use Rattle.sa_flat.specs.declared.body.FlatBody.{FlatBody}
+use Rattle.sa_flat.specs.declared.call.Callee.{Callee}
+use Rattle.sa_flat.specs.declared.call.Callee.TheVariants.{Body}
+use Rattle.sa_flat.specs.declared.call.CallPlan.{CallPlan}
+use Rattle.sa_flat.specs.declared.call.FlatArg.{FlatArg}
+use Rattle.sa_flat.specs.declared.program.FlatProgram.{FlatProgram}
+use Rattle.sa_meaning.specs.Value.{Value, Truth, unwrapped}
+use Rattle.sa_meaning.specs.State as language
+use Rattle.sa_meaning.specs.Steps.{frames}
+use Rattle.sa_meaning.specs.Calls.{filled}
+use Rattle.sa_meaning.specs.Instances.{is_once, unless_once, out_void}
+use Rattle.sa_flat_meaning.specs.Frames.{Frame, Station, Activation, Ending, Suspended, Ended, Raised, Handed, Way, Onward, Leaving, Cause, Faulted, Stuck}
+use Rattle.sa_flat_meaning.specs.Order.{Eval, resolve, ◌>>=◌, ◌>>◌, pure, stop, or_stuck, at_place, count, turn, look, change, read, write, put, this}
+use Rattle.sa_flat_meaning.specs.Faults.{raised}
+use Rattle.sa_flat_meaning.specs.Calls.{given_by_all, backs_of, copied_back, all_given, all_backs, reached, void_formals, first_variables, no_frames, checked_depth, run_body}
+
+-- ---- frames and sites
+
+abbrev pub frame_at : ℕ → Eval Frame
+frame_at number = do
+  frames ← look (λ s. s.frames)
+  frame ← at_place frames number
+  or_stuck frame
+
+abbrev pub set_frame : ℕ → Option Frame → Eval (Unit {0})
+set_frame number frame = change (λ s. record s { frames = set s.frames number frame })
+
+-- the frame at a site, if there is one
+abbrev pub entry_at : ℕ → Eval (Option ℕ)
+entry_at site = look (λ s. s.here.sites) >>= (λ sites. at_place sites site)
+
+abbrev pub set_entry : ℕ → Option ℕ → Eval (Unit {0})
+set_entry site frame = change (λ s. record s { here = record (s.here) { sites = set s.here.sites site frame } })
+
+abbrev pub set_running : Option ℕ → Eval (Unit {0})
+set_running frame = change (λ s. record s { here = record (s.here) { frame = frame } })
+
+-- a site of the running feature
+abbrev pub station : FlatProgram → ℕ → Option ℕ → Eval Station
+station p site through = do
+  here ← this
+  b ← at_place p.bodies here.body
+  feature ← or_stuck b.feature
+  pure (record { feature = feature; site = site; through = through })
+
+-- ---- events
+
+abbrev pub tell : language.Event → Eval (Unit {0})
+tell event = change (λ s. record s { world = record (s.world) { events = s.world.events ++ event ∷ [] } })
+
+abbrev pub one_more : language.State → language.State
+one_more w = record w { live = w.live + 1; started = w.started + 1 }
+
+abbrev pub one_less : language.State → language.State
+one_less w = record w { live = w.live - 1 }
+
+-- the instance is gone
+abbrev pub ends : ℕ → ℕ → ℕ → (ℕ → ℕ → ℕ → language.Event) → Eval (Unit {0})
+ends feature site number event = do
+  set_frame number None
+  change (λ s. record s { world = one_less s.world })
+  tell (event feature site number)
+
+-- ---- the ends of the instances at sites, those inside an instance first
+
+abbrev pub release_each : (ℕ → Option ℕ → Eval (Unit {0})) → ℕ → List (Option ℕ) → Eval (Unit {0})
+release_each release site [] = pure tt
+release_each release site (frame ∷ more) = release site frame >> release_each release (site + 1) more
+
+-- Each site that is looked at is a step. No instance is inside itself, so that the number of frames is depth enough.
+abbrev pub release : ℕ → ℕ → ℕ → Option ℕ → Eval (Unit {0})
+release depth feature site None = count 1
+release zero feature site (Some number) = stop Stuck
+release (suc depth) feature site (Some number) = do
+  count 1
+  frame ← frame_at number
+  release_each (release depth frame.feature) 0 frame.sites
+  ends feature site number language.Abandon
+
+abbrev pub release_all : FlatProgram → List ℕ → Eval (Unit {0})
+release_all p [] = pure tt
+release_all p (site ∷ more) = do
+  frames ← look (λ s. s.frames)
+  here ← station p site None
+  entry ← entry_at site
+  release (length frames) here.feature site entry
+  set_entry site None
+  release_all p more
+
+-- ---- arguments of a resumption
+
+abbrev pub not_once : FlatArg → Bool
+not_once a = not (is_once a.mode)
+
+-- The variables of `once` arguments aren't read.
+abbrev pub given_anew : List FlatArg → Eval (List (Option Value))
+given_anew [] = pure []
+given_anew (a ∷ more) = do
+  v ← (if not_once a then given_by_all (a ∷ []) else pure (None ∷ []))
+  vs ← given_anew more
+  pure (v ++ vs)
+
+-- The arguments that aren't `once` are set anew, and those that come out are void.
+abbrev pub anew : FlatProgram → FlatBody → List (Option Value) → List Value → List Value
+anew p b given variables =
+    let modes = map (λ f. f.mode) b.formals in
+    filled (out_void modes (void_formals p b) variables) (unless_once modes given)
+
+-- ---- runs of instances
+
+abbrev pub checked_live : Eval (Unit {0})
+checked_live = look (λ s. s.world.live) >>= (λ live. if nat_le 10000 live then stop (Faulted frames) else pure tt)
+
+-- what follows the run of an instance
+abbrev pub after_run : Station → ℕ → Ending × List Value → Eval (Ending × List Value)
+after_run at number (Suspended v frame, variables) = tell (language.Yields at.feature at.site number) >> pure (Suspended v frame, variables)
+after_run at number (Ended, variables) = ends at.feature at.site number language.Quits >> pure (Ended, variables)
+after_run at number (Raised v place kind, variables) = ends at.feature at.site number language.Abandon >> pure (Raised v place kind, variables)
+after_run at number _ = stop Stuck
+
+-- that of a start, before block 0
+abbrev pub new_frame : FlatProgram → Station → ℕ → ℕ → FlatBody → Value → List (Option Value) → ℕ → Frame
+new_frame p at entered feature b self given number = record { number = number; body = entered; feature = feature; block = 0; self = self; through = at.through; variables = first_variables p b given; sites = no_frames b }
+
+-- From a block and a place in it on, `go` runs a body.
+module _ (p : FlatProgram) (go : ℕ → ℕ → Eval Ending) where
+  -- on its frame, with a step for each site
+  abbrev pub run_instance : Station → ℕ → FlatBody → Frame → Eval (Ending × List Value)
+  run_instance at k b frame = do
+    caller ← this
+    count b.sites
+    r ← run_body p go frame.block (record { body = k; self = frame.self; variables = frame.variables; sites = frame.sites; frame = Some frame.number; station = None; depth = caller.depth + 1 })
+    after_run at frame.number r
+
+  -- a new frame, for a feature's body that is reached by way of a body or itself
+  abbrev pub add_frame : Station → ℕ → ℕ → FlatBody → Value → List (Option Value) → Eval Frame
+  add_frame at entered feature b self given = do
+    number ← look (λ s. s.world.started)
+    let frame = new_frame p at entered feature b self given number
+    change (λ s. record s { world = one_more s.world; frames = s.frames ++ Some frame ∷ [] })
+    tell (language.Start at.feature at.site number)
+    pure frame
+
+  -- a start, whose turn is spent
+  abbrev pub begin : Station → ℕ → ℕ → Value → List (Option Value) → Eval (Ending × List Value)
+  begin at entered k self given = do
+    b ← at_place p.bodies k
+    feature ← or_stuck b.feature
+    caller ← this
+    checked_depth caller
+    checked_live
+    frame ← add_frame at entered feature b self given
+    run_instance at k b frame
+
+  -- a resumption, whose turn is spent
+  abbrev pub continue : Station → ℕ → ℕ → List (Option Value) → Eval (Ending × List Value)
+  continue at k number given = do
+    b ← at_place p.bodies k
+    frame ← frame_at number
+    caller ← this
+    checked_depth caller
+    tell (language.Resume at.feature at.site number)
+    run_instance at k b (record frame { variables = anew p b given frame.variables })
+
+  -- ---- starts and resumptions at a site
+
+  abbrev pub after_iter : ℕ → CallPlan → ℕ → List (Option ℕ) → Ending × List Value → Eval Way
+  after_iter site plan quit backs (Suspended v frame, variables) = do
+    set_entry site (Some frame)
+    write quit (Truth false)
+    put plan.value v
+    copied_back backs variables
+    pure Onward
+  after_iter site plan quit backs (Ended, variables) = set_entry site None >> write quit (Truth true) >> pure Onward
+  after_iter site plan quit backs (Raised v place kind, variables) = set_entry site None >> raised plan.fail.raised v place kind
+  after_iter site plan quit backs (Handed kind, variables) = stop (Faulted kind)
+  after_iter site plan quit backs _ = stop Stuck
+
+  -- a body that was made for an implementation, entered for a site
+  abbrev pub run_for : Station → ℕ → FlatBody → Value → Option ℕ → List (Option Value) → Eval (Ending × List Value)
+  run_for at k b self frame given = do
+    caller ← this
+    run_body p go 0 (record { body = k; self = self; variables = first_variables p b given; sites = no_frames b; frame = frame; station = Some at; depth = caller.depth })
+
+  abbrev pub started : Station → ℕ → Value → List (Option Value) → Eval (Ending × List Value)
+  started at k self given = do
+    b ← at_place p.bodies k
+    if not b.iter then stop Stuck else (if is_some b.feature then turn (begin at k k self given) else run_for at k b self None given)
+
+  abbrev pub resumed : Station → Frame → List (Option Value) → Eval (Ending × List Value)
+  resumed at frame given = do
+    b ← at_place p.bodies frame.body
+    if is_some b.feature then turn (continue at frame.body frame.number given) else run_for at frame.body b frame.self (Some frame.number) given
+
+  abbrev pub start_of : Station → Callee → Value → List (Option Value) → Eval (Ending × List Value)
+  start_of at (Body k) self given = started at k self given
+  start_of at callee self given = stop Stuck
+
+  abbrev pub start : List (List ℕ) → ℕ → CallPlan → ℕ → Eval Way
+  start rows site plan quit = do
+    v ← read plan.recv
+    given ← given_by_all plan.args
+    r ← reached p rows plan.callee plan.class v
+    values ← all_given r.through given
+    backs ← all_backs r.through (backs_of plan.args)
+    at ← station p site r.through
+    ended ← start_of at r.callee r.self values
+    after_iter site plan quit backs ended
+
+  -- The receiver isn't read.
+  abbrev pub resume : ℕ → CallPlan → ℕ → Eval Way
+  resume site plan quit = do
+    entry ← entry_at site
+    number ← or_stuck entry
+    frame ← frame_at number
+    given ← given_anew plan.args
+    values ← all_given frame.through given
+    backs ← all_backs frame.through (backs_of plan.args)
+    at ← station p site frame.through
+    ended ← resumed at frame values
+    after_iter site plan quit backs ended
+
+  -- ---- the entry into an iter's body, from a body that was made for an implementation
+
+  abbrev pub handed_on : Cause → Eval Way
+  handed_on (Faulted kind) = pure (Leaving (Handed kind))
+  handed_on cause = stop cause
+
+  abbrev pub after_enter : List FlatArg → Option ℕ → ℕ → Ending × List Value → Eval Way
+  after_enter args value quit (Suspended v frame, variables) = do
+    set_running (Some frame)
+    write quit (Truth false)
+    put value v
+    copied_back (backs_of args) variables
+    pure Onward
+  after_enter args value quit (Ended, variables) = write quit (Truth true) >> pure Onward
+  after_enter args value quit (Raised v place kind, variables) = pure (Leaving (Raised v place kind))
+  after_enter args value quit _ = stop Stuck
+
+  -- a start where no frame is there yet
+  abbrev pub run_entered : ℕ → Activation → Station → List (Option Value) → Option ℕ → Eval (Ending × List Value)
+  run_entered k here at given None = turn (begin at here.body k (unwrapped here.self) given)
+  run_entered k here at given (Some number) = turn (continue at k number given)
+
+  abbrev pub entered_for : ℕ → List FlatArg → Option ℕ → ℕ → Eval Way
+  entered_for k args value quit = do
+    here ← this
+    at ← or_stuck here.station
+    given ← given_by_all args
+    ended ← run_entered k here at given here.frame
+    after_enter args value quit ended
+
+  abbrev pub enter_iter : ℕ → List FlatArg → Option ℕ → ℕ → Eval Way
+  enter_iter k args value quit = resolve (entered_for k args value quit) pure handed_on

@@ -1,0 +1,13 @@
+pub mod Calls
+pub mod Exits
+pub mod Faults
+pub mod Frames
+pub mod InRange
+pub mod Instances
+pub mod Law
+pub mod Order
+pub mod Pieces
+pub mod Run
+pub mod Samples
+pub mod Steps
+pub mod WellFlat

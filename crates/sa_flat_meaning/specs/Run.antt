@@ -1,0 +1,122 @@
+-- Runs of bodies from a place on, and whole runs.
+use Rattle.std.specs.Prelude.{ℕ, zero, suc, ◌+◌, ◌-◌, ◌*◌, List, [], map, length, slice_get, Option, Some, None}
+use Rattle.sa_flat.specs.declared.body.FlatBlock.{FlatBlock}
+use Rattle.sa_flat.specs.declared.step.FlatStep.{FlatStep}
+use Rattle.sa_flat.specs.declared.program.FlatProgram.{FlatProgram}
+use Rattle.sa_tree.specs.declared.pos.Pos.{Pos}
+use Rattle.sa_meaning.specs.Value.{Void}
+use Rattle.sa_meaning.specs.Program.{void_of}
+use Rattle.sa_meaning.specs.State as language
+use Rattle.sa_meaning.specs.Run as whole
+use Rattle.sa_meaning.specs.Run.{End, status_of}
+use Rattle.sa_flat_meaning.specs.Frames.{Activation, State, Ending, Returned, Raised, Way, Onward, To, Leaving, Failed, InputFailed, Stuck, Out, Gives, Stops, Exhausts}
+use Rattle.sa_flat_meaning.specs.Order.{Eval, ◌>>=◌, ◌>>◌, pure, stop, at_place, count, types_of, this}
+use Rattle.sa_flat_meaning.specs.Calls.{run_body, routine}
+use Rattle.sa_flat_meaning.specs.Steps.{step}
+use Rattle.sa_flat_meaning.specs.Exits.{exit}
+
+-- ---- from a place on
+
+abbrev pub this_block : FlatProgram → ℕ → Eval FlatBlock
+this_block p block = do
+  here ← this
+  b ← at_place p.bodies here.body
+  at_place b.blocks block
+
+-- From a block and a place in it on, `go` runs a body.
+abbrev pub next : (ℕ → ℕ → Eval Ending) → ℕ → ℕ → Way → Eval Ending
+next go block place Onward = go block (place + 1)
+next go block place (To other) = go other 0
+next go block place (Leaving ending) = pure ending
+
+module _ (p : FlatProgram) (rows : List (List ℕ)) (go : ℕ → ℕ → Eval Ending) where
+  -- the step at the place, and the exit behind the last one
+  abbrev pub step_or_exit : FlatBlock → Option FlatStep → Eval Way
+  step_or_exit b None = exit p b.exit
+  step_or_exit b (Some a) = step p rows go a
+
+  abbrev pub run_at : ℕ → ℕ → Eval Ending
+  run_at block place = do
+    count 1
+    b ← this_block p block
+    way ← step_or_exit b (slice_get b.steps place)
+    next go block place way
+
+-- The running body, from a block and the number of steps done in it on. The level falls at each step and exit as the steps
+-- that are left do, so that it is never below them.
+abbrev pub run_from : FlatProgram → List (List ℕ) → ℕ → ℕ → ℕ → Eval Ending
+run_from p rows zero block place = stop Stuck
+run_from p rows (suc level) block place = run_at p rows (run_from p rows level) block place
+
+-- ---- whole runs
+
+-- how many flat steps there are at most in so many turns
+abbrev pub most_steps : ℕ → ℕ
+most_steps turns = 200201000000 * (turns + 1)
+
+abbrev pub world_of : FlatProgram → language.Input → ℕ → ℕ → language.State
+world_of p input room turns = record {
+  objects = [];
+  shareds = map (void_of (types_of p)) p.shareds;
+  output = [];
+  input = input;
+  room = room;
+  turns = turns;
+  live = 0;
+  started = 0;
+  events = [];
+  trail = [];
+  here = record { feature = None; self = Void; variables = []; sites = language.Empty; exception = None; depth = 0 };
+}
+
+-- no body yet
+abbrev pub outside : Activation
+outside = record { body = 0; self = Void; variables = []; sites = []; frame = None; station = None; depth = 0 }
+
+abbrev pub initial : FlatProgram → language.Input → ℕ → ℕ → State
+initial p input room turns = record { world = world_of p input room turns; frames = []; steps = most_steps turns; here = outside }
+
+module _ (p : FlatProgram) (go : ℕ → ℕ → Eval Ending) where
+  -- the last body, at depth 0
+  abbrev pub whole_run : Eval Ending
+  whole_run = do
+    let last = length p.bodies - 1
+    b ← at_place p.bodies last
+    r ← run_body p go 0 (routine p go last b Void [] 0)
+    pure r.0
+
+unfoldable pub outcome : FlatProgram → List (List ℕ) → language.Input → ℕ → ℕ → Out Ending
+outcome p rows input room turns = whole_run p (run_from p rows (most_steps turns)) (initial p input room turns)
+
+-- ---- what is seen of a run
+
+-- Where the program has no such position, no rule says what is told.
+abbrev pub stopped : List ℕ → ℕ → Option Pos → End
+stopped output kind None = whole.Stuck
+stopped output kind (Some at) = whole.Stopped output kind at
+
+abbrev pub end_of : FlatProgram → Out Ending → End
+end_of p (Gives (Returned v) s) = whole.Ended s.world.output (status_of v)
+end_of p (Gives (Raised v place kind) s) = stopped s.world.output kind (slice_get p.sites place)
+end_of p (Gives _ s) = whole.Stuck
+end_of p (Stops (Failed kind place) s) = stopped s.world.output kind (slice_get p.sites place)
+end_of p (Stops InputFailed s) = whole.InFault s.world.output
+end_of p (Stops _ s) = whole.Stuck
+end_of p (Exhausts s) = whole.Spent s.world.output
+
+-- with an input, so many bytes of room and so many turns
+abbrev pub flat_run : FlatProgram → List (List ℕ) → language.Input → ℕ → ℕ → End
+flat_run p rows input room turns = end_of p (outcome p rows input room turns)
+
+abbrev pub last_state : {A : Type 0} → Out A → State
+last_state (Gives a s) = s
+last_state (Stops c s) = s
+last_state (Exhausts s) = s
+
+-- entries into bodies and exits from them, and bytes, in order
+abbrev pub trail : FlatProgram → List (List ℕ) → language.Input → ℕ → ℕ → List language.Mark
+trail p rows input room turns = (last_state (outcome p rows input room turns)).world.trail
+
+-- starts, resumptions and ends of instances, in order
+abbrev pub events : FlatProgram → List (List ℕ) → language.Input → ℕ → ℕ → List language.Event
+events p rows input room turns = (last_state (outcome p rows input room turns)).world.events

@@ -1,0 +1,276 @@
+-- Small flat programs, each as the source above it is lowered.
+use Rattle.std.specs.Prelude.{ℕ, pos, true, false, List, [], ◌∷◌, ◌++◌, map, length, Option, Some, None}
+use Rattle.sa_tree.specs.declared.class.Kind.{Kind}
+use Rattle.sa_tree.specs.declared.class.Kind.TheVariants as kind
+use Rattle.sa_tree.specs.declared.pos.Pos.{Pos}
+use Rattle.sa_tree.specs.declared.ty.Mode.{Mode}
+use Rattle.sa_tree.specs.declared.ty.Mode.TheVariants.{In, Inout, Once}
+use Rattle.sa_flat.specs.declared.body.FlatBlock.{FlatBlock}
+use Rattle.sa_flat.specs.declared.body.FlatBody.{FlatBody}
+use Rattle.sa_flat.specs.declared.body.FlatFormal.{FlatFormal}
+use Rattle.sa_flat.specs.declared.call.Callee.{Callee}
+use Rattle.sa_flat.specs.declared.call.Callee.TheVariants.{Body, Builtin, Get, Dispatch, Bound}
+use Rattle.sa_flat.specs.declared.call.CallPlan.{CallPlan}
+use Rattle.sa_flat.specs.declared.call.Fail.{Fail}
+use Rattle.sa_flat.specs.declared.call.FlatArg.{FlatArg}
+use Rattle.sa_flat.specs.declared.call.Raised.{Raised}
+use Rattle.sa_flat.specs.declared.program.BindEntry.{BindEntry}
+use Rattle.sa_flat.specs.declared.program.FlatProgram.{FlatProgram}
+use Rattle.sa_flat.specs.declared.program.Layout.{Layout}
+use Rattle.sa_flat.specs.declared.step.FlatConst.TheVariants as const
+use Rattle.sa_flat.specs.declared.step.FlatExit.{FlatExit}
+use Rattle.sa_flat.specs.declared.step.FlatExit.TheVariants.{Jump, Branch, Return, Suspend, Quit, Raise}
+use Rattle.sa_flat.specs.declared.step.FlatStep.{FlatStep}
+use Rattle.sa_flat.specs.declared.step.FlatStep.TheVariants.{Const, Move, Me, Turn, New, Widen, Unwrap, TypeIs, Call, Bind, HasEntry, Start, Resume, Enter, Release}
+use Rattle.sa_meaning.specs.Program.{int_type, fault_type}
+
+-- ---- words for flat programs, all of whose faults stand at one place
+
+abbrev pub here : Pos
+here = record { file = 1; at = 0 }
+
+-- The first temporaries hold a raise that leaves the body, and block 1 of each body is its exit.
+abbrev pub leaving : Raised
+leaving = record { block = 1; value = 200; place = 201; kind = 202 }
+
+abbrev pub fails_to : Raised → Fail
+fails_to to = record { place = 0; line = 1; raised = to }
+
+abbrev pub fails : Fail
+fails = fails_to leaving
+
+abbrev pub block : List FlatStep → FlatExit → FlatBlock
+block steps exit = record { steps = steps; exit = exit }
+
+-- block 0, and then those from block 2 on
+abbrev pub blocks : FlatBlock → List FlatBlock → List FlatBlock
+blocks first more = first ∷ block [] (Raise 200 201 202) ∷ more
+
+abbrev pub args : Mode → List ℕ → List FlatArg
+args mode vars = map (λ var. record { mode = mode; var = Some var }) vars
+
+abbrev pub plan : Callee → ℕ → ℕ → List FlatArg → Option ℕ → CallPlan
+plan callee class recv args value = record { callee = callee; class = class; recv = recv; args = args; value = value; fail = fails }
+
+abbrev pub int : ℕ → ℕ → FlatStep
+int to n = Const to (const.Int (pos n))
+
+-- a void receiver
+abbrev pub of_type : ℕ → ℕ → FlatStep
+of_type to ty = Const to (const.Void ty)
+
+-- a built-in feature of INT
+abbrev pub on_ints : ℕ → ℕ → ℕ → ℕ → FlatStep
+on_ints number to a b = Call (plan (Builtin number) int_type a (args In (b ∷ [])) (Some to))
+
+abbrev pub plus : ℕ → ℕ → ℕ → FlatStep
+plus = on_ints 2
+
+abbrev pub is_lt : ℕ → ℕ → ℕ → FlatStep
+is_lt = on_ints 9
+
+-- MAIN, OUT and the first type of a program's own
+abbrev pub main_type : ℕ
+main_type = 8
+
+abbrev pub out_type : ℕ
+out_type = 9
+
+abbrev pub own_type : ℕ
+own_type = 10
+
+abbrev pub put_int : ℕ → ℕ → FlatStep
+put_int out var = Call (plan (Builtin 25) out_type out (args In (var ∷ [])) None)
+
+abbrev pub layout : Kind → List ℕ → Layout
+layout kind attrs = record { kind = kind; attrs = attrs; array = false; elem = None; above = [] }
+
+abbrev pub layouts : List Layout
+layouts =
+    layout kind.Abstract [] ∷ layout kind.Abstract [] ∷ layout kind.Abstract [] ∷
+    layout kind.Immutable [] ∷ layout kind.Immutable [] ∷ layout kind.Immutable [] ∷ layout kind.Reference [] ∷
+    layout kind.Reference (int_type ∷ int_type ∷ []) ∷ layout kind.Reference [] ∷ layout kind.Reference [] ∷ layout kind.Reference [] ∷ []
+
+abbrev pub body : Option ℕ → List FlatFormal → ℕ → List FlatBlock → FlatBody
+body feature formals own blocks = record { feature = feature; iter = false; formals = formals; own = own; temporaries = 220; sites = 0; kept = []; blocks = blocks }
+
+abbrev pub formal : Mode → ℕ → FlatFormal
+formal mode ty = record { mode = mode; ty = ty }
+
+-- it calls the feature 0, which is `main`
+abbrev pub last_body : FlatBody
+last_body = body None [] 0 (blocks (block (of_type 203 main_type ∷ Call (plan (Body 0) main_type 203 [] None) ∷ []) (Return None)) [])
+
+abbrev pub program : List FlatBody → List ℕ → List BindEntry → FlatProgram
+program bodies targets binds = record {
+  bodies = bodies ++ last_body ∷ [];
+  texts = [];
+  sites = here ∷ [];
+  types = map (λ t. length t.attrs) layouts;
+  targets = targets;
+  layouts = layouts;
+  shareds = [];
+  binds = binds;
+}
+
+-- ---- sums
+
+-- main is x ::= 2147483647; #OUT + (x + 1); end
+abbrev pub overflowing : FlatProgram
+overflowing = program (body (Some 0) [] 1 (blocks (block (
+    int 203 2147483647 ∷ Move 0 203 ∷
+    of_type 203 out_type ∷ int 204 1 ∷ plus 205 0 204 ∷ put_int 203 205 ∷ []) (Return None)) []) ∷ []) [] []
+
+-- main is protect x ::= 2147483647; x := x + 1; when FAULT then #OUT + exception.kind; end; end
+abbrev pub caught : FlatProgram
+caught = program (body (Some 0) [] 1 (blocks (block (
+    int 203 2147483647 ∷ Move 0 203 ∷
+    int 203 1 ∷ Call (record { callee = Builtin 2; class = int_type; recv = 0; args = args In (203 ∷ []); value = Some 204; fail = fails_to (record { block = 3; value = 210; place = 211; kind = 212 }) }) ∷
+    Move 0 204 ∷ []) (Jump 2)) (
+    block [] (Return None) ∷
+    block (TypeIs 203 210 fault_type ∷ []) (Branch 203 4 5) ∷
+    block (of_type 203 out_type ∷ Call (plan (Get 0) fault_type 210 [] (Some 204)) ∷ put_int 203 204 ∷ []) (Jump 2) ∷
+    block [] (Raise 210 211 212) ∷ [])) ∷ []) [] []
+
+-- main is s ::= 0; i ::= 1; loop while!(i < 11); s := s + i; i := i + 1; end; #OUT + s; end
+abbrev pub summing : FlatProgram
+summing = program (body (Some 0) [] 2 (blocks (block (int 203 0 ∷ Move 0 203 ∷ int 203 1 ∷ Move 1 203 ∷ []) (Jump 2)) (
+    block (Turn ∷ int 203 11 ∷ is_lt 204 1 203 ∷ []) (Branch 204 4 3) ∷
+    block (of_type 203 out_type ∷ put_int 203 0 ∷ []) (Return None) ∷
+    block (plus 203 0 1 ∷ Move 0 203 ∷ int 203 1 ∷ plus 204 1 203 ∷ Move 1 204 ∷ []) (Jump 2) ∷ [])) ∷ []) [] []
+
+-- ---- calls
+
+-- main is #OUT + twice(21); end
+-- twice(n:INT):INT is return n + n; end
+abbrev pub calling : FlatProgram
+calling = program (
+    body (Some 0) [] 0 (blocks (block (of_type 203 out_type ∷ Me 204 ∷ int 205 21 ∷ Call (plan (Body 1) main_type 204 (args In (205 ∷ [])) (Some 206)) ∷ put_int 203 206 ∷ []) (Return None)) []) ∷
+    body (Some 1) (formal In int_type ∷ []) 1 (blocks (block (plus 203 0 0 ∷ []) (Return (Some 203))) []) ∷ []) [] []
+
+-- main is deeper; end
+-- deeper is deeper; end
+abbrev pub deep : FlatProgram
+deep = program (body (Some 0) [] 0 (blocks (block (Me 203 ∷ Call (plan (Body 0) main_type 203 [] None) ∷ []) (Return None)) []) ∷ []) [] []
+
+-- The implementation gives an INT, and the signature a $OB, so that the implementation has a body of its own.
+-- main is a:$A := #B; x:$OB := a.f; typecase x when INT then #OUT + x; end; end
+-- f:INT is return 7; end, in a class B < $A
+abbrev pub widening_of : FlatStep → FlatProgram
+widening_of first = program (
+    body (Some 0) [] 3 (blocks (block (first ∷ Move 0 203 ∷ Call (plan (Dispatch 0) 0 0 [] (Some 203)) ∷ Move 1 203 ∷ TypeIs 203 1 int_type ∷ []) (Branch 203 2 3)) (
+    block (Unwrap 2 1 int_type ∷ of_type 203 out_type ∷ put_int 203 2 ∷ []) (Jump 3) ∷
+    block [] (Return None) ∷ [])) ∷
+    body (Some 1) [] 0 (blocks (block (int 203 7 ∷ []) (Return (Some 203))) []) ∷
+    body None [] 0 (blocks (block (Me 203 ∷ Call (plan (Body 1) own_type 203 [] (Some 204)) ∷ Widen 205 204 int_type fails ∷ []) (Return (Some 205))) []) ∷ []) (2 ∷ []) []
+
+abbrev pub widening : FlatProgram
+widening = widening_of (New 203 own_type fails)
+
+-- the same with `a` void
+abbrev pub void_receiver : FlatProgram
+void_receiver = widening_of (of_type 203 0)
+
+abbrev pub one_implementation : List (List ℕ)
+one_implementation = (own_type ∷ []) ∷ []
+
+-- main is r ::= bind(twice(_)); #OUT + r.call(21); end
+-- twice(n:INT):INT is return n + n; end
+abbrev pub binding : FlatProgram
+binding = program (
+    body (Some 0) [] 1 (blocks (block (
+    Me 203 ∷ Bind (plan (Body 1) main_type 203 (record { mode = In; var = None } ∷ []) (Some 204)) 0 ∷ Move 0 204 ∷
+    of_type 203 out_type ∷ int 204 21 ∷ Call (plan Bound 0 0 (args In (204 ∷ [])) (Some 205)) ∷ put_int 203 205 ∷ []) (Return None)) []) ∷
+    body (Some 1) (formal In int_type ∷ []) 1 (blocks (block (plus 203 0 0 ∷ []) (Return (Some 203))) []) ∷ [])
+    [] (record { ty = own_type; callee = Body 1; class = main_type; «open» = true ∷ [] } ∷ [])
+
+-- ---- iters
+
+abbrev pub iter_body : Option ℕ → List FlatFormal → ℕ → List FlatBlock → FlatBody
+iter_body feature formals own blocks = record { feature = feature; iter = true; formals = formals; own = own; temporaries = 220; sites = 0; kept = []; blocks = blocks }
+
+-- upto!(once n:INT):INT is i ::= 0; loop while!(i < n); yield i; i := i + 1; end; end
+abbrev pub upto : FlatBody
+upto = iter_body (Some 1) (formal Once int_type ∷ []) 2 (blocks (block (int 203 0 ∷ Move 1 203 ∷ []) (Jump 2)) (
+    block (Turn ∷ is_lt 203 1 0 ∷ []) (Branch 203 4 3) ∷
+    block [] Quit ∷
+    block [] (Suspend (Some 1) (Some 5)) ∷
+    block (int 203 1 ∷ plus 204 1 203 ∷ Move 1 204 ∷ []) (Jump 2) ∷ []))
+
+-- A raise out of the loop releases its instances before it leaves.
+abbrev pub out_of_loop : Raised
+out_of_loop = record { block = 8; value = 200; place = 201; kind = 202 }
+
+abbrev pub iter_plan : Callee → List ℕ → CallPlan
+iter_plan callee vars = record { callee = callee; class = main_type; recv = 206; args = args Once vars; value = Some 208; fail = fails_to out_of_loop }
+
+-- The first steps, and then a loop each round of which has a call of an iter and what comes behind it; where the loop is left,
+-- its instance is released, and the body ends by the last exit.
+abbrev pub loop_blocks : List FlatStep → List FlatStep → CallPlan → List FlatStep → FlatExit → FlatExit → List FlatBlock
+loop_blocks first operands plan round exit last = blocks (block first (Jump 2)) (
+    block (Turn ∷ of_type 203 out_type ∷ HasEntry 204 0 ∷ []) (Branch 204 4 5) ∷
+    block [] last ∷
+    block (Resume 0 plan 205 ∷ []) (Jump 6) ∷
+    block (operands ++ Start 0 plan 205 ∷ []) (Jump 6) ∷
+    block [] (Branch 205 9 7) ∷
+    block round exit ∷
+    block (Release (0 ∷ []) ∷ []) (Jump 1) ∷
+    block (Release (0 ∷ []) ∷ []) (Jump 3) ∷ [])
+
+abbrev pub looping_from : List FlatStep → List FlatStep → CallPlan → List FlatStep → FlatExit → FlatBody
+looping_from first operands plan round exit = record (body (Some 0) [] 1 (loop_blocks first operands plan round exit (Return None))) { sites = 1 }
+
+abbrev pub looping : FlatStep → Callee → List FlatStep → FlatExit → FlatBody
+looping receiver callee = looping_from [] (receiver ∷ int 207 3 ∷ []) (iter_plan callee (207 ∷ []))
+
+-- main is loop #OUT + upto!(3); end; end
+abbrev pub counting : FlatProgram
+counting = program (looping (Me 206) (Body 1) (put_int 203 208 ∷ []) (Jump 2) ∷ upto ∷ []) [] []
+
+-- main is loop #OUT + upto!(3); break!; end; end
+abbrev pub breaking : FlatProgram
+breaking = program (looping (Me 206) (Body 1) (put_int 203 208 ∷ []) (Jump 9) ∷ upto ∷ []) [] []
+
+-- The call is dispatched, and the signature gives a $OB.
+-- main is a:$A := #B; loop x:$OB := a.upto!(3); typecase x when INT then #OUT + x; end; end; end
+abbrev pub widening_iter : FlatProgram
+widening_iter = program (
+    looping (New 206 own_type fails) (Dispatch 0) (Unwrap 0 208 int_type ∷ put_int 203 0 ∷ []) (Jump 2) ∷ upto ∷
+    iter_body None (formal Once int_type ∷ []) 1 (blocks (block (Enter 1 (args Once (0 ∷ [])) (Some 203) 204 ∷ []) (Branch 204 2 3)) (
+    block [] Quit ∷
+    block (Widen 205 203 int_type fails ∷ []) (Suspend (Some 205) None) ∷ [])) ∷ []) (2 ∷ []) []
+
+-- main is loop upto!(3); x ::= 2147483647; x := x + 1; end; end
+-- The raise releases the instance that is suspended.
+abbrev pub failing : FlatProgram
+failing = program (looping (Me 206) (Body 1) (int 210 2147483647 ∷ int 211 1 ∷ Call (record { callee = Builtin 2; class = int_type; recv = 210; args = args In (211 ∷ []); value = Some 212; fail = fails_to out_of_loop }) ∷ []) (Jump 2) ∷ upto ∷ []) [] []
+
+-- main is loop #OUT + broken!(3); end; end
+-- broken!(once n:INT):INT is yield n; n := n + 2147483647; end
+abbrev pub raising : FlatProgram
+raising = program (looping (Me 206) (Body 1) (put_int 203 208 ∷ []) (Jump 2) ∷
+    iter_body (Some 1) (formal Once int_type ∷ []) 1 (blocks (block [] (Suspend (Some 0) (Some 2))) (
+    block (int 203 2147483647 ∷ plus 204 0 203 ∷ Move 0 204 ∷ []) Quit ∷ [])) ∷ []) [] []
+
+-- main is a ::= 1; b ::= 2; swap(inout a, inout b); #OUT + a; #OUT + b; end
+-- swap(inout a:INT, inout b:INT) is t ::= a; a := b; b := t; end
+abbrev pub swapping : FlatProgram
+swapping = program (
+    body (Some 0) [] 2 (blocks (block (int 203 1 ∷ Move 0 203 ∷ int 203 2 ∷ Move 1 203 ∷
+    Me 203 ∷ Call (plan (Body 1) main_type 203 (args Inout (0 ∷ 1 ∷ [])) None) ∷
+    of_type 203 out_type ∷ put_int 203 0 ∷ of_type 203 out_type ∷ put_int 203 1 ∷ []) (Return None)) []) ∷
+    body (Some 1) (formal Inout int_type ∷ formal Inout int_type ∷ []) 3 (blocks (block (Move 2 0 ∷ Move 0 1 ∷ Move 1 2 ∷ []) (Return None)) []) ∷ []) [] []
+
+-- main is r ::= bind(upto!(3)); loop #OUT + r.call!; end; end
+abbrev pub bound_iter : FlatProgram
+bound_iter = program (
+    looping_from (Me 203 ∷ int 204 3 ∷ Bind (plan (Body 1) main_type 203 (args Once (204 ∷ [])) (Some 205)) 0 ∷ Move 0 205 ∷ [])
+    (Move 206 0 ∷ []) (iter_plan Bound []) (put_int 203 208 ∷ []) (Jump 2) ∷ upto ∷ [])
+    [] (record { ty = own_type; callee = Body 1; class = main_type; «open» = false ∷ [] } ∷ [])
+
+-- main is loop #OUT + through!; break!; end; end
+-- through!:INT is loop yield upto!(3); end; end
+abbrev pub nested : FlatProgram
+nested = program (
+    looping_from [] (Me 206 ∷ []) (iter_plan (Body 2) []) (put_int 203 208 ∷ []) (Jump 9) ∷ upto ∷
+    record (iter_body (Some 2) [] 0 (loop_blocks [] (Me 206 ∷ int 207 3 ∷ []) (iter_plan (Body 1) (207 ∷ [])) [] (Suspend (Some 208) (Some 2)) Quit)) { sites = 1 } ∷ []) [] []

@@ -1,0 +1,86 @@
+-- Flat programs whose numbers are in range and whose sizes have bounds.
+use Rattle.std.specs.Prelude.{◌≡◌, ◌≢◌, ℕ, ◌+◌, ◌<◌, ◌≤◌, Bool, false, IsTrue, List, [], map, length, take, drop, slice_get, sum_by, unwrap_or, All, AllPairs, Some, IfSome, is_some}
+use Rattle.std.specs.Option.{option_map_or}
+use Rattle.sa_dispatch.specs.Implementations.{first_of}
+use Rattle.sa_flat.specs.declared.body.FlatBody.{FlatBody}
+use Rattle.sa_flat.specs.declared.call.Callee.{Callee}
+use Rattle.sa_flat.specs.declared.call.Callee.TheVariants.{Body, Dispatch, Bound}
+use Rattle.sa_flat.specs.declared.program.BindEntry.{BindEntry}
+use Rattle.sa_flat.specs.declared.program.FlatProgram.{FlatProgram}
+use Rattle.sa_flat.specs.declared.program.Layout.{Layout}
+use Rattle.sa_flat.specs.declared.step.FlatStep.{FlatStep}
+use Rattle.sa_flat.specs.declared.step.FlatStep.TheVariants.{Call, Start, Resume, Enter}
+use Rattle.sa_flat_meaning.specs.Calls.{width}
+use Rattle.sa_flat_meaning.specs.Faults.{hands_on}
+use Rattle.sa_flat_meaning.specs.InRange.{IsType, CanEnter, IsReached, IsVariable, IsWellBlock}
+
+-- ---- bodies that were made for an implementation
+
+module _ (p : FlatProgram) where
+  abbrev pub has_feature : ℕ → Bool
+  has_feature k = option_map_or (λ b. is_some b.feature) (slice_get p.bodies k) false
+
+  abbrev pub ReachesFeature : Callee → Type 0
+  ReachesFeature (Body k) = IsTrue (has_feature k)
+  ReachesFeature (Dispatch k) = ⊥
+  ReachesFeature Bound = ⊥
+  ReachesFeature _ = Unit {0}
+
+  -- It has no dispatched call and no call of a bound value, and the bodies that it enters have features.
+  abbrev pub EntersFeatures : FlatStep → Type 0
+  EntersFeatures (Call plan) = ReachesFeature plan.callee
+  EntersFeatures (Start site plan quit) = ReachesFeature plan.callee
+  EntersFeatures (Resume site plan quit) = ReachesFeature plan.callee
+  EntersFeatures (Enter body args value quit) = IsTrue (has_feature body)
+  EntersFeatures _ = Unit {0}
+
+  abbrev pub IsMade : FlatBody → Type 0
+  IsMade b = All (λ block. All EntersFeatures block.steps) b.blocks
+
+  -- bodies that have features, or of which none has one
+  abbrev pub AreAlike : List ℕ → Type 0
+  AreAlike bodies = AllPairs (λ a b. has_feature a ≡ has_feature b) bodies
+
+-- ---- parts of a program
+
+module _ (p : FlatProgram) (rows : List (List ℕ)) where
+  -- the body of the number k
+  pub record IsWellBody (k : ℕ) (b : FlatBody) : Type 0 where
+    -- features have the numbers of their bodies
+    pub feature : IfSome b.feature (λ feature. feature ≡ k)
+    pub formals : All (λ f. IsType p f.ty) b.formals
+    pub own : length b.formals ≤ b.own
+    pub kept : All (IsVariable b) b.kept
+    pub begins : 0 < length b.blocks
+    pub blocks : All (IsWellBlock p rows b) b.blocks
+    pub made : IsTrue (hands_on p k) → IsMade p b
+    pub few_variables : width b + b.sites ≤ 900000
+    pub few_blocks : length b.blocks ≤ 8000000
+
+  abbrev pub IsWellEntry : BindEntry → Type 0
+  IsWellEntry e = IsType p e.ty × IsType p e.class × IsReached p rows e.class e.callee
+
+  -- the bodies of the implementations of a signature
+  abbrev pub targets_of : ℕ → List ℕ
+  targets_of k = take (length (unwrap_or (slice_get rows k) [])) (drop (first_of rows k) p.targets)
+
+abbrev pub IsWellLayout : FlatProgram → Layout → Type 0
+IsWellLayout p t = All (IsType p) t.attrs × IfSome t.elem (IsType p) × All (IsType p) t.above
+
+-- ---- programs
+
+pub record IsWellFlat (p : FlatProgram) (rows : List (List ℕ)) : Type 0 where
+  pub bodies : (k : ℕ) (b : FlatBody) → slice_get p.bodies k ≡ Some b → IsWellBody p rows k b
+  pub layouts : All (IsWellLayout p) p.layouts
+  pub attributes : p.types ≡ map (λ t. length t.attrs) p.layouts
+  pub shareds : All (IsType p) p.shareds
+  pub binds : All (IsWellEntry p rows) p.binds
+  pub dispatched : All (All (IsType p)) rows
+  pub targets : length p.targets ≡ sum_by length rows
+  pub entered : All (CanEnter p) p.targets
+  pub alike : (k : ℕ) → k < length rows → AreAlike p (targets_of p rows k)
+  pub begins : 0 < length p.bodies
+  pub few_bodies : length p.bodies ≤ 400000
+  pub few_shareds : length p.shareds ≤ 200000
+  pub distinct : AllPairs ◌≢◌ p.texts
+  pub few_bytes : sum_by length p.texts ≤ 8388608
