@@ -83,9 +83,9 @@ def sources():
         % (', '.join(names), ' '.join('r := r + %s;' % name for name in names)))
     yield 'ifs inside ifs', main_of('x ::= 1; ' + 'if x = 1 then ' * 195 + 'x := 2;' + ' end;' * 195)
     yield 'loops inside loops', main_of('x ::= 1; ' + 'loop ' * 195 + 'x := x + 1; break!;' + ' end; break!;' * 194 + ' end;')
-    yield 'parentheses inside parentheses', main_of('x ::= ' + '(1 + ' * 180 + '1' + ')' * 180 + '; #OUT + x;')
+    yield 'parentheses inside parentheses', main_of('x ::= ' + '(1 + ' * 95 + '1' + ')' * 95 + '; #OUT + x;')
     yield 'and and or inside one another', main_of(
-        'x ::= true; x := ' + '(x and (x or ' * 90 + 'x' + '))' * 90 + '; if x then #OUT + "y"; end;')
+        'x ::= true; x := ' + '(x and (x or ' * 48 + 'x' + '))' * 48 + '; if x then #OUT + "y"; end;')
     yield 'a chain of 10,000 tests', main_of(
         'x ::= 9999; if x = 0 then #OUT + 0; ' + ' '.join('elsif x = %d then #OUT + %d;' % (n, n) for n in range(1, 10000)) + ' end;')
     yield '10,000 tests in a loop that leave it', main_of(
@@ -117,9 +117,7 @@ def tried(all_):
 
 def module_of(program, files, words, folder):
     """The bytes of a program's module, or None with the line that the program was answered with."""
-    for name, text in files.items():
-        with open(os.path.join(folder, name), 'wb') as file:
-            file.write(text)
+    programs.lay(files, folder)
     ended = subprocess.run([program, 'build', *words], cwd=folder, stdin=subprocess.DEVNULL, stdout=subprocess.PIPE,
                            stderr=subprocess.PIPE, timeout=120)
     if ended.returncode != 0:

@@ -41,6 +41,15 @@ def bytes_of(text):
     return b''.join(bytes_of(part) for part in text)
 
 
+def lay(files, folder):
+    """Puts files into a folder."""
+    for name, text in files.items():
+        path = os.path.join(folder, name)
+        os.makedirs(os.path.dirname(path), exist_ok=True)
+        with open(path, 'wb') as file:
+            file.write(text)
+
+
 class Program:
     """A program of a case: its name, its files, the words behind `run` without `--stats`, and its input."""
 
@@ -134,11 +143,7 @@ class Comparison:
     def try_program(self, program):
         """Compares the program's own two ways and asks wabt, and keeps the module for V8."""
         with tempfile.TemporaryDirectory() as folder:
-            for name, text in program.files.items():
-                path = os.path.join(folder, name)
-                os.makedirs(os.path.dirname(path), exist_ok=True)
-                with open(path, 'wb') as file:
-                    file.write(text)
+            lay(program.files, folder)
             ran = self.call(folder, ['run', '--stats', *program.words], program.input)
             if ran.status in NOT_COMPILED and not ran.stats:
                 self.left_out += 1
