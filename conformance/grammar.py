@@ -14,21 +14,13 @@ import subprocess
 import sys
 import tempfile
 
+from programs import bytes_of
+
 TOP = os.path.join(os.path.dirname(os.path.abspath(__file__)), '..')
 LONGEST = 2000
 SIGNS = b' \n\t()[]{},;:.=/<>+-*%^~#|_$!"\'\\@\xff0189abzAZ'
 REFUSED = re.compile(rb'(f\.sa|prelude):([1-9][0-9]*): E[0-5][0-9]: [A-Za-z:, -]+\n')
 PRELUDE_LINES = 93
-
-
-def bytes_of(text):
-    """The bytes of a text of a case, in which a list stands for its parts and `repeat` for a part several times."""
-    if isinstance(text, str):
-        return text.encode('latin-1')
-    if isinstance(text, dict):
-        part, times = text['repeat']
-        return bytes_of(part) * times
-    return b''.join(bytes_of(part) for part in text)
 
 
 def sources():
