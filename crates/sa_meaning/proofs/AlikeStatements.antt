@@ -13,7 +13,7 @@ use Rattle.sa_meaning.specs.State.{Residue, Over, Next, Rest, Sites, Instance, C
 use Rattle.sa_meaning.specs.Steps.{Eval}
 use Rattle.sa_meaning.specs.Calls.{Callee}
 use Rattle.sa_meaning.specs.Evaluation.{new_object, array_of, bound_value, bound_to_callee, bound, station, this_site, iter_call, evaluate, evaluate_all, evaluate_args, evaluate_arg, evaluate_tests}
-use Rattle.sa_meaning.specs.Statements.{after_statement, followed, with_exception, not_suspended, caught, is_left, takes, raised, round, after_round, out_of_round, value_of, test_of, execute, execute_all, execute_first, execute_case, execute_branch, execute_else, execute_else_with, left, run_to}
+use Rattle.sa_meaning.specs.Statements.{after_statement, followed, set_exception, with_exception, not_suspended, caught, is_left, takes, raised, round, after_round, out_of_round, value_of, test_of, execute, execute_all, execute_first, execute_case, execute_branch, execute_else, execute_else_with, left, run_to}
 use Rattle.sa_meaning.proofs.Alike.{ends, ends_first, Alike, Steady, alike_resolve, alike_then, alike_before, alike_if, turns, steady_pure, steady_stop, steady_look, steady_change, steady_or_stuck}
 use Rattle.sa_meaning.proofs.SteadySteps.{steady_charge, steady_add_object, steady_fault, steady_read, steady_write}
 use Rattle.sa_meaning.proofs.SteadyBuiltin.{steady_new_array}
@@ -56,9 +56,12 @@ steady_not_suspended (Yielding v r) = steady_stop _
 steady_not_suspended (Returning v) = steady_pure _
 steady_not_suspended Quitting = steady_pure _
 
+steady_set : {level : ℕ} (exception : Option Value) → Steady level (set_exception exception)
+steady_set exception = steady_change _ (λ d s. refl) (λ s. refl) (λ s. refl)
+
 alike_with_exception : {level : ℕ} (v : Value) {f g : Eval Flow} → Alike level f g → Alike level (with_exception v f) (with_exception v g)
 alike_with_exception v e =
-    alike_then (steady_look _ (λ d s. refl)) (λ before. alike_before (steady_change _ (λ d s. refl) (λ s. refl) (λ s. refl)) (alike_then e (λ flow. alike_before (steady_change _ (λ d s. refl) (λ s. refl) (λ s. refl)) (steady_not_suspended flow))))
+    alike_then (steady_look _ (λ d s. refl)) (λ before. alike_before (steady_set _) (alike_resolve e (λ flow. alike_before (steady_set before) (steady_not_suspended flow)) (λ cause. alike_before (steady_set before) (steady_stop cause))))
 
 alike_caught : {level : ℕ} (f g : Value → Option ℕ → Eval Flow → Eval Flow) → ((v : Value) (ty : Option ℕ) (again : Eval Flow) → Steady level again → Alike level (f v ty again) (g v ty again)) → (cause : Cause) → Alike level (caught f cause) (caught g cause)
 alike_caught f g e (Raised v kind at) = alike_then (steady_dynamic_type v) (λ dynamic. e v dynamic _ (steady_stop _))

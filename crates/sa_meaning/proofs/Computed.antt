@@ -170,6 +170,11 @@ no_room_for_fault : run_program sample.tells_fault no_input 23 1000 ≡ Stopped 
 unfolding outcome resolve or_stuck digits
 no_room_for_fault = refl
 
+-- a branch that is left by a raise leaves no exception behind
+raises_in_branches : end sample.raises_in_branches ≡ Ended (codes "ca") 0
+unfolding outcome resolve or_stuck digits
+raises_in_branches = refl
+
 catches_fault_of_iter : end sample.catches_fault_of_iter ≡ Ended (codes "1c") 0
 unfolding outcome resolve or_stuck digits
 catches_fault_of_iter = refl

@@ -367,6 +367,19 @@ tells_fault = with_str (catches_fault (
 abbrev pub raises_again : Program
 raises_again = catches_fault (Raise Exception here ∷ [])
 
+-- protect raise "a"; when STR then
+--   protect protect raise "b"; when STR then raise "c"; end; when STR then #OUT + exception; end;
+--   #OUT + exception; end
+abbrev pub raises_in_branches : Program
+raises_in_branches = program [] (
+    routine [] [] [] (
+    Protect (stmt_list (Raise (text (codes "a")) here ∷ [])) (arm_list ((str_type, 0, stmt_list (
+        Protect (stmt_list (
+            Protect (stmt_list (Raise (text (codes "b")) here ∷ [])) (arm_list ((str_type, 0, stmt_list (Raise (text (codes "c")) here ∷ [])) ∷ [])) no_else ∷ []))
+        (arm_list ((str_type, 0, stmt_list (put Exception ∷ [])) ∷ [])) no_else
+        ∷ put Exception ∷ [])) ∷ [])) no_else ∷ [])
+    ∷ [])
+
 -- class MAIN is it!:INT is yield 1; x ::= 1/0; end;
 --   main is protect loop #OUT + it!; end; else #OUT + "c"; end; end; end
 abbrev pub catches_fault_of_iter : Program

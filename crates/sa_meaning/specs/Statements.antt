@@ -32,14 +32,12 @@ abbrev pub not_suspended : Flow → Eval Flow
 not_suspended (Yielding v r) = stop Stuck
 not_suspended flow = pure flow
 
--- the statements of a branch of a protect, and then the exception that was there before
+-- the statements of a branch of a protect, and then, however they end, the exception that was there before
 abbrev pub with_exception : Value → Eval Flow → Eval Flow
 with_exception v f = do
   before ← look (λ s. s.here.exception)
   set_exception (Some v)
-  flow ← f
-  set_exception before
-  not_suspended flow
+  resolve f (λ flow. set_exception before >> not_suspended flow) (λ cause. set_exception before >> stop cause)
 
 -- What is raised in a protect goes to its branches, which pass on what they don't take. Nothing else is caught.
 abbrev pub caught : (Value → Option ℕ → Eval Flow → Eval Flow) → Cause → Eval Flow
