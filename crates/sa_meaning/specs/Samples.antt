@@ -373,11 +373,15 @@ raises_again = catches_fault (Raise Exception here ∷ [])
 abbrev pub raises_in_branches : Program
 raises_in_branches = program [] (
     routine [] [] [] (
-    Protect (stmt_list (Raise (text (codes "a")) here ∷ [])) (arm_list ((str_type, 0, stmt_list (
-        Protect (stmt_list (
-            Protect (stmt_list (Raise (text (codes "b")) here ∷ [])) (arm_list ((str_type, 0, stmt_list (Raise (text (codes "c")) here ∷ [])) ∷ [])) no_else ∷ []))
-        (arm_list ((str_type, 0, stmt_list (put Exception ∷ [])) ∷ [])) no_else
-        ∷ put Exception ∷ [])) ∷ [])) no_else ∷ [])
+    Protect (stmt_list (Raise (text (codes "a")) here ∷ [])) (arm_list ((
+      str_type,
+      0,
+      stmt_list (
+          Protect (stmt_list (
+          Protect (stmt_list (Raise (text (codes "b")) here ∷ [])) (arm_list ((str_type, 0, stmt_list (Raise (text (codes "c")) here ∷ [])) ∷ [])) no_else ∷ []))
+          (arm_list ((str_type, 0, stmt_list (put Exception ∷ [])) ∷ [])) no_else
+          ∷ put Exception ∷ []),
+    ) ∷ [])) no_else ∷ [])
     ∷ [])
 
 -- class MAIN is it!:INT is yield 1; x ::= 1/0; end;
