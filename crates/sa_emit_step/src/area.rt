@@ -1,9 +1,9 @@
 //! The area of memory through which a call hands its receiver and arguments to a body, and the body hands them back.
 
 use crate::around::{ME, held, local_of};
-use crate::line::{Op, add_line};
 use sa_flat::{CallPlan, FlatArg, FlatBody, FlatFormal};
 use sa_runtime::layout::{FIRST_ARGUMENT_AT, RESULT, SELF_AT};
+use sa_runtime::line::{Op, add_line};
 use sa_tree::Mode;
 use sqlite_items::Items;
 use std::alloc::Global;
@@ -72,7 +72,7 @@ pub fn add_result(
     value: Option<u32>,
 ) -> Result<(), NoMemory> {
     match value {
-        Some(var) => add_line(code, &[Op::Global(RESULT), Op::Set(local_of(body, var))]),
+        Some(var) => add_line(code, &[Op::GetGlobal(RESULT), Op::Set(local_of(body, var))]),
         None => Ok(()),
     }
 }

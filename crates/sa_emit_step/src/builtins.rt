@@ -4,11 +4,11 @@ use crate::area::add_result;
 use crate::around::{Around, STATUS, held};
 use crate::failing::{INDEX, OVERFLOW, add_fail_if, add_void_test};
 use crate::inline::{Form, form_of};
-use crate::line::{Op, add_line};
 use crate::objects::add_element;
 use sa_flat::CallPlan;
 use sa_prelude::BuiltinFeature;
 use sa_runtime::layout::{FIRST_BUILTIN, first_element_at};
+use sa_runtime::line::{Op, add_line};
 use sqlite_items::Items;
 use std::alloc::Global;
 use wa_syntax::opcode::{

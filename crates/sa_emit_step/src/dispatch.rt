@@ -6,12 +6,13 @@
 use crate::area::{add_answers, add_arguments};
 use crate::around::{ADDRESS, Around, STATUS, held};
 use crate::calls::{add_as_deep, add_deeper, add_depth_test, add_indirect_call, function_of};
+use crate::choice::add_if;
 use crate::failing::{HANDED_ON, add_fail, add_raise, add_void_test, deeper};
-use crate::line::{Op, add_if, add_line};
 use crate::values::add_type_of;
 use sa_dispatch::Span;
 use sa_flat::CallPlan;
 use sa_runtime::layout::FAULT_KIND;
+use sa_runtime::line::{Op, add_line};
 use sqlite_items::Items;
 use std::alloc::Global;
 use wa_syntax::opcode::{I32_ADD, I32_EQ, UNREACHABLE};
@@ -92,7 +93,7 @@ fn add_unreturned(
     let line = [Op::Get(STATUS), Op::I32(HANDED_ON), Op::Do(I32_EQ)];
     add_line(code, &line)?;
     let mut fault = Items::new(alloc);
-    let kind = Op::Global(FAULT_KIND);
+    let kind = Op::GetGlobal(FAULT_KIND);
     add_fail(&mut fault, around, kind, &plan.fail, deeper(inside)?)?;
     add_if(alloc, code, fault)?;
     add_raise(code, around, &plan.fail.raised, inside)

@@ -1,9 +1,10 @@
 //! Faults and raises of steps, and jumps to blocks.
 
 use crate::around::{Around, BLOCK, NOT_A_HEAD, Role, held};
-use crate::line::{Op, add_if, add_line};
+use crate::choice::add_if;
 use sa_flat::{Fail, FlatBody, FlatExit, Raised};
 use sa_runtime::layout::{EXCEPTION, EXCEPTION_KIND, EXCEPTION_PLACE, FAULT, FAULT_KIND};
+use sa_runtime::line::{Op, add_line};
 use sqlite_items::Items;
 use std::alloc::Global;
 use wa_syntax::opcode::{I64_EQZ, I64_EXTEND_I32_U, RETURN};
@@ -114,12 +115,12 @@ pub fn add_raise(
         return add_line(code, &[Op::I32(RAISED), Op::Do(RETURN)]);
     }
     let line = [
-        Op::Global(EXCEPTION),
+        Op::GetGlobal(EXCEPTION),
         Op::Set(around.local(raised.value)),
-        Op::Global(EXCEPTION_PLACE),
+        Op::GetGlobal(EXCEPTION_PLACE),
         Op::Do(I64_EXTEND_I32_U),
         Op::Set(around.local(raised.place)),
-        Op::Global(EXCEPTION_KIND),
+        Op::GetGlobal(EXCEPTION_KIND),
         Op::Do(I64_EXTEND_I32_U),
         Op::Set(around.local(raised.kind)),
     ];

@@ -3,9 +3,9 @@
 use crate::area::add_copies_back;
 use crate::around::{Around, Role, not_emitted};
 use crate::failing::{RAISED, add_fail};
-use crate::line::{Op, add_line};
 use sa_flat::FlatExit;
 use sa_runtime::layout::{EXCEPTION, EXCEPTION_KIND, EXCEPTION_PLACE, RESULT};
+use sa_runtime::line::{Op, add_line};
 use sqlite_items::Items;
 use std::alloc::Global;
 use wa_syntax::opcode::{I32_WRAP_I64, RETURN};

@@ -4,12 +4,12 @@ use crate::area::add_result;
 use crate::around::{ADDRESS, Around, STATUS};
 use crate::builtins::CREATE;
 use crate::failing::{NO_ROOM, add_fail_if};
-use crate::line::{Op, add_line};
 use sa_flat::Fail;
 use sa_runtime::layout::{
     ALLOCATE, BOOL, BOXED, CHAR, INT, OBJECT, UNWRAPPED, WIDENED, attribute_at, first_element_at,
     header,
 };
+use sa_runtime::line::{Op, add_line};
 use sqlite_items::Items;
 use std::alloc::Global;
 use wa_syntax::opcode::{

@@ -2,8 +2,8 @@
 
 use crate::around::{ADDRESS, Around, ME, held};
 use crate::below::TypeSpan;
-use crate::line::{Op, add_line};
 use sa_flat::FlatConst;
+use sa_runtime::line::{Op, add_line};
 use sqlite_items::Items;
 use wa_syntax::opcode::{
     I32_AND, I32_EQ, I32_LE_U, I32_LOAD, I32_OR, I32_SUB, I32_WRAP_I64, I64_EQZ, I64_EXTEND_I32_U,

@@ -1,8 +1,8 @@
 //! How a function ends: the value that it gives, and its status, which is 0 or the number of a fault.
 
 use crate::layout::RESULT;
+use crate::line::Op::{Do, I32, SetGlobal};
 use crate::operations::TO_WORD;
-use crate::parts::Op::{Do, I32, SetGlobal};
 use crate::parts::Part::{self, If, Line};
 use wa_syntax::opcode::RETURN;
 

@@ -2,9 +2,9 @@
 
 use crate::answers::{DONE, GIVE_ADDRESS, GIVE_WORD, INDEX, INDEX_IF, NO_ROOM_IF, VOID};
 use crate::layout::ALLOCATE;
+use crate::line::Op::{Call, Do, Get, I32, I64, Memory, Tee};
 use crate::locals::{FIRST, MADE, SECOND, SELF};
 use crate::operations::{LOAD_LENGTH, TO_ADDRESS, TO_WORD};
-use crate::parts::Op::{Call, Do, Get, I32, I64, Memory, Tee};
 use crate::parts::Part::{self, If, Line, Sequence};
 use wa_syntax::opcode::{
     I32_ADD, I32_EQZ, I64_ADD, I64_EQZ, I64_GE_U, I64_LOAD, I64_LT_S, I64_OR, I64_SHL, I64_STORE,

@@ -1,8 +1,8 @@
 //! The features of `BOOL` beside equality.
 
 use crate::answers::GIVE_ADDRESS;
+use crate::line::Op::{Do, Get};
 use crate::locals::SELF;
-use crate::parts::Op::{Do, Get};
 use crate::parts::Part::{self, Line};
 use wa_syntax::opcode::I64_EQZ;
 

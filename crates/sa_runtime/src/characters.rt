@@ -1,8 +1,8 @@
 //! The features of `CHAR` beside comparisons.
 
 use crate::answers::{GIVE_ADDRESS, GIVE_WORD};
+use crate::line::Op::{Get, I32, Memory, Set};
 use crate::locals::{MADE, SELF, SIZE};
-use crate::parts::Op::{Get, I32, Memory, Set};
 use crate::parts::Part::{self, Line};
 use crate::texts::MAKE_TEXT;
 use wa_syntax::opcode::I64_STORE8;

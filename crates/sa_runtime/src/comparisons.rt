@@ -1,8 +1,8 @@
 //! Equality and order of `BOOL`, `INT` and `CHAR`: a value is equal to another, or less, where its word is.
 
 use crate::answers::GIVE_ADDRESS;
+use crate::line::Op::{Do, Get};
 use crate::locals::{FIRST, SELF};
-use crate::parts::Op::{Do, Get};
 use crate::parts::Part::{self, Line};
 use wa_syntax::opcode::{I64_EQ, I64_LT_S};
 

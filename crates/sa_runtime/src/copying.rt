@@ -1,8 +1,8 @@
 //! Loops over the bytes of texts and the words of objects. They take 8 bytes in a round, and the fewer than 8 behind them one
 //! by one, so that nothing is read or written behind the last byte.
 
+use crate::line::Op::{Br, BrIf, Do, Get, I32, Memory, Set};
 use crate::locals::{FROM, LEFT, TO};
-use crate::parts::Op::{Br, BrIf, Do, Get, I32, Memory, Set};
 use crate::parts::Part::{self, Block, Line, Loop, Sequence};
 use wa_syntax::opcode::{
     I32_ADD, I32_EQZ, I32_LOAD8_U, I32_LT_U, I32_STORE8, I32_SUB, I64_LOAD, I64_STORE,

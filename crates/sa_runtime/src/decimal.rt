@@ -3,9 +3,9 @@
 use crate::answers::{DONE, GIVE_ADDRESS};
 use crate::copying::WRITE_BYTE_ON;
 use crate::layout::PUT;
+use crate::line::Op::{Br, BrIf, Call, Do, Get, I32, I64, Memory, Set, Tee};
 use crate::locals::{MADE, SELF, SIZE, TO};
 use crate::operations::TO_ADDRESS;
-use crate::parts::Op::{Br, BrIf, Call, Do, Get, I32, I64, Memory, Set, Tee};
 use crate::parts::Part::{self, Block, If, Line, Loop, Sequence};
 use crate::texts::MAKE_TEXT;
 use wa_syntax::opcode::{

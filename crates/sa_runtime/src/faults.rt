@@ -1,9 +1,9 @@
 //! What a fault does: it raises an exception, or stops the program.
 
 use crate::layout::{ALLOCATE, EXCEPTION, EXCEPTION_KIND, EXCEPTION_PLACE, FAULT_TYPE, STOP};
+use crate::line::Op::{BrIf, Call, Do, Get, I32, I64, Memory, SetGlobal, Tee};
 use crate::locals::MADE;
 use crate::operations::TO_WORD;
-use crate::parts::Op::{BrIf, Call, Do, Get, I32, I64, Memory, SetGlobal, Tee};
 use crate::parts::Part::{self, Block, Line};
 use wa_syntax::opcode::{I32_EQZ, I32_GT_U, I64_STORE, RETURN};
 

@@ -2,9 +2,9 @@
 
 use crate::answers::GIVE_ADDRESS;
 use crate::layout::{BOUND, OBJECT};
+use crate::line::Op::{Do, Get, I32, Memory, Tee};
 use crate::locals::{FIRST, SECOND};
 use crate::operations::TO_ADDRESS;
-use crate::parts::Op::{Do, Get, I32, Memory, Tee};
 use crate::parts::Part::{self, Line};
 use wa_syntax::opcode::{I32_AND, I32_EQ, I32_LOAD8_U, I32_OR, I64_EQ};
 

@@ -3,9 +3,9 @@
 use crate::answers::{DONE, GIVE_ADDRESS, NO_ROOM_IF};
 use crate::copying::{COPY_WORDS, LEAVE_WITHOUT_BYTE, READ_WORD_ON, WORD_IS_DONE};
 use crate::layout::{ALLOCATE, RESULT, UNWRAPPED as UNWRAP, WIDENED_VALUE};
+use crate::line::Op::{Br, Call, Do, Get, I32, I64, Memory, Set, SetGlobal, Tee};
 use crate::locals::{FIRST, FROM, LEFT, MADE, SELF, TO};
 use crate::operations::{TO_ADDRESS, TO_WORD};
-use crate::parts::Op::{Br, Call, Do, Get, I32, I64, Memory, Set, SetGlobal, Tee};
 use crate::parts::Part::{self, Block, If, Line, Loop, Sequence};
 use wa_syntax::opcode::{
     I32_ADD, I32_EQZ, I32_SHL, I64_ADD, I64_LOAD, I64_NE, I64_OR, I64_STORE, RETURN,

@@ -2,9 +2,9 @@
 
 use crate::answers::{DIV_ZERO_IF, GIVE_WORD, OVERFLOW_IF};
 use crate::layout::RESULT;
+use crate::line::Op::{Do, Get, I64, SetGlobal, Tee};
 use crate::locals::{FIRST, SELF};
 use crate::operations::TO_ADDRESS;
-use crate::parts::Op::{Do, Get, I64, SetGlobal, Tee};
 use crate::parts::Part::{self, Line, Sequence};
 use wa_syntax::opcode::{
     I64_ADD, I64_AND, I64_DIV_S, I64_EQZ, I64_EXTEND_I32_S, I64_GT_U, I64_MUL, I64_NE, I64_OR,

@@ -14,6 +14,7 @@ mod identity;
 mod immutables;
 mod integers;
 pub mod layout;
+pub mod line;
 mod locals;
 mod operations;
 mod output;

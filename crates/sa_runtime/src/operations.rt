@@ -1,6 +1,6 @@
 //! Instructions under the names of what they do with the words of the language.
 
-use crate::parts::Op::{self, Do, Memory};
+use crate::line::Op::{self, Do, Memory};
 use wa_syntax::opcode::{I32_LOAD, I32_WRAP_I64, I64_EXTEND_I32_U, I64_LOAD32_U};
 
 /// The address that a word is, or the low half of a number.

@@ -5,9 +5,9 @@ use crate::copying::{
     BYTE_IS_DONE, LEAVE_WITHOUT_BYTE, LEAVE_WITHOUT_WORD, READ_BYTE_ON, READ_WORD_ON, WORD_IS_DONE,
 };
 use crate::layout;
+use crate::line::Op::{Br, Call, Do, Get, Memory, Set, Tee};
 use crate::locals::{FIRST, FROM, LEFT};
 use crate::operations::{LOAD_COUNT, TO_ADDRESS};
-use crate::parts::Op::{Br, Call, Do, Get, Memory, Set, Tee};
 use crate::parts::Part::{self, Block, Line, Loop, Sequence};
 use wa_syntax::opcode::{I32_LOAD8_U, I64_EXTEND_I32_S};
 

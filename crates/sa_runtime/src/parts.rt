@@ -2,39 +2,11 @@
 
 ghost use Rattle.std.specs.Prelude.{◌≡◌, length, IfOk};
 
+use crate::line::{Op, add_line};
 use crate::signatures::Signature;
 use sqlite_items::Items;
 use std::alloc::Global;
 use wa_syntax::{Func, FuncTy, Instr, Locals, NoMemory, ValTy};
-
-/// An instruction that holds no others.
-#[derive(Clone, Copy)]
-pub enum Op {
-    /// An instruction that is its opcode alone.
-    Do(u8),
-    /// Reads a local.
-    Get(u32),
-    /// Writes a local.
-    Set(u32),
-    /// Writes a local and keeps the operand.
-    Tee(u32),
-    /// Reads a global.
-    GetGlobal(u32),
-    /// Writes a global.
-    SetGlobal(u32),
-    /// A constant of 32 bits.
-    I32(u32),
-    /// A constant of 64 bits.
-    I64(u64),
-    /// A load or a store by its opcode, with its offset in bytes. It promises no alignment.
-    Memory(u8, u32),
-    /// A call of a function.
-    Call(u32),
-    /// A branch to a label.
-    Br(u32),
-    /// A branch to a label where the operand isn't 0.
-    BrIf(u32),
-}
 
 /// A part of the body of a function.
 #[derive(Clone, Copy)]
@@ -120,7 +92,7 @@ pub fn add_parts(alloc: Global, parts: &[Part], to: &mut Items<Instr>) -> Result
 #[cycle(parts)]
 fn add_part(alloc: Global, part: &Part, to: &mut Items<Instr>) -> Result<(), NoMemory> {
     match part {
-        Part::Line(ops) => add_line(ops, to),
+        Part::Line(ops) => add_line(to, ops),
         Part::Sequence(parts) => add_parts(alloc, parts, to),
         Part::Block(parts) => {
             let body = instructions(alloc, parts)?;
@@ -134,31 +106,5 @@ fn add_part(alloc: Global, part: &Part, to: &mut Items<Instr>) -> Result<(), NoM
             let body = instructions(alloc, parts)?;
             Ok(to.push(Instr::If(None, body, Items::new(alloc)))?)
         }
-    }
-}
-
-/// Adds these instructions.
-pub fn add_line(ops: &[Op], to: &mut Items<Instr>) -> Result<(), NoMemory> {
-    for op in ops {
-        to.push(instruction(*op))?;
-    }
-    Ok(())
-}
-
-/// The instruction.
-fn instruction(op: Op) -> Instr {
-    match op {
-        Op::Do(opcode) => Instr::Plain(opcode),
-        Op::Get(local) => Instr::LocalGet(local),
-        Op::Set(local) => Instr::LocalSet(local),
-        Op::Tee(local) => Instr::LocalTee(local),
-        Op::GetGlobal(global) => Instr::GlobalGet(global),
-        Op::SetGlobal(global) => Instr::GlobalSet(global),
-        Op::I32(bits) => Instr::I32Const(bits),
-        Op::I64(bits) => Instr::I64Const(bits),
-        Op::Memory(opcode, offset) => Instr::Memory(opcode, 0, offset),
-        Op::Call(func) => Instr::Call(func),
-        Op::Br(label) => Instr::Br(label),
-        Op::BrIf(label) => Instr::BrIf(label),
     }
 }

@@ -1,10 +1,11 @@
 //! The memory of objects: they are handed out one after the other, up to the end of the room, and never taken back.
 
 use crate::layout::NEXT_OBJECT;
+use crate::line::Op::{self, Do, Get, GetGlobal, I32, Memory, SetGlobal, Tee};
+use crate::line::add_line;
 use crate::operations::{TO_ADDRESS, TO_WORD};
-use crate::parts::Op::{self, Do, Get, GetGlobal, I32, Memory, SetGlobal, Tee};
 use crate::parts::Part::{self, If, Line};
-use crate::parts::{add_line, add_parts};
+use crate::parts::add_parts;
 use crate::signatures::BINARY;
 use sqlite_items::Items;
 use std::alloc::Global;
@@ -35,9 +36,9 @@ pub fn allocate(alloc: Global, room_end: u64) -> Result<Func, NoMemory> {
         Do(I64_ADD),
         Tee(END),
     ];
-    add_line(&object_end, &mut body)?;
+    add_line(&mut body, &object_end)?;
     let passes_room = [Op::I64(room_end), Do(I64_GT_U)];
-    add_line(&passes_room, &mut body)?;
+    add_line(&mut body, &passes_room)?;
     add_parts(alloc, HAND_OUT, &mut body)?;
     Ok(Func {
         ty: BINARY,

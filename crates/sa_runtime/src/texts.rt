@@ -6,9 +6,9 @@ use crate::copying::{
     WRITE_BYTE_ON, WRITE_WORD_ON,
 };
 use crate::layout::{ALLOCATE, STR, TEXT};
+use crate::line::Op::{Br, Call, Do, Get, I32, I64, Memory, Set, Tee};
 use crate::locals::{FIRST, FROM, LEFT, MADE, SECOND, SELF, SIZE, TO};
 use crate::operations::{LOAD_COUNT, LOAD_LENGTH, TO_ADDRESS, TO_WORD};
-use crate::parts::Op::{Br, Call, Do, Get, I32, I64, Memory, Set, Tee};
 use crate::parts::Part::{self, Block, Line, Loop, Sequence};
 use wa_syntax::opcode::{
     I32_ADD, I32_EQZ, I32_LOAD8_U, I32_OR, I32_STORE8, I32_SUB, I64_ADD, I64_AND, I64_GE_U,

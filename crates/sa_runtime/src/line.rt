@@ -1,7 +1,6 @@
 //! Instructions that hold no others, as data, and how they are added to a list.
 
 use sqlite_items::Items;
-use std::alloc::Global;
 use wa_syntax::{Instr, NoMemory};
 
 /// An instruction that holds no others.
@@ -16,7 +15,7 @@ pub enum Op {
     /// Writes a local and keeps the operand.
     Tee(u32),
     /// Reads a global.
-    Global(u32),
+    GetGlobal(u32),
     /// Writes a global.
     SetGlobal(u32),
     /// A constant of 32 bits.
@@ -31,12 +30,14 @@ pub enum Op {
     CallIndirect(u32),
     /// A branch to a label.
     Br(u32),
+    /// A branch to a label where the operand isn't 0.
+    BrIf(u32),
 }
 
 /// Adds these instructions.
-pub fn add_line(code: &mut Items<Instr>, ops: &[Op]) -> Result<(), NoMemory> {
+pub fn add_line(to: &mut Items<Instr>, ops: &[Op]) -> Result<(), NoMemory> {
     for op in ops {
-        code.push(instruction(*op))?;
+        to.push(instruction(*op))?;
     }
     Ok(())
 }
@@ -48,7 +49,7 @@ fn instruction(op: Op) -> Instr {
         Op::Get(local) => Instr::LocalGet(local),
         Op::Set(local) => Instr::LocalSet(local),
         Op::Tee(local) => Instr::LocalTee(local),
-        Op::Global(global) => Instr::GlobalGet(global),
+        Op::GetGlobal(global) => Instr::GlobalGet(global),
         Op::SetGlobal(global) => Instr::GlobalSet(global),
         Op::I32(bits) => Instr::I32Const(bits),
         Op::I64(bits) => Instr::I64Const(bits),
@@ -56,11 +57,6 @@ fn instruction(op: Op) -> Instr {
         Op::Call(func) => Instr::Call(func),
         Op::CallIndirect(ty) => Instr::CallIndirect(ty),
         Op::Br(label) => Instr::Br(label),
+        Op::BrIf(label) => Instr::BrIf(label),
     }
-}
-
-/// Adds an `if` that does this where the operand isn't 0.
-pub fn add_if(alloc: Global, code: &mut Items<Instr>, then: Items<Instr>) -> Result<(), NoMemory> {
-    code.push(Instr::If(None, then, Items::new(alloc)))?;
-    Ok(())
 }
