@@ -1,0 +1,4 @@
+pub mod Division
+pub mod ChainLemmas
+pub mod Steps
+pub mod Moves

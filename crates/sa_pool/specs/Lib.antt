@@ -1,0 +1,5 @@
+pub mod Head
+pub mod Numbers
+pub mod Slots
+pub mod Chain
+pub mod Changes
