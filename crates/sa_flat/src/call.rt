@@ -1,7 +1,8 @@
 //! Calls: what is called, with which variables, and where its faults and raises go.
 
-use sa_tree::Mode;
+use sa_tree::{Mode, NoMemory};
 use sqlite_items::Items;
+use std::alloc::Global;
 
 /// What a call reaches.
 #[derive(Clone, Copy, Debug, PartialEq, Eq, Hash)]
@@ -63,4 +64,18 @@ pub struct CallPlan {
     /// The variable that gets the result.
     pub value: Option<u32>,
     pub fail: Fail,
+}
+
+impl CallPlan {
+    /// The same call once more.
+    pub fn copy(&self, alloc: Global) -> Result<CallPlan, NoMemory> {
+        Ok(CallPlan {
+            callee: self.callee,
+            class: self.class,
+            recv: self.recv,
+            args: Items::from_slice(alloc, self.args.as_slice())?,
+            value: self.value,
+            fail: self.fail,
+        })
+    }
 }

@@ -3,9 +3,11 @@
 
 use crate::body::{FlatBlock, FlatBody, FlatFormal};
 use crate::call::{Fail, Raised};
+use crate::loops::OwnSites;
+use crate::program::BindEntry;
 use crate::step::{FlatExit, FlatStep};
 use indexmap::{IndexMap, IndexSet};
-use sa_tree::{Name, NoMemory, Pos};
+use sa_tree::{Name, NoMemory, Pos, Ty};
 use sqlite_items::Items;
 use std::alloc::Global;
 use std::mem;
@@ -40,21 +42,27 @@ pub struct Guard {
     pub outside: u32,
 }
 
-/// A loop around a place: its sites in order, and the block that follows it.
+/// A loop around a place.
 #[derive(Drop)]
 pub struct LoopEnd {
     pub number: u32,
+    /// Its sites, rising.
     pub sites: Items<u32>,
+    /// Where leaving the loop goes: the block that ends its instances, or the one behind it where it has no sites.
     pub after: u32,
+    /// The block that ends the instances of the loop and of those around it and then leaves the body, where one of these loops
+    /// has sites.
+    pub out: Option<u32>,
 }
 
 /// What is around a place besides its loops: where a raise goes, the innermost protect, and the variable that holds the
-/// exception of the innermost branch.
+/// exception of the innermost branch, with the number of its type.
 #[derive(Clone, Copy, Debug, PartialEq, Eq, Hash)]
 pub struct Ends {
     pub raised: Raised,
     pub guard: Option<Guard>,
     pub exception: Option<u32>,
+    pub exception_ty: u32,
 }
 
 impl Ends {
@@ -64,6 +72,7 @@ impl Ends {
             raised: LEAVING,
             guard: None,
             exception: None,
+            exception_ty: 0,
         }
     }
 }
@@ -88,30 +97,47 @@ pub struct Draft {
     steps: Items<FlatStep>,
     /// The number of the open block.
     open: u32,
+    /// The number of the first temporary of a statement.
+    first: u32,
     /// The number of the next temporary.
     temporary: u32,
     /// Whether a call of the statement writes variables.
     writes: bool,
     /// The loops around the place, outermost first.
     pub loops: Items<LoopEnd>,
+    /// The sites of the body by their loops.
+    own_sites: OwnSites,
     /// The different texts so far.
     pub texts: IndexSet<Name>,
+    /// What the binds so far make.
+    pub binds: Items<BindEntry>,
     /// The first place of each position in the program's positions, with its line.
     spots: IndexMap<Pos, Spot>,
+    /// The number of each type of the program.
+    types: IndexMap<Ty, u32>,
 }
 
 impl Draft {
-    /// No body yet, for a program with these positions and their lines.
-    pub fn new(alloc: Global, sites: &[Pos], lines: &[u32]) -> Result<Draft, NoMemory> {
+    /// No body yet, for a program with these positions and their lines, and these numbers of its types.
+    pub fn new(
+        alloc: Global,
+        sites: &[Pos],
+        lines: &[u32],
+        types: IndexMap<Ty, u32>,
+    ) -> Result<Draft, NoMemory> {
         Ok(Draft {
             body: no_body(alloc),
             steps: Items::new(alloc),
             open: 0,
+            first: FIRST_OF_STATEMENT,
             temporary: FIRST_OF_STATEMENT,
             writes: false,
             loops: Items::new(alloc),
+            own_sites: OwnSites::none(alloc),
             texts: IndexSet::new(alloc),
+            binds: Items::new(alloc),
             spots: spots(alloc, sites, lines)?,
+            types,
         })
     }
 
@@ -131,6 +157,8 @@ impl Draft {
         };
         self.steps = Items::new(alloc);
         self.loops = Items::new(alloc);
+        self.own_sites = OwnSites::none(alloc);
+        self.first = FIRST_OF_STATEMENT;
         self.temporary = FIRST_OF_STATEMENT;
         self.open = self.block(alloc)?;
         self.body.blocks.push(FlatBlock {
@@ -142,6 +170,32 @@ impl Draft {
             },
         })?;
         Ok(())
+    }
+
+    /// Gives the body sites, each with the number of the loop that owns its instance.
+    pub fn own_sites(&mut self, alloc: Global, owners: &[u32]) -> Result<(), NoMemory> {
+        self.body.sites = held(u32::try_from(owners.len()).ok())?;
+        self.own_sites = OwnSites::of(alloc, owners)?;
+        Ok(())
+    }
+
+    /// The sites of a loop, rising.
+    pub fn sites_of(&self, alloc: Global, number: u32) -> Result<Items<u32>, NoMemory> {
+        self.own_sites.of_loop(alloc, number)
+    }
+
+    /// Where leaving the innermost loop goes. Fails outside loops.
+    pub fn after(&self) -> Result<u32, NoMemory> {
+        let innermost = held(self.loops.as_slice().last())?;
+        Ok(innermost.after)
+    }
+
+    /// The block that ends the instances of the loops around the place and then leaves the body, if one of them has sites.
+    pub fn out(&self) -> Option<u32> {
+        match self.loops.as_slice().last() {
+            Some(innermost) => innermost.out,
+            None => None,
+        }
     }
 
     /// The body, whose last block has been ended.
@@ -191,8 +245,21 @@ impl Draft {
     /// Begins a statement: what the temporaries held isn't read any more. `writes` tells whether a call of the statement
     /// writes variables of the feature.
     pub fn statement(&mut self, writes: bool) {
-        self.temporary = FIRST_OF_STATEMENT;
+        self.temporary = self.first;
         self.writes = writes;
+    }
+
+    /// Sets temporaries aside that outlive the statements behind this place, and gives the first of them.
+    pub fn set_aside(&mut self, count: u32) -> Result<u32, NoMemory> {
+        let number = self.first;
+        self.first = held(number.checked_add(count))?;
+        self.body.temporaries = self.body.temporaries.max(self.first);
+        Ok(number)
+    }
+
+    /// Lets statements use the temporaries again that were set aside last.
+    pub fn give_back(&mut self, count: u32) {
+        self.first = self.first.saturating_sub(count);
     }
 
     /// Whether a call of the statement writes variables, so that a variable that is an operand has to be copied before the
@@ -219,6 +286,18 @@ impl Draft {
             }
         };
         held(u32::try_from(at).ok())
+    }
+
+    /// The number of a type of the program.
+    pub fn type_number(&self, ty: &Ty) -> Result<u32, NoMemory> {
+        held(self.types.get(ty).copied())
+    }
+
+    /// Adds what a bind makes, and gives its number.
+    pub fn bind(&mut self, entry: BindEntry) -> Result<u32, NoMemory> {
+        let number = held(u32::try_from(self.binds.len()).ok())?;
+        self.binds.push(entry)?;
+        Ok(number)
     }
 
     /// What a fault at a position tells, where it goes the way of a raise.

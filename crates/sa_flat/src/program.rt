@@ -27,9 +27,10 @@ pub struct Layout {
 pub struct BindEntry {
     /// The number of the bound type.
     pub ty: u32,
-    /// What a call of the bound value does.
+    /// What a call of the bound value does: a body of a feature, a built-in, an attribute or a shared; or a signature, whose
+    /// implementation is chosen when the value is made.
     pub callee: Callee,
-    /// The number of the type whose feature is called.
+    /// The number of the type whose feature is called, or 0 for a signature.
     pub class: u32,
     /// For each argument of the feature whether it is left open.
     pub open: Items<bool>,

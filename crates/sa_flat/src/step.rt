@@ -63,6 +63,18 @@ pub enum FlatStep {
         ty: u32,
         fail: Fail,
     },
+    /// The value that a bind keeps for an argument whose type in the signature is the immutable class `ty`: widened where the
+    /// class of `recv` is one of `types`, whose implementations take the argument at an abstract type; else the value itself.
+    /// It may fail for want of room.
+    WidenFor {
+        to: u32,
+        from: u32,
+        ty: u32,
+        recv: u32,
+        /// Rising.
+        types: Items<u32>,
+        fail: Fail,
+    },
     /// A widened value as it stands at its own class `ty`.
     Unwrap {
         to: u32,
@@ -109,10 +121,16 @@ pub enum FlatStep {
         plan: CallPlan,
         quit: u32,
     },
+    /// In a body that was made for an implementation by an iter: whether the instance that it is entered for has a frame
+    /// already, so that it is resumed.
+    HasFrame {
+        to: u32,
+    },
     /// In a body that was made for an implementation by an iter: at a start takes the instance's frame, and runs the iter's
-    /// body on that frame.
+    /// body on that frame. `recv` is the instance's own object, which is read at a start alone.
     Enter {
         body: u32,
+        recv: u32,
         args: Items<FlatArg>,
         value: Option<u32>,
         quit: u32,
