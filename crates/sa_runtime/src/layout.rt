@@ -58,8 +58,135 @@ pub const BOXED: u32 = 40;
 /// The function that gives the immutable value that was widened.
 pub const UNWRAPPED: u32 = 41;
 
+/// The function that takes a slot of the pool of frames, and gives its number or -1.
+pub const TAKE: u32 = 42;
+
+/// The function that gives a slot back by its number.
+pub const GIVE: u32 = 43;
+
+/// The function that takes a frame and gives its address, or 0 where all are taken.
+pub const NEW_FRAME: u32 = 44;
+
+/// The function that gives a frame back.
+pub const END_FRAME: u32 = 45;
+
+/// The function that gives back a frame and those of the instances inside it, inner ones first.
+pub const RELEASE: u32 = 46;
+
+/// The function that calls a bound value on the arguments in the area.
+pub const BOUND_CALL: u32 = 47;
+
 /// The function of the first body of the program.
-pub const FIRST_BODY: u32 = 42;
+pub const FIRST_BODY: u32 = 48;
+
+/// The number of the type that the function of each body has, behind those of the three imported functions: it takes the depth
+/// of its activation and its frame, or 0, and answers a status.
+pub const BODY_TYPE: u32 = 3;
+
+/// The status of a body that has returned.
+pub const RETURNED: u32 = 0;
+
+/// The status of a body that a raise has left.
+pub const RAISED: u32 = 1;
+
+/// The status of a body that is suspended.
+pub const SUSPENDED: u32 = 2;
+
+/// The status of a body whose instance has ended.
+pub const ENDED: u32 = 3;
+
+/// The status of a body that hands on a fault, whose number is in `FAULT_KIND`.
+pub const HANDED_ON: u32 = 4;
+
+/// The number of the fault of activations that nest too deep.
+pub const TOO_DEEP: u32 = 10;
+
+/// The number of the fault of too many instances.
+pub const TOO_MANY_FRAMES: u32 = 11;
+
+/// How deep activations may nest.
+pub const GREATEST_DEPTH: u32 = 10_000;
+
+/// The word of a frame, of 32 bits, with the next instance of the same activation. While a frame is released it is the one of
+/// the instance around it.
+pub const SIBLING_AT: u32 = 0;
+
+/// The word of a frame, of 32 bits, with the number of the site in the activation that the instance belongs to.
+pub const SITE_AT: u32 = 4;
+
+/// The word of a frame, of 32 bits, with the number of the head that a resumption goes on in. It is 0 at a start.
+pub const BLOCK_AT: u32 = 8;
+
+/// The word of a frame, of 32 bits, with the first of the instances that the suspended body has, or 0.
+pub const INSIDE_AT: u32 = 12;
+
+/// The word of a frame with the instance's own object.
+pub const FRAME_SELF_AT: u32 = 16;
+
+/// The word of a frame, of 32 bits, with the class of the receiver of a dispatched start, or the bound value that was started.
+pub const CALLED_AT: u32 = 24;
+
+/// The word of a frame with the first of the variables that are kept.
+pub const FIRST_KEPT_AT: u32 = 32;
+
+/// How many words a frame has besides the variables that are kept.
+pub const FRAME_WORDS: u32 = 4;
+
+/// The word of a bind, of 32 bits, with what its values call: the number of a form, below.
+pub const KIND_AT: u32 = 0;
+
+/// The word of a bind, of 32 bits, with the place in the table, of an attribute in an object, or of a shared in memory.
+pub const NUMBER_AT: u32 = 4;
+
+/// The word of a bind, of 32 bits, with the number of the class whose built-in feature or immutable attribute is called.
+pub const TYPE_AT: u32 = 8;
+
+/// The word of a bind, of 32 bits, with the place of the first element in an array of that class, or with the number of its
+/// attributes.
+pub const FIRST_AT: u32 = 12;
+
+/// The word of a bind, of 32 bits, with the number of arguments of what is called.
+pub const COUNT_AT: u32 = 16;
+
+/// The word of a bind, of 32 bits, with how many of the arguments a value keeps.
+pub const GIVEN_AT: u32 = 20;
+
+/// The first byte of a bind that tells of an argument whether it is open (1) or kept (0).
+pub const OPEN_AT: u32 = 24;
+
+/// A routine that the receiver's class chose, an iter, or a body that was made for an implementation: the place in the table
+/// stands above the receiver's address.
+pub const CHOSEN_ROUTINE: u32 = 0;
+
+pub const CHOSEN_ITER: u32 = 1;
+
+pub const CHOSEN_MADE: u32 = 2;
+
+/// A routine, an iter, or a body that was made for an implementation, by its place in the table.
+pub const ROUTINE: u32 = 3;
+
+pub const ITER: u32 = 4;
+
+pub const MADE: u32 = 5;
+
+/// Reads an attribute of an object, or of an immutable value.
+pub const GET_OF_OBJECT: u32 = 6;
+
+pub const GET_OF_VALUE: u32 = 7;
+
+/// Writes an attribute of an object, or gives a changed copy of an immutable value.
+pub const SET_OF_OBJECT: u32 = 8;
+
+pub const SET_OF_VALUE: u32 = 9;
+
+/// Reads a shared.
+pub const GET_SHARED: u32 = 10;
+
+/// Writes a shared.
+pub const SET_SHARED: u32 = 11;
+
+/// The built-in feature with the number 0; the others follow it in the order of their numbers.
+pub const FIRST_BOUND_BUILTIN: u32 = 12;
 
 /// The address of the word that hands `self` to a body.
 pub const SELF_AT: u32 = 16;

@@ -1,15 +1,20 @@
-//! The built-in features of the language, and what makes objects, as functions of a WebAssembly module.
+//! The built-in features of the language, what makes objects, frames and calls of bound values, as functions of a WebAssembly
+//! module.
 #![tactic(auto)]
 
 mod answers;
 mod arrays;
 mod booleans;
+mod bound;
+mod bound_features;
+mod bound_locals;
 mod builtins;
 mod characters;
 mod comparisons;
 mod copying;
 mod decimal;
 mod faults;
+mod frame;
 mod identity;
 mod immutables;
 mod integers;
@@ -18,10 +23,11 @@ pub mod line;
 mod locals;
 mod operations;
 mod output;
-mod parts;
+pub mod parts;
 mod room;
 mod runtime;
 mod signatures;
+mod spread;
 mod texts;
 
-pub use runtime::{RuntimeCode, code, support};
+pub use runtime::{RuntimeCode, code, frames, support};

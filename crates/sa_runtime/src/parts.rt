@@ -1,4 +1,4 @@
-//! How the functions of this crate are written down, and how they become functions of a module.
+//! How functions are written down as constants, and how they become functions of a module.
 
 ghost use Rattle.std.specs.Prelude.{◌≡◌, length, IfOk};
 
@@ -43,7 +43,7 @@ pub fn functions(alloc: Global, list: &[Function]) -> Result<Items<Func>, NoMemo
 }
 
 /// The function.
-fn func(alloc: Global, function: &Function) -> Result<Func, NoMemory> {
+pub(crate) fn func(alloc: Global, function: &Function) -> Result<Func, NoMemory> {
     Ok(Func {
         ty: function.0,
         locals: locals(alloc, function.1)?,
@@ -52,7 +52,7 @@ fn func(alloc: Global, function: &Function) -> Result<Func, NoMemory> {
 }
 
 /// The locals.
-fn locals(alloc: Global, working: Working) -> Result<Locals, NoMemory> {
+pub(crate) fn locals(alloc: Global, working: Working) -> Result<Locals, NoMemory> {
     let mut locals = Locals::new(alloc);
     locals.push(working.0, ValTy::I64)?;
     locals.push(working.1, ValTy::I32)?;
@@ -60,7 +60,7 @@ fn locals(alloc: Global, working: Working) -> Result<Locals, NoMemory> {
 }
 
 /// The types of functions, in order.
-pub fn types(alloc: Global, list: &[Signature]) -> Result<Items<FuncTy>, NoMemory> {
+pub(crate) fn types(alloc: Global, list: &[Signature]) -> Result<Items<FuncTy>, NoMemory> {
     let mut types = Items::new(alloc);
     for signature in list {
         types.push(FuncTy {

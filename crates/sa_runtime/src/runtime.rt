@@ -2,10 +2,12 @@
 
 ghost use Rattle.std.specs.Prelude.{◌≡◌, length, IfOk};
 
+use crate::bound::bound_call;
 use crate::builtins::{BUILTINS, SUPPORT};
-use crate::parts::{functions, types};
+use crate::frame::{RELEASE, end_frame, new_frame};
+use crate::parts::{func, functions, types};
 use crate::room::allocate;
-use crate::signatures::{BUILTIN_TYPES, SUPPORT_TYPES};
+use crate::signatures::{BUILTIN_TYPES, FRAME_TYPES, SUPPORT_TYPES};
 use sqlite_items::Items;
 use std::alloc::Global;
 use wa_syntax::{Func, FuncTy, NoMemory};
@@ -38,4 +40,19 @@ pub fn support(alloc: Global) -> Result<RuntimeCode, NoMemory>
         types: types(alloc, &SUPPORT_TYPES)?,
         funcs: functions(alloc, &SUPPORT)?,
     })
+}
+
+/// The functions `NEW_FRAME`, `END_FRAME`, `RELEASE` and `BOUND_CALL`, in this order, where the slots of the pool have so many
+/// bytes and the first one lies at the address `first`. The first two types are those of `TAKE` and `GIVE` too, in this order.
+/// Fails where memory runs out.
+pub fn frames(alloc: Global, first: u32, slot_bytes: u32) -> Result<RuntimeCode, NoMemory>
+    ensures { IfOk result (λ code. length code.funcs ≡ 4) }
+{
+    let types = types(alloc, &FRAME_TYPES)?;
+    let mut funcs = Items::new(alloc);
+    funcs.push(new_frame(alloc, first, slot_bytes)?)?;
+    funcs.push(end_frame(alloc, first, slot_bytes)?)?;
+    funcs.push(func(alloc, &RELEASE)?)?;
+    funcs.push(bound_call(alloc)?)?;
+    Ok(RuntimeCode { types, funcs })
 }

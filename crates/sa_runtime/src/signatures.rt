@@ -78,3 +78,28 @@ pub const SUPPORT_TYPES: [Signature; 5] = [
         results: &[I64],
     },
 ];
+
+/// The types of `NEW_FRAME` and `TAKE`, of `END_FRAME`, `RELEASE` and `GIVE`, and of `BOUND_CALL`.
+pub const FRAME_TYPES: [Signature; 3] = [
+    Signature {
+        params: &[],
+        results: &[I32],
+    },
+    Signature {
+        params: &[I32],
+        results: &[],
+    },
+    Signature {
+        params: &[I32, I32, I32],
+        results: &[I32],
+    },
+];
+
+/// The type of a function that takes a frame out of the pool.
+pub const TAKES_FRAME: u32 = 0;
+
+/// The type of a function that gives frames back.
+pub const GIVES_FRAME: u32 = 1;
+
+/// The type of `BOUND_CALL`.
+pub const CALLS_BOUND: u32 = 2;

@@ -1,0 +1,140 @@
+//! `BOUND_CALL`: the call of a bound value. What it calls stands in the words of its bind, so the function is the same in each
+//! program.
+
+use crate::bound_features::add_features;
+use crate::bound_locals::{BEHIND_BOUND, DEPTH, ENTRY, FRAME, INDEX, KIND, OBJECT, SELF, STATUS};
+use crate::layout::{
+    BODY_TYPE, END_FRAME, FAULT_KIND, FRAME_OUT, FRAME_SELF_AT, GREATEST_DEPTH, HANDED_ON, KIND_AT,
+    MADE, NEW_FRAME, NUMBER_AT, RETURNED, ROUTINE, SELF_AT, SUSPENDED, TOO_DEEP, TOO_MANY_FRAMES,
+};
+use crate::line::Op::{Br, Call, CallIndirect, Do, Get, I32, I64, Memory, Set, SetGlobal, Tee};
+use crate::operations::{LOAD_COUNT, TO_ADDRESS};
+use crate::parts::Part::{self, Block, If, Line, Sequence};
+use crate::parts::{add_parts, instructions, locals};
+use crate::signatures::CALLS_BOUND;
+use crate::spread::{GATHER, SPREAD};
+use std::alloc::Global;
+use wa_syntax::opcode::{
+    I32_ADD, I32_EQ, I32_EQZ, I32_GE_U, I32_LE_U, I32_LOAD, I32_LT_U, I32_NE, I64_AND, I64_LOAD,
+    I64_SHR_U, I64_STORE, RETURN,
+};
+use wa_syntax::{Func, NoMemory};
+
+/// Where a bound value has its receiver.
+const RECEIVER_AT: u32 = 8;
+
+/// Reads the words of the bind and the receiver.
+const READ_BIND: Part = Sequence(&[
+    Line(&[Get(OBJECT), LOAD_COUNT, Tee(ENTRY)]),
+    Line(&[Memory(I32_LOAD, KIND_AT), Set(KIND)]),
+    Line(&[Get(ENTRY), Memory(I32_LOAD, NUMBER_AT), Set(INDEX)]),
+    Line(&[Get(OBJECT), Memory(I64_LOAD, RECEIVER_AT), Set(SELF)]),
+]);
+
+/// Where the receiver's class chose what is called, takes its place in the table from above the receiver's address. The forms
+/// of what was chosen stand in the same order as those of what is called by its place.
+const READ_CHOSEN: Part = Sequence(&[
+    Line(&[Get(KIND), I32(ROUTINE), Do(I32_LT_U)]),
+    If(&[
+        Line(&[Get(SELF), I64(32), Do(I64_SHR_U), TO_ADDRESS, Set(INDEX)]),
+        Line(&[Get(SELF), I64(0xffff_ffff), Do(I64_AND), Set(SELF)]),
+        Line(&[Get(KIND), I32(ROUTINE), Do(I32_ADD), Set(KIND)]),
+    ]),
+]);
+
+/// Hands on the fault of an activation that would nest too deep.
+const DEPTH_TEST: Part = Sequence(&[
+    Line(&[Get(DEPTH), I32(GREATEST_DEPTH), Do(I32_GE_U)]),
+    If(&[
+        Line(&[I32(TOO_DEEP), SetGlobal(FAULT_KIND)]),
+        Line(&[I32(HANDED_ON), Do(RETURN)]),
+    ]),
+]);
+
+/// Hands the own object to a body.
+const HAND_SELF: Part = Line(&[I32(0), Get(SELF), Memory(I64_STORE, SELF_AT)]);
+
+/// The depth of a new activation.
+const DEEPER: Part = Line(&[Get(DEPTH), I32(1), Do(I32_ADD)]);
+
+/// Calls a routine, where that is the form.
+const CALL_ROUTINE: Part = Sequence(&[
+    Line(&[Get(KIND), I32(ROUTINE), Do(I32_EQ)]),
+    If(&[
+        DEPTH_TEST,
+        HAND_SELF,
+        DEEPER,
+        Line(&[I32(0), Get(INDEX), CallIndirect(BODY_TYPE)]),
+        Line(&[Set(STATUS), Br(1)]),
+    ]),
+]);
+
+/// Calls a body that was made for an implementation, where that is the form. It is no activation: it tests the depth itself
+/// where it enters one, and takes and gives back the frame.
+const CALL_MADE: Part = Sequence(&[
+    Line(&[Get(KIND), I32(MADE), Do(I32_EQ)]),
+    If(&[
+        HAND_SELF,
+        Line(&[Get(DEPTH), Get(FRAME)]),
+        Line(&[Get(INDEX), CallIndirect(BODY_TYPE)]),
+        Line(&[Set(STATUS), Br(1)]),
+    ]),
+]);
+
+/// Takes a frame for an iter that begins, or hands on the fault that all are taken.
+const TAKE_FRAME: Part = Sequence(&[
+    Line(&[Get(FRAME), Do(I32_EQZ)]),
+    If(&[
+        Line(&[Call(NEW_FRAME), Tee(FRAME), Do(I32_EQZ)]),
+        If(&[
+            Line(&[I32(TOO_MANY_FRAMES), SetGlobal(FAULT_KIND)]),
+            Line(&[I32(HANDED_ON), Do(RETURN)]),
+        ]),
+        Line(&[Get(FRAME), Get(SELF), Memory(I64_STORE, FRAME_SELF_AT)]),
+    ]),
+]);
+
+/// Calls an iter, or goes on in it. Its frame is given back where it isn't suspended, and nothing is copied back then.
+const CALL_ITER: Part = Sequence(&[
+    DEPTH_TEST,
+    TAKE_FRAME,
+    DEEPER,
+    Line(&[Get(FRAME), Get(INDEX), CallIndirect(BODY_TYPE)]),
+    Line(&[Tee(STATUS), I32(SUSPENDED), Do(I32_NE)]),
+    If(&[Line(&[Get(FRAME), Call(END_FRAME), Get(STATUS), Do(RETURN)])]),
+    Line(&[Get(FRAME), SetGlobal(FRAME_OUT)]),
+]);
+
+/// Calls a body and answers its status, where that is the form. Nobody reads the arguments behind a raise, so they may be put
+/// back then too.
+const CALL_BODY: Part = Sequence(&[
+    Line(&[Get(KIND), I32(MADE), Do(I32_LE_U)]),
+    If(&[
+        Block(&[CALL_ROUTINE, CALL_MADE, CALL_ITER]),
+        GATHER,
+        Line(&[Get(STATUS), Do(RETURN)]),
+    ]),
+]);
+
+/// Hands on the fault of a feature without a body, where its status isn't 0.
+const ANSWER_STATUS: Part = Sequence(&[
+    Line(&[Get(STATUS)]),
+    If(&[
+        Line(&[Get(STATUS), SetGlobal(FAULT_KIND)]),
+        Line(&[I32(HANDED_ON), Do(RETURN)]),
+    ]),
+    Line(&[I32(RETURNED)]),
+]);
+
+/// `BOUND_CALL`, of the depth of the activation that calls, the frame to go on with or 0, and the bound value. It answers the
+/// status of a body; the faults of features without one are handed on, and so are those of the depth and of the frames.
+pub fn bound_call(alloc: Global) -> Result<Func, NoMemory> {
+    let mut body = instructions(alloc, &[READ_BIND, READ_CHOSEN, SPREAD, CALL_BODY])?;
+    add_features(alloc, &mut body)?;
+    add_parts(alloc, &[ANSWER_STATUS], &mut body)?;
+    Ok(Func {
+        ty: CALLS_BOUND,
+        locals: locals(alloc, BEHIND_BOUND)?,
+        body,
+    })
+}

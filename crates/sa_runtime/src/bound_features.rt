@@ -1,0 +1,174 @@
+//! Calls of bound values whose features have no body: attributes, shareds and built-in features. Each does what a call of the
+//! feature itself does.
+
+use crate::answers::VOID;
+use crate::bound_locals::{ENTRY, INDEX, KIND, SELF, STATUS};
+use crate::builtins::BUILTINS;
+use crate::layout::{
+    CHANGED, FAULT_KIND, FIRST_ARGUMENT_AT, FIRST_AT, FIRST_BOUND_BUILTIN, FIRST_BUILTIN,
+    GET_OF_OBJECT, GET_OF_VALUE, GET_SHARED, HANDED_ON, RESULT, RETURNED, SET_OF_OBJECT,
+    SET_OF_VALUE, SET_SHARED, TYPE_AT,
+};
+use crate::line::Op::{self, Br, Call, Do, Get, I32, I64, Memory, Set, SetGlobal};
+use crate::line::add_line;
+use crate::operations::TO_ADDRESS;
+use crate::parts::Part::{self, If, Line, Sequence};
+use crate::parts::{add_parts, instructions};
+use sqlite_items::Items;
+use std::alloc::Global;
+use wa_syntax::opcode::{
+    I32_ADD, I32_EQ, I32_LOAD, I64_EQZ, I64_LOAD, I64_NE, I64_STORE, RETURN, UNREACHABLE,
+};
+use wa_syntax::{Instr, NoMemory};
+
+/// The first argument, as an operand.
+const FIRST_ARGUMENT: Part = Line(&[I32(0), Memory(I64_LOAD, FIRST_ARGUMENT_AT)]);
+
+/// The second argument, as an operand.
+const SECOND_ARGUMENT: Part = Line(&[I32(0), Memory(I64_LOAD, FIRST_ARGUMENT_AT + 8)]);
+
+/// The number of the class, as an operand.
+const CLASS: Part = Line(&[Get(ENTRY), Memory(I32_LOAD, TYPE_AT)]);
+
+/// Where the elements of an array begin, or the number of attributes, as an operand.
+const FIRST: Part = Line(&[Get(ENTRY), Memory(I32_LOAD, FIRST_AT)]);
+
+/// The address of the attribute of the own object, as an operand.
+const ATTRIBUTE: Part = Line(&[Get(SELF), TO_ADDRESS, Get(INDEX), Do(I32_ADD)]);
+
+/// Reads the attribute.
+const READ_ATTRIBUTE: Part = Sequence(&[
+    ATTRIBUTE,
+    Line(&[Memory(I64_LOAD, 0), SetGlobal(RESULT)]),
+]);
+
+/// Answers that the feature has returned.
+const RETURN_DONE: Part = Line(&[I32(RETURNED), Do(RETURN)]);
+
+/// Hands on the fault of an own object that is void.
+const VOID_TEST: Part = Sequence(&[
+    Line(&[Get(SELF), Do(I64_EQZ)]),
+    If(&[
+        Line(&[I32(VOID), SetGlobal(FAULT_KIND)]),
+        Line(&[I32(HANDED_ON), Do(RETURN)]),
+    ]),
+]);
+
+/// Reads an attribute of an object.
+const READ_OF_OBJECT: Part = Sequence(&[
+    Line(&[Get(KIND), I32(GET_OF_OBJECT), Do(I32_EQ)]),
+    If(&[VOID_TEST, READ_ATTRIBUTE, RETURN_DONE]),
+]);
+
+/// Reads an attribute of an immutable value: it is void where the value is.
+const READ_OF_VALUE: Part = Sequence(&[
+    Line(&[Get(KIND), I32(GET_OF_VALUE), Do(I32_EQ)]),
+    If(&[
+        Line(&[I64(0), SetGlobal(RESULT)]),
+        Line(&[Get(SELF), I64(0), Do(I64_NE)]),
+        If(&[READ_ATTRIBUTE]),
+        RETURN_DONE,
+    ]),
+]);
+
+/// Writes an attribute of an object.
+const WRITE_OF_OBJECT: Part = Sequence(&[
+    Line(&[Get(KIND), I32(SET_OF_OBJECT), Do(I32_EQ)]),
+    If(&[
+        VOID_TEST,
+        ATTRIBUTE,
+        FIRST_ARGUMENT,
+        Line(&[Memory(I64_STORE, 0)]),
+        RETURN_DONE,
+    ]),
+]);
+
+/// Makes a copy of an immutable value with another attribute, and leaves the block with its status.
+const WRITE_OF_VALUE: Part = Sequence(&[
+    Line(&[Get(KIND), I32(SET_OF_VALUE), Do(I32_EQ)]),
+    If(&[
+        Line(&[Get(SELF)]),
+        FIRST_ARGUMENT,
+        CLASS,
+        FIRST,
+        Line(&[Get(INDEX), Call(CHANGED), Set(STATUS), Br(1)]),
+    ]),
+]);
+
+/// Reads a shared.
+const READ_SHARED: Part = Sequence(&[
+    Line(&[Get(KIND), I32(GET_SHARED), Do(I32_EQ)]),
+    If(&[
+        Line(&[Get(INDEX), Memory(I64_LOAD, 0), SetGlobal(RESULT)]),
+        RETURN_DONE,
+    ]),
+]);
+
+/// Writes a shared.
+const WRITE_SHARED: Part = Sequence(&[
+    Line(&[Get(KIND), I32(SET_SHARED), Do(I32_EQ)]),
+    If(&[
+        Line(&[Get(INDEX)]),
+        FIRST_ARGUMENT,
+        Line(&[Memory(I64_STORE, 0)]),
+        RETURN_DONE,
+    ]),
+]);
+
+/// The features that aren't built in.
+const ATTRIBUTES_AND_SHAREDS: &[Part] = &[
+    READ_OF_OBJECT,
+    READ_OF_VALUE,
+    WRITE_OF_OBJECT,
+    WRITE_OF_VALUE,
+    READ_SHARED,
+    WRITE_SHARED,
+];
+
+/// What a built-in feature takes behind `self`, at the place that is the number of its type.
+const OPERANDS: [&[Part]; 6] = [
+    &[],
+    &[FIRST_ARGUMENT],
+    &[FIRST_ARGUMENT, SECOND_ARGUMENT],
+    &[FIRST_ARGUMENT, FIRST],
+    &[FIRST_ARGUMENT, SECOND_ARGUMENT, FIRST],
+    &[FIRST_ARGUMENT, CLASS, FIRST],
+];
+
+/// Adds a block that calls the feature. Behind it the status is 0 or the number of a fault; features that end otherwise answer
+/// at once.
+pub fn add_features(alloc: Global, to: &mut Items<Instr>) -> Result<(), NoMemory> {
+    let mut tests = instructions(alloc, ATTRIBUTES_AND_SHAREDS)?;
+    for (number, function) in BUILTINS.iter().enumerate() {
+        add_builtin(alloc, &mut tests, number as u32, function.0)?;
+    }
+    add_line(&mut tests, &[Do(UNREACHABLE)])?;
+    to.push(Instr::Block(None, tests))?;
+    Ok(())
+}
+
+/// Adds the call of the built-in feature with this number, where that is the form. It leaves the block with the status.
+fn add_builtin(alloc: Global, to: &mut Items<Instr>, number: u32, ty: u32) -> Result<(), NoMemory> {
+    let mut called = Items::new(alloc);
+    add_line(&mut called, &[Get(SELF)])?;
+    add_parts(alloc, operands(ty)?, &mut called)?;
+    let function = FIRST_BUILTIN.saturating_add(number);
+    add_line(&mut called, &[Call(function), Set(STATUS), Br(1)])?;
+    let kind = FIRST_BOUND_BUILTIN.saturating_add(number);
+    add_line(to, &[Get(KIND), I32(kind), Do(I32_EQ)])?;
+    to.push(Instr::If(None, called, Items::new(alloc)))?;
+    Ok(())
+}
+
+/// What a built-in feature of the type with this number takes behind `self`.
+fn operands(ty: u32) -> Result<&'static [Part], NoMemory> {
+    match OPERANDS.get(ty as usize) {
+        Some(parts) => Ok(parts),
+        None => Err(no_such_type()),
+    }
+}
+
+/// The answer for a type that no built-in feature has.
+fn no_such_type() -> NoMemory {
+    NoMemory
+}
