@@ -1,6 +1,6 @@
-//! What is around an expression, and what its program says of types and variables.
+//! What is around an expression, and what its program says of types, features and signatures by their numbers.
 
-use sa_core::{Core, FeatureCore};
+use sa_core::{CalledCore, Core, FeatureCore, SigCore, TypeInfo};
 use sa_flat::{Ends, held};
 use sa_tree::{Kind, NoMemory};
 
@@ -11,11 +11,6 @@ pub(crate) struct Around<'a> {
     /// The number of the feature that it stands in, or none in the initialiser of a shared.
     pub feature: Option<u32>,
     pub ends: &'a Ends,
-}
-
-/// The answer for the forms of iters and of bound values: a program that has them is refused before it is lowered.
-pub(crate) fn not_lowered() -> NoMemory {
-    NoMemory
 }
 
 /// A feature by its number.
@@ -29,8 +24,43 @@ pub(crate) fn var_type(core: &Core, feature: u32, var: usize) -> Result<u32, NoM
     held(feature.vars.get(var).copied())
 }
 
+/// What a site of a feature calls.
+pub(crate) fn site_called(core: &Core, feature: u32, site: u32) -> Result<CalledCore, NoMemory> {
+    let feature = feature_at(core, feature)?;
+    let site = held(feature.sites.get(site as usize))?;
+    Ok(site.called)
+}
+
+/// A signature by its number.
+pub(crate) fn signature_at(core: &Core, signature: u32) -> Result<&SigCore, NoMemory> {
+    held(core.sigs.get(signature as usize))
+}
+
+/// A type by its number.
+pub(crate) fn type_at(core: &Core, ty: u32) -> Result<&TypeInfo, NoMemory> {
+    held(core.types.get(ty as usize))
+}
+
 /// The kind of a type.
 pub(crate) fn kind_of(core: &Core, ty: u32) -> Result<Kind, NoMemory> {
-    let info = held(core.types.get(ty as usize))?;
+    let info = type_at(core, ty)?;
     Ok(info.kind)
+}
+
+/// The number of the type of an attribute, by its place in its class.
+pub(crate) fn attribute_type(core: &Core, class: u32, place: u32) -> Result<u32, NoMemory> {
+    let info = type_at(core, class)?;
+    held(info.attrs.get(place as usize).copied())
+}
+
+/// The number of the type of a class's elements.
+pub(crate) fn element_type(core: &Core, class: u32) -> Result<u32, NoMemory> {
+    let info = type_at(core, class)?;
+    held(info.elem)
+}
+
+/// The number of the type of a shared.
+pub(crate) fn shared_type(core: &Core, shared: u32) -> Result<u32, NoMemory> {
+    let shared = held(core.shareds.get(shared as usize))?;
+    Ok(shared.ty)
 }

@@ -1,10 +1,13 @@
 //! The step of a call: what it calls, of which class, and whether it gives a value.
 
-use crate::around::{Around, feature_at, kind_of};
+use crate::around::{Around, feature_at, kind_of, signature_at};
 use crate::copies::copy_back;
 use crate::passing::{Passed, pass_value};
-use sa_core::{CalledCore, Core, Target};
-use sa_flat::{CallPlan, Callee, Draft, FlatStep, held};
+use crate::reached::{Reached, bound_result};
+use sa_bound::place_bound;
+use sa_core::{Core, Target};
+use sa_flat::{BoundPiece, CallPlan, Callee, Draft, FlatArg, FlatStep, held};
+use sa_prelude::BuiltinFeature;
 use sa_tree::{Kind, Mode, NoMemory, Pos};
 use sqlite_items::Items;
 use std::alloc::Global;
@@ -15,34 +18,55 @@ const INT: u32 = 4;
 /// The number of the class CHAR.
 const CHAR: u32 = 5;
 
-/// The number of the comparison of CHAR among the built-in features.
-const CHAR_IS_LT: u8 = 16;
-
-/// The numbers of the built-in features that give no result: the three of OUT, and `aset` of AREF.
-const WITHOUT_RESULT: [u8; 4] = [24, 25, 26, 31];
-
 /// A call on a receiver, with the copies back behind it. It has no variable where the callee gives no result.
 pub(crate) fn call(
+    alloc: Global,
     around: &Around<'_>,
     draft: &mut Draft,
-    called: CalledCore,
+    reached: Reached,
     recv: u32,
     passed: Passed,
     pos: Pos,
 ) -> Result<Option<u32>, NoMemory> {
-    let fail = draft.fail(pos, around.ends.raised)?;
-    let value = value_of_call(around.core, draft, called)?;
-    let plan = CallPlan {
-        callee: callee(called),
-        class: class_of(around.core, called)?,
-        recv,
-        args: passed.args,
-        value,
-        fail,
-    };
-    draft.step(FlatStep::Call { plan })?;
+    let value = value_of_call(around.core, draft, reached)?;
+    let plan = plan_of(around, draft, reached, recv, passed.args, value, pos)?;
+    let fail = plan.fail;
+    add_call(alloc, draft, plan)?;
     copy_back(draft, passed.copies.as_slice(), fail)?;
     Ok(value)
+}
+
+/// What is called, with which variables, and where its faults and raises go.
+pub(crate) fn plan_of(
+    around: &Around<'_>,
+    draft: &Draft,
+    reached: Reached,
+    recv: u32,
+    args: Items<FlatArg>,
+    value: Option<u32>,
+    pos: Pos,
+) -> Result<CallPlan, NoMemory> {
+    let class = class_of(around.core, reached)?;
+    let fail = draft.fail(pos, around.ends.raised)?;
+    Ok(CallPlan {
+        callee: callee(reached),
+        class,
+        recv,
+        args,
+        value,
+        fail,
+    })
+}
+
+/// The step of a call. That of a bound value is a piece of its own.
+fn add_call(alloc: Global, draft: &mut Draft, plan: CallPlan) -> Result<(), NoMemory> {
+    match plan.callee {
+        Callee::Bound => {
+            place_bound(alloc, draft, &BoundPiece::Call { plan })?;
+            Ok(())
+        }
+        _ => draft.step(FlatStep::Call { plan }),
+    }
 }
 
 /// A comparison whose receiver is its second operand.
@@ -55,9 +79,9 @@ pub(crate) fn swapped(
     second: u32,
     pos: Pos,
 ) -> Result<Option<u32>, NoMemory> {
-    let called = CalledCore::Static(target, swapped_class(around.core, target)?);
+    let reached = Reached::Static(target, swapped_class(around.core, target)?);
     let passed = one_passed(alloc, first)?;
-    call(around, draft, called, second, passed, pos)
+    call(alloc, around, draft, reached, second, passed, pos)
 }
 
 /// One value as the only argument.
@@ -71,17 +95,25 @@ fn one_passed(alloc: Global, value: u32) -> Result<Passed, NoMemory> {
 fn swapped_class(core: &Core, target: Target) -> Result<u32, NoMemory> {
     match target {
         Target::Feature(feature) => Ok(feature_at(core, feature)?.class),
-        Target::Builtin(CHAR_IS_LT) => Ok(CHAR),
+        Target::Builtin(number) => compared_class(number),
+        _ => held(None),
+    }
+}
+
+/// The number of the class of a built-in comparison.
+fn compared_class(number: u8) -> Result<u32, NoMemory> {
+    match held(BuiltinFeature::of_number(number))? {
+        BuiltinFeature::CharIsLt => Ok(CHAR),
         _ => Ok(INT),
     }
 }
 
 /// What a call reaches.
-fn callee(called: CalledCore) -> Callee {
-    match called {
-        CalledCore::Static(target, _) => callee_of(target),
-        CalledCore::Dispatch(signature) => Callee::Dispatch(signature),
-        CalledCore::Bound => Callee::Bound,
+fn callee(reached: Reached) -> Callee {
+    match reached {
+        Reached::Static(target, _) => callee_of(target),
+        Reached::Dispatch(signature) => Callee::Dispatch(signature),
+        Reached::Bound(_) => Callee::Bound,
     }
 }
 
@@ -98,35 +130,35 @@ fn callee_of(target: Target) -> Callee {
 }
 
 /// The number of the type whose feature is called. Of a bound value it isn't read.
-fn class_of(core: &Core, called: CalledCore) -> Result<u32, NoMemory> {
-    match called {
-        CalledCore::Static(_, class) => Ok(class),
-        CalledCore::Dispatch(signature) => Ok(held(core.sigs.get(signature as usize))?.ty),
-        CalledCore::Bound => Ok(0),
+fn class_of(core: &Core, reached: Reached) -> Result<u32, NoMemory> {
+    match reached {
+        Reached::Static(_, class) => Ok(class),
+        Reached::Dispatch(signature) => Ok(signature_at(core, signature)?.ty),
+        Reached::Bound(_) => Ok(0),
     }
 }
 
 /// A temporary for the result of a call, where there is one.
-fn value_of_call(
+pub(crate) fn value_of_call(
     core: &Core,
     draft: &mut Draft,
-    called: CalledCore,
+    reached: Reached,
 ) -> Result<Option<u32>, NoMemory> {
-    if !gives_value(core, called)? {
+    if !gives_value(core, reached)? {
         return Ok(None);
     }
     Ok(Some(draft.temporary()?))
 }
 
-/// Whether a call gives a result. A bound value's is taken to: what is called without a result gives void.
-fn gives_value(core: &Core, called: CalledCore) -> Result<bool, NoMemory> {
-    match called {
-        CalledCore::Static(target, class) => target_gives_value(core, target, class),
-        CalledCore::Dispatch(signature) => {
-            let signature = held(core.sigs.get(signature as usize))?;
+/// Whether a call gives a result.
+fn gives_value(core: &Core, reached: Reached) -> Result<bool, NoMemory> {
+    match reached {
+        Reached::Static(target, class) => target_gives_value(core, target, class),
+        Reached::Dispatch(signature) => {
+            let signature = signature_at(core, signature)?;
             Ok(signature.sig.result.is_some())
         }
-        CalledCore::Bound => Ok(true),
+        Reached::Bound(ty) => Ok(bound_result(core, ty)?.is_some()),
     }
 }
 
@@ -134,7 +166,7 @@ fn gives_value(core: &Core, called: CalledCore) -> Result<bool, NoMemory> {
 fn target_gives_value(core: &Core, target: Target, class: u32) -> Result<bool, NoMemory> {
     match target {
         Target::Feature(feature) => Ok(feature_at(core, feature)?.result.is_some()),
-        Target::Builtin(number) => Ok(builtin_gives_value(number)),
+        Target::Builtin(number) => builtin_gives_value(number),
         Target::Get(_) => Ok(true),
         Target::Set(_) => Ok(kind_of(core, class)? == Kind::Immutable),
         Target::GetShared(_) => Ok(true),
@@ -142,6 +174,13 @@ fn target_gives_value(core: &Core, target: Target, class: u32) -> Result<bool, N
     }
 }
 
-fn builtin_gives_value(number: u8) -> bool {
-    !WITHOUT_RESULT.contains(&number)
+/// Whether a built-in feature gives a result: all do but the three of OUT, and `aset` of AREF.
+fn builtin_gives_value(number: u8) -> Result<bool, NoMemory> {
+    match held(BuiltinFeature::of_number(number))? {
+        BuiltinFeature::OutPut => Ok(false),
+        BuiltinFeature::OutPutInt => Ok(false),
+        BuiltinFeature::OutPutChar => Ok(false),
+        BuiltinFeature::ArefAset => Ok(false),
+        _ => Ok(true),
+    }
 }

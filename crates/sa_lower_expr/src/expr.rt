@@ -1,11 +1,14 @@
 //! An expression as steps and blocks: what stands inside it is placed first, from left to right.
 
-use crate::around::{Around, not_lowered};
+use crate::arguments::{arguments, once_arguments};
+use crate::around::Around;
+use crate::binds::bind;
 use crate::call::{call, swapped};
 use crate::logic::{and_left, joined, or_left};
-use crate::passing::{Passed, none_passed, pass_value, pass_variable};
+use crate::reached::reached_on;
 use crate::simple::{array, new_array, void_test, widened, without_parts};
-use sa_core::{ArgCore, CalledCore, Core, ExprCore};
+use crate::sites::{begin_others, begin_site, end_site};
+use sa_core::{Core, ExprCore};
 use sa_flat::{Draft, Ends, Placed, held};
 use sa_tree::NoMemory;
 use sqlite_items::Items;
@@ -15,8 +18,8 @@ use std::alloc::Global;
 /// shared, with these ends around it. The block that is open afterwards is the one in which its value is there; a call that
 /// gives no result has no value.
 ///
-/// The draft has to be told before whether the statement's calls write variables. The answer is NoMemory as well where a
-/// number of the tree is out of range, and for calls of iters and binds, which aren't lowered.
+/// The draft has to be told before whether the statement's calls write variables, and has to hold the loops around the place.
+/// The answer is NoMemory as well where a number of the tree is out of range.
 pub fn place_expr(
     alloc: Global,
     core: &Core,
@@ -64,11 +67,6 @@ fn place(
             let elements = operands(alloc, around, draft, elements.as_slice())?;
             some(array(around, draft, *ty, elements.as_slice(), *pos))
         }
-        ExprCore::Call(called, on, args, pos) => {
-            let recv = operand(alloc, around, draft, on.get())?;
-            let args = arguments(alloc, around, draft, *called, args.as_slice())?;
-            call(around, draft, *called, recv, args, *pos)
-        }
         ExprCore::Swapped(target, first, second, pos) => {
             let first = operand(alloc, around, draft, first.get())?;
             let second = operand(alloc, around, draft, second.get())?;
@@ -86,6 +84,40 @@ fn place(
             let right = operand(alloc, around, draft, right.get())?;
             some(joined(alloc, draft, joint, right, true))
         }
+        _ => place_call(alloc, around, draft, e),
+    }
+}
+
+/// Places a call, a call of an iter, a bind, or a form that holds no expressions.
+#[cycle(place)]
+fn place_call(
+    alloc: Global,
+    around: &Around<'_>,
+    draft: &mut Draft,
+    e: &ExprCore,
+) -> Result<Option<u32>, NoMemory> {
+    match e {
+        ExprCore::Call(called, on, args, pos) => {
+            let reached = reached_on(around, draft, *called, on.get())?;
+            let recv = operand(alloc, around, draft, on.get())?;
+            let args = arguments(alloc, around, draft, reached, args.as_slice(), &[])?;
+            call(alloc, around, draft, reached, recv, args, *pos)
+        }
+        ExprCore::IterCall(number, on, args, pos) => {
+            let site = begin_site(alloc, around, draft, *number, on.get(), args.as_slice())?;
+            let recv = operand(alloc, around, draft, on.get())?;
+            let once = once_arguments(alloc, around, draft, args.as_slice())?;
+            begin_others(alloc, draft, site)?;
+            let (args, once) = (args.as_slice(), once.as_slice());
+            let args = arguments(alloc, around, draft, site.reached, args, once)?;
+            end_site(alloc, around, draft, site, recv, args, *pos)
+        }
+        ExprCore::Bind(called, on, args, ty, pos) => {
+            let reached = reached_on(around, draft, *called, on.get())?;
+            let recv = operand(alloc, around, draft, on.get())?;
+            let args = arguments(alloc, around, draft, reached, args.as_slice(), &[])?;
+            some(bind(alloc, around, draft, reached, recv, args, *ty, *pos))
+        }
         _ => some(without_parts(alloc, around, draft, e)),
     }
 }
@@ -97,7 +129,7 @@ fn some(value: Result<u32, NoMemory>) -> Result<Option<u32>, NoMemory> {
 
 /// Places an expression that has a value.
 #[cycle(place)]
-fn operand(
+pub(crate) fn operand(
     alloc: Global,
     around: &Around<'_>,
     draft: &mut Draft,
@@ -120,42 +152,4 @@ fn operands(
         values.push(operand(alloc, around, draft, e)?)?;
     }
     Ok(values)
-}
-
-/// Places the arguments of a call, from left to right.
-#[cycle(place)]
-fn arguments(
-    alloc: Global,
-    around: &Around<'_>,
-    draft: &mut Draft,
-    called: CalledCore,
-    args: &[ArgCore],
-) -> Result<Passed, NoMemory> {
-    let mut passed = none_passed(alloc, around, draft, called, args)?;
-    for arg in args {
-        argument(alloc, around, draft, called, arg, &mut passed)?;
-    }
-    Ok(passed)
-}
-
-/// Places an argument.
-#[cycle(place)]
-fn argument(
-    alloc: Global,
-    around: &Around<'_>,
-    draft: &mut Draft,
-    called: CalledCore,
-    arg: &ArgCore,
-    passed: &mut Passed,
-) -> Result<(), NoMemory> {
-    match arg {
-        ArgCore::Value(mode, e) => {
-            let value = operand(alloc, around, draft, e)?;
-            pass_value(passed, *mode, value)
-        }
-        ArgCore::Variable(mode, var) => {
-            pass_variable(around, draft, called, passed, *mode, *var)
-        }
-        ArgCore::Left => Err(not_lowered()),
-    }
 }

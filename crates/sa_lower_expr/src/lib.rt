@@ -1,14 +1,20 @@
 //! Typed expressions as steps and blocks of the body that is being filled.
 #![tactic(auto)]
 
+mod arguments;
 mod around;
+mod binds;
 mod call;
 mod copies;
 mod expr;
 mod logic;
 mod passing;
+mod reached;
 mod simple;
+mod sites;
+mod taken;
 mod writing;
 
 pub use expr::place_expr;
+pub use taken::takes_abstract;
 pub use writing::writes;

@@ -6,12 +6,13 @@
 //!
 //! From the first such argument on each written one is passed in a temporary, so that copies back stay in their order.
 
-use crate::around::{Around, kind_of, not_lowered, var_type};
-use crate::copies::{CopyBack, formal_type};
+use crate::around::{Around, kind_of};
+use crate::copies::CopyBack;
+use crate::reached::{Reached, formal_type, own_type};
 use crate::simple::copied;
 use crate::writing::written_up_to;
-use sa_core::{ArgCore, CalledCore};
-use sa_flat::{Draft, FlatArg, held};
+use sa_core::ArgCore;
+use sa_flat::{Draft, FlatArg};
 use sa_tree::{Kind, Mode, NoMemory};
 use sqlite_items::Items;
 use std::alloc::Global;
@@ -42,13 +43,13 @@ pub(crate) fn none_passed(
     alloc: Global,
     around: &Around<'_>,
     draft: &Draft,
-    called: CalledCore,
+    reached: Reached,
     args: &[ArgCore],
 ) -> Result<Passed, NoMemory> {
     Ok(Passed {
         args: Items::new(alloc),
         copies: Items::new(alloc),
-        temporaries_from: temporaries_from(around, draft, called, args)?,
+        temporaries_from: temporaries_from(around, draft, reached, args)?,
     })
 }
 
@@ -56,7 +57,7 @@ pub(crate) fn none_passed(
 fn temporaries_from(
     around: &Around<'_>,
     draft: &Draft,
-    called: CalledCore,
+    reached: Reached,
     args: &[ArgCore],
 ) -> Result<usize, NoMemory> {
     if !draft.writes() {
@@ -64,7 +65,7 @@ fn temporaries_from(
     }
     let written = written_up_to(args);
     for (place, arg) in args.iter().enumerate() {
-        if needs_temporary(around, called, place, arg, written)? {
+        if needs_temporary(around, draft, reached, place, arg, written)? {
             return Ok(place);
         }
     }
@@ -75,33 +76,36 @@ fn temporaries_from(
 /// writes variables.
 fn needs_temporary(
     around: &Around<'_>,
-    called: CalledCore,
+    draft: &Draft,
+    reached: Reached,
     place: usize,
     arg: &ArgCore,
     written: usize,
 ) -> Result<bool, NoMemory> {
     match arg {
-        ArgCore::Variable(Mode::Out, var) => Ok(widening(around, called, place, *var)?.is_some()),
+        ArgCore::Variable(Mode::Out, var) => {
+            Ok(widening(around, draft, reached, place, *var)?.is_some())
+        }
         ArgCore::Variable(_, _) => Ok(place < written),
         ArgCore::Value(_, _) => Ok(false),
-        ArgCore::Left => Err(not_lowered()),
+        ArgCore::Left => Ok(false),
     }
 }
 
 /// The number of the immutable type from which what an `out` argument gives is widened into its variable, if it is.
 fn widening(
     around: &Around<'_>,
-    called: CalledCore,
+    draft: &Draft,
+    reached: Reached,
     place: usize,
     var: u32,
 ) -> Result<Option<u32>, NoMemory> {
     let core = around.core;
-    let feature = held(around.feature)?;
-    let own = var_type(core, feature, var as usize)?;
+    let own = own_type(around, var)?;
     if kind_of(core, own)? != Kind::Abstract {
         return Ok(None);
     }
-    let Some(ty) = formal_type(core, called, place)? else {
+    let Some(ty) = formal_type(core, draft, reached, place)? else {
         return Ok(None);
     };
     if kind_of(core, ty)? != Kind::Immutable {
@@ -119,11 +123,20 @@ pub(crate) fn pass_value(passed: &mut Passed, mode: Mode, value: u32) -> Result<
     Ok(())
 }
 
+/// Leaves an argument of a bind open.
+pub(crate) fn pass_open(passed: &mut Passed) -> Result<(), NoMemory> {
+    passed.args.push(FlatArg {
+        mode: Mode::In,
+        var: None,
+    })?;
+    Ok(())
+}
+
 /// Passes a variable that the call writes.
 pub(crate) fn pass_variable(
     around: &Around<'_>,
     draft: &mut Draft,
-    called: CalledCore,
+    reached: Reached,
     passed: &mut Passed,
     mode: Mode,
     var: u32,
@@ -133,7 +146,7 @@ pub(crate) fn pass_variable(
         return pass_value(passed, mode, var);
     }
     let copy = match mode {
-        Mode::Out => out_copy(around, draft, called, place, var)?,
+        Mode::Out => out_copy(around, draft, reached, place, var)?,
         _ => inout_copy(draft, var)?,
     };
     passed.copies.push(copy)?;
@@ -144,14 +157,15 @@ pub(crate) fn pass_variable(
 fn out_copy(
     around: &Around<'_>,
     draft: &mut Draft,
-    called: CalledCore,
+    reached: Reached,
     place: usize,
     var: u32,
 ) -> Result<CopyBack, NoMemory> {
+    let widened = widening(around, draft, reached, place, var)?;
     Ok(CopyBack {
         to: var,
         from: draft.temporary()?,
-        widened: widening(around, called, place, var)?,
+        widened,
     })
 }
 

@@ -1,6 +1,6 @@
 //! The forms of one step on operands that are in variables already, and array literals.
 
-use crate::around::{Around, not_lowered};
+use crate::around::Around;
 use sa_core::ExprCore;
 use sa_flat::{Draft, Fail, FlatConst, FlatStep, held};
 use sa_tree::{Name, NoMemory, Pos};
@@ -23,7 +23,7 @@ pub(crate) fn without_parts(
         ExprCore::Var(var) => variable(draft, *var),
         ExprCore::Exception => held(around.ends.exception),
         ExprCore::New(ty, pos) => new_object(around, draft, *ty, *pos),
-        _ => Err(not_lowered()),
+        _ => held(None),
     }
 }
 

@@ -1,0 +1,100 @@
+//! The arguments of a call, from left to right.
+
+use crate::around::Around;
+use crate::expr::operand;
+use crate::passing::{Passed, none_passed, pass_open, pass_value, pass_variable};
+use crate::reached::Reached;
+use sa_core::ArgCore;
+use sa_flat::Draft;
+use sa_tree::{Mode, NoMemory};
+use sqlite_items::Items;
+use std::alloc::Global;
+
+/// Places the arguments of a call, from left to right. `before` has by place the variables of those that have been evaluated
+/// before; an argument behind its end hasn't been.
+#[cycle(place)]
+pub(crate) fn arguments(
+    alloc: Global,
+    around: &Around<'_>,
+    draft: &mut Draft,
+    reached: Reached,
+    args: &[ArgCore],
+    before: &[Option<u32>],
+) -> Result<Passed, NoMemory> {
+    let mut passed = none_passed(alloc, around, draft, reached, args)?;
+    for arg in args {
+        argument(alloc, around, draft, reached, arg, before, &mut passed)?;
+    }
+    Ok(passed)
+}
+
+/// Places the next argument.
+#[cycle(place)]
+fn argument(
+    alloc: Global,
+    around: &Around<'_>,
+    draft: &mut Draft,
+    reached: Reached,
+    arg: &ArgCore,
+    before: &[Option<u32>],
+    passed: &mut Passed,
+) -> Result<(), NoMemory> {
+    if let Some(value) = evaluated_before(before, passed) {
+        return pass_value(passed, Mode::Once, value);
+    }
+    match arg {
+        ArgCore::Value(mode, e) => {
+            let value = operand(alloc, around, draft, e)?;
+            pass_value(passed, *mode, value)
+        }
+        ArgCore::Variable(mode, var) => {
+            pass_variable(around, draft, reached, passed, *mode, *var)
+        }
+        ArgCore::Left => pass_open(passed),
+    }
+}
+
+/// The variable that holds the next argument, where it has been evaluated before.
+fn evaluated_before(before: &[Option<u32>], passed: &Passed) -> Option<u32> {
+    match before.get(passed.args.len()) {
+        Some(value) => *value,
+        None => None,
+    }
+}
+
+/// Places the `once` arguments of a call, from left to right, and gives their variables by the places of the arguments.
+#[cycle(place)]
+pub(crate) fn once_arguments(
+    alloc: Global,
+    around: &Around<'_>,
+    draft: &mut Draft,
+    args: &[ArgCore],
+) -> Result<Items<Option<u32>>, NoMemory> {
+    let mut values = Items::new(alloc);
+    for arg in args {
+        values.push(once_argument(alloc, around, draft, arg)?)?;
+    }
+    Ok(values)
+}
+
+/// Places an argument where it is `once`.
+#[cycle(place)]
+fn once_argument(
+    alloc: Global,
+    around: &Around<'_>,
+    draft: &mut Draft,
+    arg: &ArgCore,
+) -> Result<Option<u32>, NoMemory> {
+    match arg {
+        ArgCore::Value(Mode::Once, e) => {
+            let value = operand(alloc, around, draft, e)?;
+            Ok(Some(value))
+        }
+        _ => Ok(None),
+    }
+}
+
+/// Whether an argument is evaluated at a start alone.
+pub(crate) fn is_once(arg: &ArgCore) -> bool {
+    matches!(arg, ArgCore::Value(Mode::Once, _))
+}

@@ -1,0 +1,181 @@
+//! What a call reaches, and the types that this needs. A bound value tells what its call takes and gives by its type alone,
+//! so the type of the receiver has to be found; only those expressions are looked at that can have a bound type.
+
+use crate::around::{
+    Around, attribute_type, element_type, feature_at, shared_type, signature_at, site_called,
+    type_at, var_type,
+};
+use sa_core::{CalledCore, Core, ExprCore, SigCore, Target};
+use sa_flat::{Draft, held};
+use sa_prelude::BuiltinFeature;
+use sa_tree::{ModeTy, NoMemory, Ty};
+use sqlite_items::Boxed;
+
+/// What a call reaches.
+#[derive(Clone, Copy)]
+pub(crate) enum Reached {
+    /// A feature of the type with this number.
+    Static(Target, u32),
+    /// The implementation of a signature.
+    Dispatch(u32),
+    /// A bound value of the type with this number.
+    Bound(u32),
+}
+
+/// What a call on this receiver reaches.
+pub(crate) fn reached_on(
+    around: &Around<'_>,
+    draft: &Draft,
+    called: CalledCore,
+    on: &ExprCore,
+) -> Result<Reached, NoMemory> {
+    match called {
+        CalledCore::Static(target, class) => Ok(Reached::Static(target, class)),
+        CalledCore::Dispatch(signature) => Ok(Reached::Dispatch(signature)),
+        CalledCore::Bound => Ok(Reached::Bound(type_of(around, draft, on)?)),
+    }
+}
+
+/// The number of the type of an expression that can have a bound type.
+#[cycle(type_of)]
+fn type_of(around: &Around<'_>, draft: &Draft, e: &ExprCore) -> Result<u32, NoMemory> {
+    match e {
+        ExprCore::VoidOf(ty) => Ok(*ty),
+        ExprCore::Bind(_, _, _, ty, _) => Ok(*ty),
+        ExprCore::Var(var) => own_type(around, *var),
+        ExprCore::Exception => Ok(around.ends.exception_ty),
+        ExprCore::Call(called, on, _, _) => result_type(around, draft, *called, on.get()),
+        ExprCore::IterCall(site, on, _, _) => {
+            let called = own_site(around, *site)?;
+            result_type(around, draft, called, on.get())
+        }
+        _ => held(None),
+    }
+}
+
+/// The number of the type of what a call gives.
+#[cycle(type_of)]
+fn result_type(
+    around: &Around<'_>,
+    draft: &Draft,
+    called: CalledCore,
+    on: &ExprCore,
+) -> Result<u32, NoMemory> {
+    match called {
+        CalledCore::Static(target, class) => target_type(around.core, target, class),
+        CalledCore::Dispatch(signature) => signature_type(around.core, draft, signature),
+        CalledCore::Bound => {
+            let bound = type_of(around, draft, on)?;
+            bound_result_type(around.core, draft, bound)
+        }
+    }
+}
+
+/// The number of the type of a variable of the feature around.
+pub(crate) fn own_type(around: &Around<'_>, var: u32) -> Result<u32, NoMemory> {
+    let feature = held(around.feature)?;
+    var_type(around.core, feature, var as usize)
+}
+
+/// What a site of the feature around calls.
+pub(crate) fn own_site(around: &Around<'_>, site: u32) -> Result<CalledCore, NoMemory> {
+    let feature = held(around.feature)?;
+    site_called(around.core, feature, site)
+}
+
+/// The number of the type of what a target gives, where that can be a bound type.
+fn target_type(core: &Core, target: Target, class: u32) -> Result<u32, NoMemory> {
+    match target {
+        Target::Feature(feature) => held(feature_at(core, feature)?.result),
+        Target::Builtin(number) => builtin_type(core, number, class),
+        Target::Get(place) => attribute_type(core, class, place),
+        Target::GetShared(shared) => shared_type(core, shared),
+        Target::Set(_) => held(None),
+        Target::SetShared(_) => held(None),
+    }
+}
+
+/// The number of the type of what a built-in feature of a class gives, where that can be a bound type: an element.
+fn builtin_type(core: &Core, number: u8, class: u32) -> Result<u32, NoMemory> {
+    match held(BuiltinFeature::of_number(number))? {
+        BuiltinFeature::ArefAget => element_type(core, class),
+        _ => held(None),
+    }
+}
+
+/// The number of the type of what the implementations of a signature give.
+fn signature_type(core: &Core, draft: &Draft, signature: u32) -> Result<u32, NoMemory> {
+    let signature = signature_at(core, signature)?;
+    match &signature.sig.result {
+        Some(ty) => draft.type_number(ty),
+        None => held(None),
+    }
+}
+
+/// The number of the type of what a bound value of this type gives.
+fn bound_result_type(core: &Core, draft: &Draft, bound: u32) -> Result<u32, NoMemory> {
+    match bound_result(core, bound)? {
+        Some(ty) => draft.type_number(ty.get()),
+        None => held(None),
+    }
+}
+
+/// The result of a bound type, if it has one.
+pub(crate) fn bound_result(core: &Core, bound: u32) -> Result<&Option<Boxed<Ty>>, NoMemory> {
+    let info = type_at(core, bound)?;
+    match &info.ty {
+        Ty::Rout(_, result, _) => Ok(result),
+        Ty::Iter(_, result, _) => Ok(result),
+        _ => held(None),
+    }
+}
+
+/// The parameters of a bound type.
+fn bound_parameters(core: &Core, bound: u32) -> Result<&[ModeTy], NoMemory> {
+    let info = type_at(core, bound)?;
+    match &info.ty {
+        Ty::Rout(parameters, _, _) => Ok(parameters.as_slice()),
+        Ty::Iter(parameters, _, _) => Ok(parameters.as_slice()),
+        _ => held(None),
+    }
+}
+
+/// The number of the type of a parameter, by its place. None where the call writes no arguments.
+pub(crate) fn formal_type(
+    core: &Core,
+    draft: &Draft,
+    reached: Reached,
+    place: usize,
+) -> Result<Option<u32>, NoMemory> {
+    match reached {
+        Reached::Static(Target::Feature(feature), _) => Ok(Some(var_type(core, feature, place)?)),
+        Reached::Static(_, _) => Ok(None),
+        Reached::Dispatch(signature) => {
+            let signature = signature_at(core, signature)?;
+            Ok(Some(parameter_type(draft, signature, place)?))
+        }
+        Reached::Bound(ty) => Ok(Some(bound_parameter_type(core, draft, ty, place)?)),
+    }
+}
+
+/// The number of the type of a parameter of a signature.
+pub(crate) fn parameter_type(
+    draft: &Draft,
+    signature: &SigCore,
+    place: usize,
+) -> Result<u32, NoMemory> {
+    let parameter = held(signature.sig.args.get(place))?;
+    draft.type_number(&parameter.ty)
+}
+
+/// The number of the type of a parameter of a bound type.
+fn bound_parameter_type(
+    core: &Core,
+    draft: &Draft,
+    bound: u32,
+    place: usize,
+) -> Result<u32, NoMemory> {
+    let parameters = bound_parameters(core, bound)?;
+    let parameter = held(parameters.get(place))?;
+    draft.type_number(&parameter.ty)
+}

@@ -1,0 +1,164 @@
+//! Calls of iters. A site without an instance starts one, else it resumes the one that is there. The receiver and the `once`
+//! arguments are evaluated on the way of a start alone. The other arguments are evaluated on both ways, at a start behind the
+//! `once` ones: they are placed once, in a block that both ways come to, since calls of iters may nest in them, and the site
+//! is asked again behind them.
+
+use crate::arguments::is_once;
+use crate::around::Around;
+use crate::call::{plan_of, value_of_call};
+use crate::copies::copy_back;
+use crate::passing::Passed;
+use crate::reached::{Reached, own_site, reached_on};
+use sa_core::{ArgCore, ExprCore};
+use sa_flat::{CallPlan, Draft, FlatExit, IterPiece};
+use sa_lower_iter::place_iter;
+use sa_tree::{NoMemory, Pos};
+use std::alloc::Global;
+
+/// A site whose call is being placed.
+#[derive(Clone, Copy)]
+pub(crate) struct Site {
+    number: u32,
+    pub reached: Reached,
+    /// The block in which the instance that is there is resumed.
+    again: u32,
+    /// The block behind the call, in which the value is there.
+    behind: u32,
+    /// Where arguments are evaluated at each call.
+    others: Option<Others>,
+}
+
+/// The blocks of a site with arguments that are evaluated at each call.
+#[derive(Clone, Copy)]
+struct Others {
+    /// The block in which they are evaluated.
+    joined: u32,
+    /// The block behind them in which an instance is started.
+    starting: u32,
+}
+
+/// Asks whether the site has an instance, and opens the block in which the receiver and the `once` arguments of a start are
+/// evaluated.
+pub(crate) fn begin_site(
+    alloc: Global,
+    around: &Around<'_>,
+    draft: &mut Draft,
+    number: u32,
+    on: &ExprCore,
+    args: &[ArgCore],
+) -> Result<Site, NoMemory> {
+    let reached = reached_on(around, draft, own_site(around, number)?, on)?;
+    let fresh = draft.block(alloc)?;
+    let site = Site {
+        number,
+        reached,
+        again: draft.block(alloc)?,
+        behind: draft.block(alloc)?,
+        others: others_of(alloc, draft, args)?,
+    };
+    let test = IterPiece::Test {
+        site: number,
+        start: fresh,
+        resume: resumed_in(site),
+    };
+    place_iter(alloc, draft, &test)?;
+    Ok(site)
+}
+
+/// The blocks for arguments that are evaluated at each call, where there are such arguments.
+fn others_of(
+    alloc: Global,
+    draft: &mut Draft,
+    args: &[ArgCore],
+) -> Result<Option<Others>, NoMemory> {
+    if !has_others(args) {
+        return Ok(None);
+    }
+    Ok(Some(Others {
+        joined: draft.block(alloc)?,
+        starting: draft.block(alloc)?,
+    }))
+}
+
+/// Whether an argument is evaluated at each call.
+fn has_others(args: &[ArgCore]) -> bool {
+    for arg in args {
+        if !is_once(arg) {
+            return true;
+        }
+    }
+    false
+}
+
+/// Where the call of a site with an instance goes on.
+fn resumed_in(site: Site) -> u32 {
+    match site.others {
+        Some(others) => others.joined,
+        None => site.again,
+    }
+}
+
+/// Opens the block of the arguments that are evaluated at each call, where there are such arguments.
+pub(crate) fn begin_others(alloc: Global, draft: &mut Draft, site: Site) -> Result<(), NoMemory> {
+    let Some(others) = site.others else {
+        return Ok(());
+    };
+    draft.end(alloc, FlatExit::Jump(others.joined), others.joined)
+}
+
+/// Starts or resumes the instance of the site, and gives the variable that holds the value that it has yielded, if it yields
+/// any. Where the instance ends, the loop of the site is left, and nothing is copied back.
+pub(crate) fn end_site(
+    alloc: Global,
+    around: &Around<'_>,
+    draft: &mut Draft,
+    site: Site,
+    recv: u32,
+    passed: Passed,
+    pos: Pos,
+) -> Result<Option<u32>, NoMemory> {
+    end_others(alloc, draft, site)?;
+    let value = value_of_call(around.core, draft, site.reached)?;
+    let plan = plan_of(around, draft, site.reached, recv, passed.args, value, pos)?;
+    let fail = plan.fail;
+    start(alloc, draft, site, plan.copy(alloc)?)?;
+    resume(alloc, draft, site, plan)?;
+    copy_back(draft, passed.copies.as_slice(), fail)?;
+    Ok(value)
+}
+
+/// Asks again whether the site has an instance, behind the arguments that are evaluated at each call.
+fn end_others(alloc: Global, draft: &mut Draft, site: Site) -> Result<(), NoMemory> {
+    let Some(others) = site.others else {
+        return Ok(());
+    };
+    let test = IterPiece::Test {
+        site: site.number,
+        start: others.starting,
+        resume: site.again,
+    };
+    place_iter(alloc, draft, &test)?;
+    Ok(())
+}
+
+/// Starts an instance, and opens the block in which the one that is there is resumed.
+fn start(alloc: Global, draft: &mut Draft, site: Site, plan: CallPlan) -> Result<(), NoMemory> {
+    let piece = IterPiece::Start {
+        site: site.number,
+        plan,
+        left: draft.after()?,
+    };
+    place_iter(alloc, draft, &piece)?;
+    draft.end(alloc, FlatExit::Jump(site.behind), site.again)
+}
+
+/// Resumes the instance, and opens the block behind the call.
+fn resume(alloc: Global, draft: &mut Draft, site: Site, plan: CallPlan) -> Result<(), NoMemory> {
+    let piece = IterPiece::Resume {
+        site: site.number,
+        plan,
+        left: draft.after()?,
+    };
+    place_iter(alloc, draft, &piece)?;
+    draft.end(alloc, FlatExit::Jump(site.behind), site.behind)
+}
