@@ -1,6 +1,6 @@
 //! What is around a statement, and what its program says of types and variables.
 
-use sa_core::Core;
+use sa_core::{Core, FeatureCore};
 use sa_flat::{Ends, held};
 use sa_tree::{Kind, NoMemory};
 
@@ -13,15 +13,14 @@ pub(crate) struct Around<'a> {
     pub ends: &'a Ends,
 }
 
-/// The answer for `protect`, `yield` and `quit`: a program that has them is refused before it is lowered.
-pub(crate) fn not_lowered() -> NoMemory {
-    NoMemory
+/// The feature that a statement stands in.
+pub(crate) fn feature<'a>(around: &Around<'a>) -> Result<&'a FeatureCore, NoMemory> {
+    held(around.core.features.get(around.feature as usize))
 }
 
 /// The number of a variable's type.
 pub(crate) fn var_type(around: &Around<'_>, var: u32) -> Result<u32, NoMemory> {
-    let feature = held(around.core.features.get(around.feature as usize))?;
-    held(feature.vars.get(var as usize).copied())
+    held(feature(around)?.vars.get(var as usize).copied())
 }
 
 /// Whether a type is that of an immutable class.

@@ -1,6 +1,7 @@
 //! The statements that leave the body, or the innermost loop.
 
 use crate::around::Around;
+use crate::looping::returned;
 use crate::value::value_of;
 use sa_core::ExprCore;
 use sa_flat::{Draft, FlatExit, FlatStep, held};
@@ -12,7 +13,7 @@ const BREAK: u8 = 0;
 
 const WHILE: u8 = 1;
 
-/// `return`
+/// `return`, which first ends the instances of the loops around it.
 pub(crate) fn leave_body(
     alloc: Global,
     around: &Around<'_>,
@@ -23,7 +24,16 @@ pub(crate) fn leave_body(
         Some(e) => Some(value_of(alloc, around, draft, e)?),
         None => None,
     };
-    draft.leave(alloc, FlatExit::Return { value })
+    let Some(out) = draft.out() else {
+        return draft.leave(alloc, FlatExit::Return { value });
+    };
+    if let Some(from) = value {
+        draft.step(FlatStep::Move {
+            to: returned(),
+            from,
+        })?;
+    }
+    draft.leave(alloc, FlatExit::Jump(out))
 }
 
 /// `raise`: the value must not be void.
@@ -66,7 +76,7 @@ pub(crate) fn leave_loop(
     kind: u8,
     test: &Option<ExprCore>,
 ) -> Result<(), NoMemory> {
-    let after = after_loop(draft)?;
+    let after = draft.after()?;
     if kind == BREAK {
         return draft.leave(alloc, FlatExit::Jump(after));
     }
@@ -90,10 +100,4 @@ fn leave_by_test(
         (after, next)
     };
     draft.end(alloc, FlatExit::Branch { test, yes, no }, next)
-}
-
-/// The block behind the innermost loop.
-fn after_loop(draft: &Draft) -> Result<u32, NoMemory> {
-    let innermost = held(draft.loops.as_slice().last())?;
-    Ok(innermost.after)
 }

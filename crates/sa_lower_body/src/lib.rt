@@ -3,8 +3,10 @@
 
 mod around;
 mod entries;
+mod instance;
 mod leaving;
 mod looping;
+mod protecting;
 mod simple;
 mod stmts;
 mod typecase;

@@ -1,9 +1,11 @@
 //! Lists of statements, and a statement by its form.
 
-use crate::around::{Around, not_lowered};
+use crate::around::Around;
 use crate::entries::if_entries;
+use crate::instance::{quit, yield_value};
 use crate::leaving::{leave_body, leave_loop, raise, stop};
 use crate::looping::{begin_loop, end_loop};
+use crate::protecting::{choose_arm, guarded, hand_on, other_stmts, protect_arms};
 use crate::simple::{assign, perform};
 use crate::typecase::{no_arm_fits, typecase_arms};
 use sa_core::{Core, StmtCore};
@@ -14,8 +16,7 @@ use std::alloc::Global;
 /// Places statements of the feature with this number at the end of the open block, with these ends around them. The block
 /// that is open afterwards is the one behind them. A list of statements has no value.
 ///
-/// The answer is NoMemory as well where a number of the tree is out of range, and for the forms of iters, bound values and
-/// protects, which aren't lowered.
+/// The answer is NoMemory as well where a number of the tree is out of range.
 pub fn place_stmts(
     alloc: Global,
     core: &Core,
@@ -68,9 +69,30 @@ fn stmt(
             draft.end(alloc, FlatExit::Jump(after), after)
         }
         StmtCore::Loop(number, body) => {
-            let blocks = begin_loop(alloc, draft, *number)?;
-            stmts(alloc, around, draft, body.as_slice())?;
-            end_loop(alloc, draft, blocks)
+            let (blocks, ends) = begin_loop(alloc, around, draft, *number)?;
+            let inside = Around {
+                core: around.core,
+                feature: around.feature,
+                ends: &ends,
+            };
+            stmts(alloc, &inside, draft, body.as_slice())?;
+            end_loop(alloc, around, draft, blocks)
+        }
+        StmtCore::Protect(body, arms, other) => {
+            let protect = guarded(alloc, around, draft, body.as_slice())?;
+            let blocks = choose_arm(alloc, around, draft, &protect, arms.as_slice())?;
+            match other {
+                Some(other) => other_stmts(alloc, around, draft, &protect, other.as_slice())?,
+                None => hand_on(alloc, around, draft, &protect)?,
+            }
+            protect_arms(
+                alloc,
+                around,
+                draft,
+                &protect,
+                arms.as_slice(),
+                blocks.as_slice(),
+            )
         }
         StmtCore::TypeCase(var, arms, other, pos) => {
             let after = typecase_arms(alloc, around, draft, *var, arms.as_slice())?;
@@ -100,7 +122,14 @@ fn without_stmts(
         StmtCore::Leave(kind, test) => leave_loop(alloc, around, draft, *kind, test),
         StmtCore::Return(e) => leave_body(alloc, around, draft, e),
         StmtCore::Raise(e, pos) => raise(alloc, around, draft, e, *pos),
+        StmtCore::Yield(e) => yield_value(alloc, around, draft, e),
+        StmtCore::Quit => quit(alloc, draft),
         StmtCore::Stop(kind, pos) => stop(alloc, around, draft, *kind, *pos),
-        _ => Err(not_lowered()),
+        _ => Err(holds_stmts()),
     }
+}
+
+/// The answer for a form that holds other statements: `stmt` places those, so none comes here.
+fn holds_stmts() -> NoMemory {
+    NoMemory
 }
