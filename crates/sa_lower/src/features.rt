@@ -1,8 +1,9 @@
 //! The bodies of the features, each with the number of its feature.
 
 use crate::own_body::ended;
-use sa_core::{Core, FeatureCore};
+use sa_core::{Core, FeatureCore, SiteCore};
 use sa_flat::{Draft, Ends, FlatBody, FlatExit, FlatFormal, held};
+use sa_live::kept_variables;
 use sa_lower_body::place_stmts;
 use sa_tree::NoMemory;
 use sqlite_items::Items;
@@ -22,7 +23,7 @@ pub fn feature_bodies(
     Ok(bodies)
 }
 
-/// The body of a feature. That of an iter ends the instance, since nothing starts one.
+/// The body of a feature.
 fn feature_body(
     alloc: Global,
     core: &Core,
@@ -33,13 +34,31 @@ fn feature_body(
     let formals = formals(alloc, feature)?;
     let own = held(u32::try_from(feature.vars.len()).ok())?;
     draft.begin(alloc, Some(number), formals, own)?;
-    if feature.iter {
-        draft.body.iter = true;
-        return ended(alloc, draft, FlatExit::Quit);
-    }
+    draft.body.iter = feature.iter;
+    let owners = owners(alloc, feature.sites.as_slice())?;
+    draft.own_sites(alloc, owners.as_slice())?;
     let list = feature.body.as_slice();
     place_stmts(alloc, core, number, list, draft, &Ends::of_body())?;
+    if feature.iter {
+        return iter_body(alloc, draft);
+    }
     ended(alloc, draft, FlatExit::Return { value: None })
+}
+
+/// The body of an iter, whose statements have been placed: behind them the instance ends.
+fn iter_body(alloc: Global, draft: &mut Draft) -> Result<FlatBody, NoMemory> {
+    let mut body = ended(alloc, draft, FlatExit::Quit)?;
+    body.kept = kept_variables(alloc, &body)?;
+    Ok(body)
+}
+
+/// The loop that owns the instance of each site.
+fn owners(alloc: Global, sites: &[SiteCore]) -> Result<Items<u32>, NoMemory> {
+    let mut owners = Items::new(alloc);
+    for site in sites {
+        owners.push(site.owner)?;
+    }
+    Ok(owners)
 }
 
 /// The arguments of a feature, which are its first variables.

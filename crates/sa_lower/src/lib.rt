@@ -2,15 +2,15 @@
 //! what goes in or comes out, and the body that a run begins with.
 #![tactic(auto)]
 
-mod built;
+mod arguments;
 mod features;
+mod giving;
 mod own_body;
+mod own_iter;
 mod passing;
 mod run;
 mod signatures;
-mod taken;
 mod targets;
 mod whole;
 
-pub use built::is_built;
 pub use whole::lower;

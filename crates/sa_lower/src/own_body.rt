@@ -2,31 +2,16 @@
 //! implementation with them as that has them, and gives back what the signature gives. Its faults are those of the call that
 //! entered it, so its steps tell no position.
 
-use crate::passing::{Passing, passing_of, widened_result};
+use crate::arguments::{Arguments, pass_all, widen_back, widened_value};
+use crate::giving::{feature, given};
+use crate::own_iter::own_iter;
+use crate::passing::widened_result;
 use crate::signatures::{SignatureTypes, is_immutable};
-use crate::taken::{feature, given};
 use sa_core::{Core, ImplCore, Target};
-use sa_flat::{
-    CallPlan, Callee, Draft, Ends, Fail, FlatArg, FlatBody, FlatExit, FlatFormal, FlatStep, held,
-};
+use sa_flat::{CallPlan, Callee, Draft, Ends, Fail, FlatBody, FlatExit, FlatStep, held};
 use sa_tree::NoMemory;
 use sqlite_items::Items;
 use std::alloc::Global;
-
-/// An argument that is widened behind the call: the variable that gets it, and the one that holds it with its class.
-#[derive(Clone, Copy, Debug, PartialEq, Eq)]
-struct Back {
-    to: u32,
-    from: u32,
-    ty: u32,
-}
-
-/// The arguments as they are passed, and those that are widened behind the call.
-#[derive(Drop)]
-struct Arguments {
-    args: Items<FlatArg>,
-    backs: Items<Back>,
-}
 
 /// The body of an implementation of a signature with these types.
 pub fn own_body(
@@ -40,9 +25,8 @@ pub fn own_body(
     let own = held(u32::try_from(formals.len()).ok())?;
     draft.begin(alloc, None, formals, own)?;
     draft.statement(false);
-    if is_iter(core, implementation)? {
-        draft.body.iter = true;
-        return ended(alloc, draft, FlatExit::Quit);
+    if let Some(iter) = iter_number(core, implementation)? {
+        return own_iter(alloc, core, implementation, iter, types, draft);
     }
     let value = call(alloc, core, implementation, types, draft)?;
     ended(alloc, draft, FlatExit::Return { value })
@@ -63,11 +47,15 @@ pub fn no_position() -> Fail {
     }
 }
 
-fn is_iter(core: &Core, implementation: &ImplCore) -> Result<bool, NoMemory> {
-    match implementation.target {
-        Target::Feature(number) => Ok(feature(core, number)?.iter),
-        _ => Ok(false),
+/// The iter that implements the signature, if it is one.
+fn iter_number(core: &Core, implementation: &ImplCore) -> Result<Option<u32>, NoMemory> {
+    let Target::Feature(number) = implementation.target else {
+        return Ok(None);
+    };
+    if feature(core, number)?.iter {
+        return Ok(Some(number));
     }
+    Ok(None)
 }
 
 /// The call with all that is widened before and behind it, and the variable that holds the result of the signature.
@@ -103,7 +91,11 @@ fn call(
 }
 
 /// The variable that holds the receiver as its own class has it.
-fn receiver(core: &Core, implementation: &ImplCore, draft: &mut Draft) -> Result<u32, NoMemory> {
+pub fn receiver(
+    core: &Core,
+    implementation: &ImplCore,
+    draft: &mut Draft,
+) -> Result<u32, NoMemory> {
     let me = draft.temporary()?;
     draft.step(FlatStep::Me { to: me })?;
     if !is_immutable(core, implementation.ty)? {
@@ -118,64 +110,8 @@ fn receiver(core: &Core, implementation: &ImplCore, draft: &mut Draft) -> Result
     Ok(to)
 }
 
-/// The arguments as the implementation takes them.
-fn pass_all(
-    alloc: Global,
-    core: &Core,
-    implementation: &ImplCore,
-    formals: &[FlatFormal],
-    draft: &mut Draft,
-) -> Result<Arguments, NoMemory> {
-    let mut passed = Arguments {
-        args: Items::new(alloc),
-        backs: Items::new(alloc),
-    };
-    for (place, formal) in formals.iter().enumerate() {
-        let how = passing_of(core, implementation, place, *formal)?;
-        let var = held(u32::try_from(place).ok())?;
-        pass(how, var, *formal, draft, &mut passed)?;
-    }
-    Ok(passed)
-}
-
-/// One more argument.
-fn pass(
-    how: Passing,
-    var: u32,
-    formal: FlatFormal,
-    draft: &mut Draft,
-    passed: &mut Arguments,
-) -> Result<(), NoMemory> {
-    let var = match how {
-        Passing::Plain => var,
-        Passing::WidenedIn(ty) => widened(var, ty, draft)?,
-        Passing::WidenedOut(ty) => {
-            let from = draft.temporary()?;
-            passed.backs.push(Back { to: var, from, ty })?;
-            from
-        }
-    };
-    passed.args.push(FlatArg {
-        mode: formal.mode,
-        var: Some(var),
-    })?;
-    Ok(())
-}
-
-/// The variable that holds the value of an immutable class as it stands at an abstract type.
-fn widened(from: u32, ty: u32, draft: &mut Draft) -> Result<u32, NoMemory> {
-    let to = draft.temporary()?;
-    draft.step(FlatStep::Widen {
-        to,
-        from,
-        ty,
-        fail: no_position(),
-    })?;
-    Ok(to)
-}
-
 /// A variable for what the implementation gives, if it gives anything.
-fn value_of(
+pub fn value_of(
     core: &Core,
     implementation: &ImplCore,
     draft: &mut Draft,
@@ -184,31 +120,6 @@ fn value_of(
         Some(_) => Ok(Some(draft.temporary()?)),
         None => Ok(None),
     }
-}
-
-/// The variable that holds the result of the signature.
-fn widened_value(
-    value: Option<u32>,
-    ty: Option<u32>,
-    draft: &mut Draft,
-) -> Result<Option<u32>, NoMemory> {
-    let (Some(from), Some(ty)) = (value, ty) else {
-        return Ok(value);
-    };
-    Ok(Some(widened(from, ty, draft)?))
-}
-
-/// Widens what is copied back, from left to right.
-fn widen_back(backs: &[Back], draft: &mut Draft) -> Result<(), NoMemory> {
-    for back in backs {
-        draft.step(FlatStep::Widen {
-            to: back.to,
-            from: back.from,
-            ty: back.ty,
-            fail: no_position(),
-        })?;
-    }
-    Ok(())
 }
 
 /// What a call of an implementation reaches.

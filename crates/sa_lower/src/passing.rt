@@ -1,10 +1,11 @@
 //! What is widened between a signature and an implementation of it: an immutable value that goes in where the implementation
 //! has an abstract type, and one that comes out where the signature has one.
 
+use crate::giving::{given, variable_type};
 use crate::signatures::{SignatureTypes, is_abstract, is_immutable};
-use crate::taken::{given, takes_abstract, variable_type};
 use sa_core::{Core, ImplCore, Target};
 use sa_flat::FlatFormal;
+use sa_lower_expr::takes_abstract;
 use sa_tree::{Mode, NoMemory};
 
 /// What is done with an argument between a signature and an implementation.

@@ -1,8 +1,8 @@
 //! The body that a run begins with: it evaluates the initialisers of the shareds in their order, each for a turn, and calls
 //! `main`.
 
+use crate::giving::feature;
 use crate::own_body::{ended, no_position};
-use crate::taken::feature;
 use sa_core::{Core, ExprCore};
 use sa_flat::{CallPlan, Callee, Draft, Ends, FlatBody, FlatConst, FlatExit, FlatStep, held};
 use sa_lower_expr::{place_expr, writes};

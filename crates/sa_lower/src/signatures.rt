@@ -2,7 +2,7 @@
 
 use indexmap::IndexMap;
 use sa_core::{Core, SigCore, TypeInfo};
-use sa_flat::{FlatFormal, held};
+use sa_flat::{Draft, FlatFormal, held};
 use sa_tree::{Kind, ModeTy, NoMemory, Ty};
 use sqlite_items::Items;
 use std::alloc::Global;
@@ -27,39 +27,31 @@ pub fn type_numbers(alloc: Global, types: &[TypeInfo]) -> Result<IndexMap<Ty, u3
 /// The types of a signature, which are types of the program.
 pub fn signature_types(
     alloc: Global,
-    numbers: &IndexMap<Ty, u32>,
+    draft: &Draft,
     signature: &SigCore,
 ) -> Result<SignatureTypes, NoMemory> {
     let sig = &signature.sig;
     Ok(SignatureTypes {
-        formals: formals(alloc, numbers, sig.args.as_slice())?,
-        result: result_type(numbers, &sig.result)?,
+        formals: formals(alloc, draft, sig.args.as_slice())?,
+        result: result_type(draft, &sig.result)?,
     })
 }
 
 /// The arguments of a signature.
-fn formals(
-    alloc: Global,
-    numbers: &IndexMap<Ty, u32>,
-    args: &[ModeTy],
-) -> Result<Items<FlatFormal>, NoMemory> {
+fn formals(alloc: Global, draft: &Draft, args: &[ModeTy]) -> Result<Items<FlatFormal>, NoMemory> {
     let mut formals = Items::new(alloc);
     for arg in args {
-        let ty = number_of(numbers, &arg.ty)?;
+        let ty = draft.type_number(&arg.ty)?;
         formals.push(FlatFormal { mode: arg.mode, ty })?;
     }
     Ok(formals)
 }
 
-fn result_type(numbers: &IndexMap<Ty, u32>, ty: &Option<Ty>) -> Result<Option<u32>, NoMemory> {
+fn result_type(draft: &Draft, ty: &Option<Ty>) -> Result<Option<u32>, NoMemory> {
     match ty {
-        Some(ty) => Ok(Some(number_of(numbers, ty)?)),
+        Some(ty) => Ok(Some(draft.type_number(ty)?)),
         None => Ok(None),
     }
-}
-
-fn number_of(numbers: &IndexMap<Ty, u32>, ty: &Ty) -> Result<u32, NoMemory> {
-    held(numbers.get(ty).copied())
 }
 
 fn kind(core: &Core, ty: u32) -> Result<Kind, NoMemory> {

@@ -4,7 +4,7 @@
 
 use crate::own_body::own_body;
 use crate::passing::{Passing, passing_of, widened_result};
-use crate::signatures::{SignatureTypes, is_immutable, signature_types, type_numbers};
+use crate::signatures::{SignatureTypes, is_immutable, signature_types};
 use sa_core::{Core, ImplCore, SigCore, Target};
 use sa_flat::{Draft, FlatBody, FlatFormal, held};
 use sa_tree::NoMemory;
@@ -19,10 +19,9 @@ pub fn targets(
     draft: &mut Draft,
     bodies: &mut Items<FlatBody>,
 ) -> Result<Items<u32>, NoMemory> {
-    let numbers = type_numbers(alloc, core.types.as_slice())?;
     let mut targets = Items::new(alloc);
     for signature in core.sigs.as_slice() {
-        let types = signature_types(alloc, &numbers, signature)?;
+        let types = signature_types(alloc, draft, signature)?;
         if needs_own_bodies(core, signature, &types)? {
             add_own_bodies(alloc, core, signature, &types, draft, bodies, &mut targets)?;
         } else {

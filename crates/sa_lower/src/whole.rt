@@ -2,6 +2,7 @@
 
 use crate::features::feature_bodies;
 use crate::run::run_body;
+use crate::signatures::type_numbers;
 use crate::targets::targets;
 use indexmap::IndexSet;
 use sa_core::{Core, SharedCore, TypeInfo, positions};
@@ -15,12 +16,18 @@ use std::mem;
 ///
 /// # Errors
 ///
-/// `NoMemory`, also where the program holds a call of an iter, a bind, a protect, a yield or a quit outside the bodies of
-/// iters.
+/// `NoMemory`, also where a number of the typed program is out of range, or an iter call stands outside loops.
 pub fn lower(alloc: Global, core: &Core) -> Result<FlatProgram, NoMemory> {
     let mut program = tables(alloc, core)?;
-    let mut draft = Draft::new(alloc, program.sites.as_slice(), core.lines.as_slice())?;
+    let types = type_numbers(alloc, core.types.as_slice())?;
+    let mut draft = Draft::new(
+        alloc,
+        program.sites.as_slice(),
+        core.lines.as_slice(),
+        types,
+    )?;
     add_bodies(alloc, core, &mut draft, &mut program)?;
+    program.binds = mem::replace(&mut draft.binds, Items::new(alloc));
     program.texts = texts(alloc, draft)?;
     Ok(program)
 }

@@ -1,48 +1,11 @@
-//! The types of what an implementation takes and gives, which may differ from those of the signature that it implements.
+//! The types of what an implementation gives, which may differ from that of the signature that it implements.
 
-use crate::signatures::{is_abstract, is_immutable};
+use crate::signatures::is_immutable;
 use sa_class_table::{BOOL, CHAR, INT, STR};
 use sa_core::{Core, FeatureCore, ImplCore, SharedCore, Target, TypeInfo};
 use sa_flat::held;
 use sa_prelude::BuiltinFeature;
 use sa_tree::NoMemory;
-
-/// Whether an implementation takes the argument at this place at an abstract type.
-pub fn takes_abstract(
-    core: &Core,
-    implementation: &ImplCore,
-    place: usize,
-) -> Result<bool, NoMemory> {
-    match implementation.target {
-        Target::Feature(number) => is_abstract(core, variable_type(core, number, place)?),
-        Target::Set(place) => is_abstract(core, attribute_type(core, implementation.ty, place)?),
-        Target::SetShared(number) => is_abstract(core, shared(core, number)?.ty),
-        Target::Builtin(number) => {
-            builtin_takes_abstract(core, implementation.ty, builtin(number)?, place)
-        }
-        Target::Get(_) | Target::GetShared(_) => Ok(false),
-    }
-}
-
-/// Whether a built-in feature of a type takes this argument at an abstract type: `ob_eq` both, and `aset` the element where
-/// that is of an abstract type.
-fn builtin_takes_abstract(
-    core: &Core,
-    ty: u32,
-    builtin: BuiltinFeature,
-    place: usize,
-) -> Result<bool, NoMemory> {
-    match builtin {
-        BuiltinFeature::SysObEq => Ok(true),
-        BuiltinFeature::ArefAset => {
-            if place == 0 {
-                return Ok(false);
-            }
-            is_abstract(core, element_type(core, ty)?)
-        }
-        _ => Ok(false),
-    }
-}
 
 /// The type of what an implementation gives, if it gives anything.
 pub fn given(core: &Core, implementation: &ImplCore) -> Result<Option<u32>, NoMemory> {

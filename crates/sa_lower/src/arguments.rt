@@ -1,0 +1,124 @@
+//! The arguments of a body that is made for an implementation of a signature: as that takes them, and those that are widened
+//! behind the call.
+
+use crate::own_body::no_position;
+use crate::passing::{Passing, passing_of};
+use sa_core::{Core, ImplCore};
+use sa_flat::{Draft, FlatArg, FlatFormal, FlatStep, held};
+use sa_tree::NoMemory;
+use sqlite_items::Items;
+use std::alloc::Global;
+
+/// An argument that is widened behind the call: the variable that gets it, and the one that holds it with its class.
+#[derive(Clone, Copy, Debug, PartialEq, Eq)]
+pub struct Back {
+    to: u32,
+    from: u32,
+    ty: u32,
+}
+
+/// The arguments as they are passed, and those that are widened behind the call.
+#[derive(Drop)]
+pub struct Arguments {
+    pub args: Items<FlatArg>,
+    pub backs: Items<Back>,
+}
+
+impl Arguments {
+    /// No arguments.
+    pub fn none(alloc: Global) -> Arguments {
+        Arguments {
+            args: Items::new(alloc),
+            backs: Items::new(alloc),
+        }
+    }
+}
+
+/// The arguments as the implementation takes them.
+pub fn pass_all(
+    alloc: Global,
+    core: &Core,
+    implementation: &ImplCore,
+    formals: &[FlatFormal],
+    draft: &mut Draft,
+) -> Result<Arguments, NoMemory> {
+    let mut passed = Arguments::none(alloc);
+    for (place, formal) in formals.iter().enumerate() {
+        pass(core, implementation, place, *formal, draft, &mut passed)?;
+    }
+    Ok(passed)
+}
+
+/// One more argument, the one at this place.
+pub fn pass(
+    core: &Core,
+    implementation: &ImplCore,
+    place: usize,
+    formal: FlatFormal,
+    draft: &mut Draft,
+    passed: &mut Arguments,
+) -> Result<(), NoMemory> {
+    let how = passing_of(core, implementation, place, formal)?;
+    let to = held(u32::try_from(place).ok())?;
+    let var = variable(how, to, draft, &mut passed.backs)?;
+    passed.args.push(FlatArg {
+        mode: formal.mode,
+        var: Some(var),
+    })?;
+    Ok(())
+}
+
+/// The variable that stands for the argument `to` in the call.
+fn variable(
+    how: Passing,
+    to: u32,
+    draft: &mut Draft,
+    backs: &mut Items<Back>,
+) -> Result<u32, NoMemory> {
+    match how {
+        Passing::Plain => Ok(to),
+        Passing::WidenedIn(ty) => widened(to, ty, draft),
+        Passing::WidenedOut(ty) => {
+            let from = draft.temporary()?;
+            backs.push(Back { to, from, ty })?;
+            Ok(from)
+        }
+    }
+}
+
+/// The variable that holds the value of an immutable class as it stands at an abstract type.
+pub fn widened(from: u32, ty: u32, draft: &mut Draft) -> Result<u32, NoMemory> {
+    let to = draft.temporary()?;
+    draft.step(FlatStep::Widen {
+        to,
+        from,
+        ty,
+        fail: no_position(),
+    })?;
+    Ok(to)
+}
+
+/// The variable that holds the result of the signature.
+pub fn widened_value(
+    value: Option<u32>,
+    ty: Option<u32>,
+    draft: &mut Draft,
+) -> Result<Option<u32>, NoMemory> {
+    let (Some(from), Some(ty)) = (value, ty) else {
+        return Ok(value);
+    };
+    Ok(Some(widened(from, ty, draft)?))
+}
+
+/// Widens what is copied back, from left to right.
+pub fn widen_back(backs: &[Back], draft: &mut Draft) -> Result<(), NoMemory> {
+    for back in backs {
+        draft.step(FlatStep::Widen {
+            to: back.to,
+            from: back.from,
+            ty: back.ty,
+            fail: no_position(),
+        })?;
+    }
+    Ok(())
+}

@@ -1,0 +1,158 @@
+//! The body that is made for an implementation of a signature by an iter. It is entered for an instance at its start and at
+//! each resumption, and does both by one step. The receiver and the `once` arguments are handed over at a start alone, so
+//! they are unwrapped and widened there alone.
+
+use crate::arguments::{Arguments, pass, widen_back, widened, widened_value};
+use crate::own_body::{ended, receiver, value_of};
+use crate::passing::{Passing, passing_of, widened_result};
+use crate::signatures::SignatureTypes;
+use sa_core::{Core, ImplCore};
+use sa_flat::{Draft, FlatArg, FlatBody, FlatExit, FlatFormal, FlatStep, held};
+use sa_tree::{Mode, NoMemory};
+use sqlite_items::Items;
+use std::alloc::Global;
+
+/// What is there of a start: the variable that holds the receiver as its own class has it, and for each argument the variable
+/// that stands for it, widened where it is a `once` one.
+#[derive(Drop)]
+struct Begun {
+    recv: u32,
+    vars: Items<u32>,
+}
+
+/// The body of an implementation by the iter with this number, whose draft has begun.
+pub fn own_iter(
+    alloc: Global,
+    core: &Core,
+    implementation: &ImplCore,
+    iter: u32,
+    types: &SignatureTypes,
+    draft: &mut Draft,
+) -> Result<FlatBody, NoMemory> {
+    draft.body.iter = true;
+    let formals = types.formals.as_slice();
+    let begun = begin(alloc, core, implementation, formals, draft)?;
+    let passed = pass_all(alloc, core, implementation, formals, &begun, draft)?;
+    let Arguments { args, backs } = passed;
+    let value = value_of(core, implementation, draft)?;
+    let quit = draft.temporary()?;
+    draft.step(FlatStep::Enter {
+        body: iter,
+        recv: begun.recv,
+        args,
+        value,
+        quit,
+    })?;
+    end_or_go_on(alloc, draft, quit)?;
+    let result = widened_result(core, implementation, types)?;
+    let value = widened_value(value, result, draft)?;
+    widen_back(backs.as_slice(), draft)?;
+    ended(
+        alloc,
+        draft,
+        FlatExit::Suspend {
+            value,
+            resume: None,
+        },
+    )
+}
+
+/// Takes what a start hands over. The block in which a start and a resumption go on is open afterwards.
+fn begin(
+    alloc: Global,
+    core: &Core,
+    implementation: &ImplCore,
+    formals: &[FlatFormal],
+    draft: &mut Draft,
+) -> Result<Begun, NoMemory> {
+    let test = draft.temporary()?;
+    draft.step(FlatStep::HasFrame { to: test })?;
+    let fresh = draft.block(alloc)?;
+    let joined = draft.block(alloc)?;
+    let branch = FlatExit::Branch {
+        test,
+        yes: joined,
+        no: fresh,
+    };
+    draft.end(alloc, branch, fresh)?;
+    let recv = receiver(core, implementation, draft)?;
+    let vars = once_arguments(alloc, core, implementation, formals, draft)?;
+    draft.end(alloc, FlatExit::Jump(joined), joined)?;
+    Ok(Begun { recv, vars })
+}
+
+/// The variables of the arguments, those of the `once` ones as the implementation takes them.
+fn once_arguments(
+    alloc: Global,
+    core: &Core,
+    implementation: &ImplCore,
+    formals: &[FlatFormal],
+    draft: &mut Draft,
+) -> Result<Items<u32>, NoMemory> {
+    let mut vars = Items::new(alloc);
+    for (place, formal) in formals.iter().enumerate() {
+        vars.push(once_argument(core, implementation, place, *formal, draft)?)?;
+    }
+    Ok(vars)
+}
+
+/// The variable of the argument at this place.
+fn once_argument(
+    core: &Core,
+    implementation: &ImplCore,
+    place: usize,
+    formal: FlatFormal,
+    draft: &mut Draft,
+) -> Result<u32, NoMemory> {
+    let var = held(u32::try_from(place).ok())?;
+    if formal.mode != Mode::Once {
+        return Ok(var);
+    }
+    match passing_of(core, implementation, place, formal)? {
+        Passing::WidenedIn(ty) => widened(var, ty, draft),
+        _ => Ok(var),
+    }
+}
+
+/// The arguments as the iter takes them. Those that aren't `once` are taken anew.
+fn pass_all(
+    alloc: Global,
+    core: &Core,
+    implementation: &ImplCore,
+    formals: &[FlatFormal],
+    begun: &Begun,
+    draft: &mut Draft,
+) -> Result<Arguments, NoMemory> {
+    let mut passed = Arguments::none(alloc);
+    for (place, formal) in formals.iter().enumerate() {
+        if formal.mode == Mode::Once {
+            pass_begun(place, begun, &mut passed)?;
+        } else {
+            pass(core, implementation, place, *formal, draft, &mut passed)?;
+        }
+    }
+    Ok(passed)
+}
+
+/// One more argument, which was taken at the start.
+fn pass_begun(place: usize, begun: &Begun, passed: &mut Arguments) -> Result<(), NoMemory> {
+    let var = held(begun.vars.get(place).copied())?;
+    passed.args.push(FlatArg {
+        mode: Mode::Once,
+        var: Some(var),
+    })?;
+    Ok(())
+}
+
+/// Ends the instance where the iter has ended. The block where it has yielded is open afterwards.
+fn end_or_go_on(alloc: Global, draft: &mut Draft, quit: u32) -> Result<(), NoMemory> {
+    let ended = draft.block(alloc)?;
+    let yielded = draft.block(alloc)?;
+    let branch = FlatExit::Branch {
+        test: quit,
+        yes: ended,
+        no: yielded,
+    };
+    draft.end(alloc, branch, ended)?;
+    draft.end(alloc, FlatExit::Quit, yielded)
+}
