@@ -6,12 +6,11 @@ use sa_runtime::layout::{FIRST_ARGUMENT_AT, RESULT, SELF_AT};
 use sa_runtime::line::{Op, add_line};
 use sa_tree::Mode;
 use sqlite_items::Items;
-use std::alloc::Global;
 use wa_syntax::opcode::{I64_LOAD, I64_STORE};
 use wa_syntax::{Instr, NoMemory};
 
 /// How many arguments the area has room for.
-const ARGUMENTS: usize = 200;
+pub const ARGUMENTS: usize = 200;
 
 /// Adds what stores the receiver and the arguments that a call hands down.
 pub fn add_arguments(
@@ -19,9 +18,24 @@ pub fn add_arguments(
     body: &FlatBody,
     plan: &CallPlan,
 ) -> Result<(), NoMemory> {
-    add_store(code, SELF_AT, local_of(body, plan.recv))?;
-    for (place, arg) in plan.args.as_slice().iter().enumerate() {
-        add_argument(code, body, place, arg)?;
+    add_self(code, body, plan.recv)?;
+    add_handed(code, body, plan.args.as_slice(), true)
+}
+
+/// Adds what stores the receiver that a call hands down.
+pub fn add_self(code: &mut Items<Instr>, body: &FlatBody, recv: u32) -> Result<(), NoMemory> {
+    add_store(code, SELF_AT, local_of(body, recv))
+}
+
+/// Adds what stores the arguments that a call hands down, those that are `once` only where this says so.
+pub fn add_handed(
+    code: &mut Items<Instr>,
+    body: &FlatBody,
+    args: &[FlatArg],
+    once: bool,
+) -> Result<(), NoMemory> {
+    for (place, arg) in args.iter().enumerate() {
+        add_argument(code, body, place, arg, once)?;
     }
     Ok(())
 }
@@ -31,8 +45,9 @@ fn add_argument(
     body: &FlatBody,
     place: usize,
     arg: &FlatArg,
+    once: bool,
 ) -> Result<(), NoMemory> {
-    if !is_handed_down(arg.mode) {
+    if !is_handed(arg.mode, once) {
         return Ok(());
     }
     let var = held(arg.var)?;
@@ -43,10 +58,11 @@ fn add_argument(
 pub fn add_answers(
     code: &mut Items<Instr>,
     body: &FlatBody,
-    plan: &CallPlan,
+    value: Option<u32>,
+    args: &[FlatArg],
 ) -> Result<(), NoMemory> {
-    add_result(code, body, plan.value)?;
-    for (place, arg) in plan.args.as_slice().iter().enumerate() {
+    add_result(code, body, value)?;
+    for (place, arg) in args.iter().enumerate() {
         add_answer(code, body, place, arg)?;
     }
     Ok(())
@@ -82,27 +98,33 @@ pub fn add_result(
 /// # Errors
 ///
 /// `NoMemory`, also where the body has more arguments than the area has room for.
-pub fn add_prologue(
-    _alloc: Global,
-    code: &mut Items<Instr>,
-    body: &FlatBody,
-) -> Result<(), NoMemory> {
+pub fn add_prologue(code: &mut Items<Instr>, body: &FlatBody) -> Result<(), NoMemory> {
     add_load(code, SELF_AT, ME)?;
+    add_formals(code, body)?;
+    add_once_formals(code, body)
+}
+
+/// Adds what takes the arguments that each call hands down, also the one that resumes an instance.
+pub fn add_formals(code: &mut Items<Instr>, body: &FlatBody) -> Result<(), NoMemory> {
     for (place, formal) in body.formals.as_slice().iter().enumerate() {
-        add_formal(code, body, place, formal)?;
+        if is_handed(formal.mode, false) {
+            add_formal(code, body, place)?;
+        }
     }
     Ok(())
 }
 
-fn add_formal(
-    code: &mut Items<Instr>,
-    body: &FlatBody,
-    place: usize,
-    formal: &FlatFormal,
-) -> Result<(), NoMemory> {
-    if !is_handed_down(formal.mode) {
-        return Ok(());
+/// Adds what takes the arguments that a start alone hands down.
+pub fn add_once_formals(code: &mut Items<Instr>, body: &FlatBody) -> Result<(), NoMemory> {
+    for (place, formal) in body.formals.as_slice().iter().enumerate() {
+        if is_once(formal.mode) {
+            add_formal(code, body, place)?;
+        }
     }
+    Ok(())
+}
+
+fn add_formal(code: &mut Items<Instr>, body: &FlatBody, place: usize) -> Result<(), NoMemory> {
     let at = argument_at(place)?;
     add_load(code, at, formal_local(body, place)?)
 }
@@ -163,9 +185,18 @@ fn too_many() -> NoMemory {
     NoMemory
 }
 
-/// Whether a call hands the argument's value to the body.
-fn is_handed_down(mode: Mode) -> bool {
-    !matches!(mode, Mode::Out)
+/// Whether a call hands the argument's value to the body, where `once` says whether it hands down those that are `once`.
+fn is_handed(mode: Mode, once: bool) -> bool {
+    match mode {
+        Mode::Out => false,
+        Mode::Once => once,
+        _ => true,
+    }
+}
+
+/// Whether an iter takes the argument's value at its start alone.
+fn is_once(mode: Mode) -> bool {
+    matches!(mode, Mode::Once)
 }
 
 /// Whether the argument's value goes back to the variable of the call.

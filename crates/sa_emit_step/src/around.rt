@@ -1,7 +1,8 @@
 //! What stands around a step: the program, the body, and the locals of the body's function.
 //!
 //! A body's function takes the depth of its activation and its frame, and answers a status. Its other locals are three of 32
-//! bits, its own object, a word for values that are not kept, and the variables of the body.
+//! bits, its own object, a word for values that are not kept, the variables of the body, and for each site of the body the
+//! frame of its instance.
 
 use crate::below::Below;
 use sa_dispatch::Rows;
@@ -11,6 +12,9 @@ use wa_syntax::{Locals, NoMemory, ValTy};
 
 /// The parameter with the depth of the activation.
 pub const DEPTH: u32 = 0;
+
+/// The parameter with the address of the instance's frame, which is 0 where it has none.
+pub const FRAME: u32 = 1;
 
 /// The local with the number of the head that comes next.
 pub const BLOCK: u32 = 2;
@@ -39,11 +43,11 @@ const WORDS: u32 = 2;
 /// The number of the first temporary among the variables of a body.
 const FIRST_TEMPORARY: u32 = 200;
 
-/// The number of the type that the function of each body has, behind those of the three imported functions.
-pub const BODY_TYPE: u32 = 3;
-
 /// What stands in place of a head's number for a block that the dispatch doesn't know.
 pub const NOT_A_HEAD: u32 = u32::MAX;
+
+/// What stands in place of a place in the table for a body that no bind calls through it.
+pub const NOT_PLACED: u32 = u32::MAX;
 
 /// What a body was made for.
 #[derive(Clone, Copy)]
@@ -69,12 +73,21 @@ pub struct Around<'a> {
     pub below: &'a Below,
     /// For each block of the body its number in the dispatch, or `NOT_A_HEAD`.
     pub heads: &'a [u32],
+    /// The address of each bind's entry.
+    pub entries: &'a [u32],
+    /// For each body of the program its place in the table behind those of the rows, or `NOT_PLACED`.
+    pub places: &'a [u32],
 }
 
 impl Around<'_> {
     /// The local with a variable of the body.
     pub fn local(&self, var: u32) -> u32 {
         local_of(self.body, var)
+    }
+
+    /// The local with the frame of a site's instance.
+    pub fn site(&self, site: u32) -> u32 {
+        site_local(self.body, site)
     }
 
     /// The local that gets a value: that of the variable, or one that nothing reads.
@@ -101,6 +114,12 @@ pub fn local_of(body: &FlatBody, var: u32) -> u32 {
         .saturating_add(FIRST_VARIABLE)
 }
 
+/// The local with the frame of a site's instance, which is 0 where the site has none. They stand behind the words.
+pub fn site_local(body: &FlatBody, site: u32) -> u32 {
+    let behind = body.temporaries.max(FIRST_TEMPORARY);
+    local_of(body, behind).saturating_add(site)
+}
+
 /// The locals of the function of the body.
 ///
 /// # Errors
@@ -113,15 +132,13 @@ pub fn locals_of(alloc: Global, body: &FlatBody) -> Result<Locals, NoMemory> {
     let mut locals = Locals::new(alloc);
     locals.push(ADDRESSES, ValTy::I32)?;
     locals.push(words, ValTy::I64)?;
+    if body.sites > 0 {
+        locals.push(body.sites, ValTy::I32)?;
+    }
     Ok(locals)
 }
 
 /// What is there by the way that the flat program was made. Where it isn't, memory is said to have run out.
 pub fn held<T>(found: Option<T>) -> Result<T, NoMemory> {
     found.ok_or(NoMemory)
-}
-
-/// The answer for steps of iters and of bound values, for which there are no instructions yet.
-pub fn not_emitted() -> NoMemory {
-    NoMemory
 }

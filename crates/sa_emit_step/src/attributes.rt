@@ -141,13 +141,13 @@ pub fn add_init_shared(
 }
 
 /// The address of a shared.
-fn shared_at(shared: u32) -> Result<u32, NoMemory> {
+pub fn shared_at(shared: u32) -> Result<u32, NoMemory> {
     let bytes = held(shared.checked_mul(8))?;
     held(bytes.checked_add(SHAREDS_AT))
 }
 
 /// Whether a type is of an immutable class.
-fn is_immutable(around: &Around<'_>, ty: u32) -> Result<bool, NoMemory> {
+pub fn is_immutable(around: &Around<'_>, ty: u32) -> Result<bool, NoMemory> {
     let layout = held(around.flat.layouts.get(ty as usize))?;
     Ok(matches!(layout.kind, Kind::Immutable))
 }

@@ -68,6 +68,15 @@ impl Below {
     }
 }
 
+/// The spans of rising types.
+pub fn spans_of(alloc: Global, types: &[u32]) -> Result<Vec<TypeSpan>, NoMemory> {
+    let mut spans = Vec::new(alloc);
+    for ty in types {
+        add_type(&mut spans, *ty)?;
+    }
+    Ok(spans)
+}
+
 /// Whether values have types of this kind for their class.
 fn is_concrete(kind: Kind) -> bool {
     matches!(kind, Kind::Reference | Kind::Immutable)

@@ -1,22 +1,20 @@
 //! Calls, by what they reach.
 
 use crate::area::{add_answers, add_arguments};
-use crate::around::{Around, BODY_TYPE, DEPTH, held};
+use crate::around::{Around, DEPTH, held};
 use crate::attributes::{add_get, add_get_shared, add_set, add_set_shared};
+use crate::binding::add_bound_call;
 use crate::builtins::add_builtin;
 use crate::choice::add_if;
 use crate::dispatch::add_dispatch;
-use crate::failing::{TOO_DEEP, add_fail_if, add_raise, add_void_test, deeper};
-use sa_flat::{CallPlan, Callee};
-use sa_runtime::layout::FIRST_BODY;
+use crate::failing::{add_fail_if, add_raise, deeper};
+use sa_flat::{CallPlan, Callee, Fail};
+use sa_runtime::layout::{BODY_TYPE, FIRST_BODY, GREATEST_DEPTH, TOO_DEEP};
 use sa_runtime::line::{Op, add_line};
 use sqlite_items::Items;
 use std::alloc::Global;
-use wa_syntax::opcode::{I32_ADD, I32_GE_U, UNREACHABLE};
+use wa_syntax::opcode::{I32_ADD, I32_GE_U};
 use wa_syntax::{Instr, NoMemory};
-
-/// How deep activations may nest.
-const GREATEST_DEPTH: u32 = 10_000;
 
 /// A call.
 pub fn add_call(
@@ -48,14 +46,14 @@ fn add_body_call(
     inside: u32,
 ) -> Result<(), NoMemory> {
     let func = function_of(body)?;
-    add_depth_test(alloc, code, around, plan, inside)?;
+    add_depth_test(alloc, code, around, &plan.fail, inside)?;
     add_arguments(code, around.body, plan)?;
-    add_deeper(code)?;
+    add_deeper(code, Op::I32(0))?;
     add_line(code, &[Op::Call(func)])?;
     let mut raised = Items::new(alloc);
     add_raise(&mut raised, around, &plan.fail.raised, deeper(inside)?)?;
     add_if(alloc, code, raised)?;
-    add_answers(code, around.body, plan)
+    add_answers(code, around.body, plan.value, plan.args.as_slice())
 }
 
 /// Adds the fault of an activation that would nest too deep.
@@ -63,24 +61,29 @@ pub fn add_depth_test(
     alloc: Global,
     code: &mut Items<Instr>,
     around: &Around<'_>,
-    plan: &CallPlan,
+    fail: &Fail,
     inside: u32,
 ) -> Result<(), NoMemory> {
-    let line = [Op::Get(DEPTH), Op::I32(GREATEST_DEPTH), Op::Do(I32_GE_U)];
-    add_line(code, &line)?;
-    add_fail_if(alloc, code, around, Op::I32(TOO_DEEP), &plan.fail, inside)
+    add_too_deep(code)?;
+    add_fail_if(alloc, code, around, Op::I32(TOO_DEEP), fail, inside)
 }
 
-/// Adds the depth and the frame of a new activation, as operands.
-pub fn add_deeper(code: &mut Items<Instr>) -> Result<(), NoMemory> {
-    let line = [Op::Get(DEPTH), Op::I32(1), Op::Do(I32_ADD), Op::I32(0)];
+/// Adds the test whether an activation would nest too deep, as an operand.
+pub fn add_too_deep(code: &mut Items<Instr>) -> Result<(), NoMemory> {
+    let line = [Op::Get(DEPTH), Op::I32(GREATEST_DEPTH), Op::Do(I32_GE_U)];
     add_line(code, &line)
 }
 
-/// Adds the depth of this activation and no frame, as operands of a body that was made for an implementation alone, which is
-/// no activation.
-pub fn add_as_deep(code: &mut Items<Instr>) -> Result<(), NoMemory> {
-    add_line(code, &[Op::Get(DEPTH), Op::I32(0)])
+/// Adds the depth of a new activation and its frame, as operands. `frame` reads the frame.
+pub fn add_deeper(code: &mut Items<Instr>, frame: Op) -> Result<(), NoMemory> {
+    let line = [Op::Get(DEPTH), Op::I32(1), Op::Do(I32_ADD), frame];
+    add_line(code, &line)
+}
+
+/// Adds the depth of this activation and a frame, as operands of a body that was made for an implementation alone, which is
+/// no activation. `frame` reads the frame.
+pub fn add_as_deep(code: &mut Items<Instr>, frame: Op) -> Result<(), NoMemory> {
+    add_line(code, &[Op::Get(DEPTH), frame])
 }
 
 /// The function of a body.
@@ -91,16 +94,4 @@ pub fn function_of(body: u32) -> Result<u32, NoMemory> {
 /// Adds a call through the table of the function whose place is the operand.
 pub fn add_indirect_call(code: &mut Items<Instr>) -> Result<(), NoMemory> {
     add_line(code, &[Op::CallIndirect(BODY_TYPE)])
-}
-
-/// A call of a bound value. No step makes one that isn't void.
-fn add_bound_call(
-    alloc: Global,
-    code: &mut Items<Instr>,
-    around: &Around<'_>,
-    plan: &CallPlan,
-    inside: u32,
-) -> Result<(), NoMemory> {
-    add_void_test(alloc, code, around, plan.recv, &plan.fail, inside)?;
-    add_line(code, &[Op::Do(UNREACHABLE)])
 }

@@ -1,4 +1,4 @@
-//! What is done where an operand isn't 0.
+//! What is done where an operand isn't 0, and where it is.
 
 use sqlite_items::Items;
 use std::alloc::Global;
@@ -7,5 +7,15 @@ use wa_syntax::{Instr, NoMemory};
 /// Adds an `if` that does this where the operand isn't 0.
 pub fn add_if(alloc: Global, code: &mut Items<Instr>, then: Items<Instr>) -> Result<(), NoMemory> {
     code.push(Instr::If(None, then, Items::new(alloc)))?;
+    Ok(())
+}
+
+/// Adds an `if` that does `then` where the operand isn't 0, and else `other`.
+pub fn add_if_else(
+    code: &mut Items<Instr>,
+    then: Items<Instr>,
+    other: Items<Instr>,
+) -> Result<(), NoMemory> {
+    code.push(Instr::If(None, then, other))?;
     Ok(())
 }

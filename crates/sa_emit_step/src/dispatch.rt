@@ -7,16 +7,25 @@ use crate::area::{add_answers, add_arguments};
 use crate::around::{ADDRESS, Around, STATUS, held};
 use crate::calls::{add_as_deep, add_deeper, add_depth_test, add_indirect_call, function_of};
 use crate::choice::add_if;
-use crate::failing::{HANDED_ON, add_fail, add_raise, add_void_test, deeper};
+use crate::failing::{add_fail_if, add_raise, add_void_test, deeper};
 use crate::values::add_type_of;
 use sa_dispatch::Span;
-use sa_flat::CallPlan;
-use sa_runtime::layout::FAULT_KIND;
+use sa_flat::{CallPlan, Fail};
+use sa_runtime::layout::{FAULT_KIND, HANDED_ON};
 use sa_runtime::line::{Op, add_line};
 use sqlite_items::Items;
 use std::alloc::Global;
 use wa_syntax::opcode::{I32_ADD, I32_EQ, UNREACHABLE};
 use wa_syntax::{Instr, NoMemory, ValTy};
+
+/// Where the number of the class is that chooses an implementation.
+#[derive(Clone, Copy)]
+pub enum Class {
+    /// It is the class of the object in this variable.
+    Of(u32),
+    /// It is in the local `ADDRESS`.
+    InAddress,
+}
 
 /// A dispatched call.
 pub fn add_dispatch(
@@ -39,7 +48,7 @@ pub fn add_dispatch(
 }
 
 /// Whether the implementations of a signature are bodies of features. They are alike in this, so the first one tells.
-fn is_plain(around: &Around<'_>, sig: u32) -> Result<bool, NoMemory> {
+pub fn is_plain(around: &Around<'_>, sig: u32) -> Result<bool, NoMemory> {
     let first = held(around.rows.first(sig))?;
     let target = held(around.flat.targets.get(first as usize).copied())?;
     let body = held(around.flat.bodies.get(target as usize))?;
@@ -55,13 +64,14 @@ fn add_plain(
     sig: u32,
     inside: u32,
 ) -> Result<(), NoMemory> {
-    add_depth_test(alloc, code, around, plan, inside)?;
+    let class = Class::Of(plan.recv);
+    add_depth_test(alloc, code, around, &plan.fail, inside)?;
     add_arguments(code, around.body, plan)?;
-    add_chosen(alloc, code, around, plan, sig, true)?;
+    add_chosen(alloc, code, around, class, sig, true, Op::I32(0))?;
     let mut raised = Items::new(alloc);
     add_raise(&mut raised, around, &plan.fail.raised, deeper(inside)?)?;
     add_if(alloc, code, raised)?;
-    add_answers(code, around.body, plan)
+    add_answers(code, around.body, plan.value, plan.args.as_slice())
 }
 
 /// A call of one of the bodies that were made for the implementations alone.
@@ -73,44 +83,55 @@ fn add_mixed(
     sig: u32,
     inside: u32,
 ) -> Result<(), NoMemory> {
+    let class = Class::Of(plan.recv);
     add_arguments(code, around.body, plan)?;
-    add_chosen(alloc, code, around, plan, sig, false)?;
+    add_chosen(alloc, code, around, class, sig, false, Op::I32(0))?;
     add_line(code, &[Op::Tee(STATUS)])?;
     let mut unreturned = Items::new(alloc);
-    add_unreturned(alloc, &mut unreturned, around, plan, deeper(inside)?)?;
+    add_unreturned(alloc, &mut unreturned, around, &plan.fail, deeper(inside)?)?;
     add_if(alloc, code, unreturned)?;
-    add_answers(code, around.body, plan)
+    add_answers(code, around.body, plan.value, plan.args.as_slice())
 }
 
-/// Adds what follows a body that didn't return: a fault that it hands on, or a raise.
-fn add_unreturned(
+/// Adds what follows a body that didn't return, by the status in the local: a fault that it hands on, or a raise.
+pub fn add_unreturned(
     alloc: Global,
     code: &mut Items<Instr>,
     around: &Around<'_>,
-    plan: &CallPlan,
+    fail: &Fail,
+    inside: u32,
+) -> Result<(), NoMemory> {
+    add_handed_on_fault(alloc, code, around, fail, inside)?;
+    add_raise(code, around, &fail.raised, inside)
+}
+
+/// Adds the fault that a body hands on, where the status in the local says so.
+pub fn add_handed_on_fault(
+    alloc: Global,
+    code: &mut Items<Instr>,
+    around: &Around<'_>,
+    fail: &Fail,
     inside: u32,
 ) -> Result<(), NoMemory> {
     let line = [Op::Get(STATUS), Op::I32(HANDED_ON), Op::Do(I32_EQ)];
     add_line(code, &line)?;
-    let mut fault = Items::new(alloc);
-    let kind = Op::GetGlobal(FAULT_KIND);
-    add_fail(&mut fault, around, kind, &plan.fail, deeper(inside)?)?;
-    add_if(alloc, code, fault)?;
-    add_raise(code, around, &plan.fail.raised, inside)
+    add_fail_if(alloc, code, around, Op::GetGlobal(FAULT_KIND), fail, inside)
 }
 
-/// Adds the call of the implementation for the receiver's class, which leaves its status as an operand.
-fn add_chosen(
+/// Adds the call of the implementation for a class, which leaves its status as an operand. `frame` reads the frame that it is
+/// handed.
+pub fn add_chosen(
     alloc: Global,
     code: &mut Items<Instr>,
     around: &Around<'_>,
-    plan: &CallPlan,
+    class: Class,
     sig: u32,
     plain: bool,
+    frame: Op,
 ) -> Result<(), NoMemory> {
     match around.rows.span(sig) {
-        Some(span) => add_by_table(code, around, plan, &span, plain),
-        None => add_by_tests(alloc, code, around, plan, sig, plain),
+        Some(span) => add_by_table(code, around, class, &span, plain, frame),
+        None => add_by_tests(alloc, code, around, class, sig, plain, frame),
     }
 }
 
@@ -118,38 +139,39 @@ fn add_chosen(
 fn add_by_table(
     code: &mut Items<Instr>,
     around: &Around<'_>,
-    plan: &CallPlan,
+    class: Class,
     span: &Span,
     plain: bool,
+    frame: Op,
 ) -> Result<(), NoMemory> {
-    add_handed(code, plain)?;
-    add_type_of(code, around, plan.recv)?;
+    add_depth_and_frame(code, plain, frame)?;
+    add_class(code, around, class)?;
     let before = span.first.wrapping_sub(span.least);
     add_line(code, &[Op::I32(before), Op::Do(I32_ADD)])?;
     add_indirect_call(code)
 }
 
-/// Adds one test after the other of the receiver's type, each with its call.
+/// Adds one test after the other of the class, each with its call.
 fn add_by_tests(
     alloc: Global,
     code: &mut Items<Instr>,
     around: &Around<'_>,
-    plan: &CallPlan,
+    class: Class,
     sig: u32,
     plain: bool,
+    frame: Op,
 ) -> Result<(), NoMemory> {
-    add_type_of(code, around, plan.recv)?;
-    add_line(code, &[Op::Set(ADDRESS)])?;
+    add_class_in_address(code, around, class)?;
     let mut tests = Items::new(alloc);
     for ty in around.rows.types(sig) {
-        add_test(alloc, &mut tests, around, sig, *ty, plain)?;
+        add_test(alloc, &mut tests, around, sig, *ty, plain, frame)?;
     }
     add_line(&mut tests, &[Op::Do(UNREACHABLE)])?;
     code.push(Instr::Block(Some(ValTy::I32), tests))?;
     Ok(())
 }
 
-/// Adds the test of the receiver's type, and the call for it, behind which the status leaves the block of the tests.
+/// Adds the test of the class, and the call for it, behind which the status leaves the block of the tests.
 fn add_test(
     alloc: Global,
     code: &mut Items<Instr>,
@@ -157,22 +179,50 @@ fn add_test(
     sig: u32,
     ty: u32,
     plain: bool,
+    frame: Op,
 ) -> Result<(), NoMemory> {
-    let row = held(around.rows.row(sig, ty))?;
-    let target = held(around.flat.targets.get(row as usize).copied())?;
-    let func = function_of(target)?;
+    let func = function_of(target_of(around, sig, ty)?)?;
     let mut call = Items::new(alloc);
-    add_handed(&mut call, plain)?;
+    add_depth_and_frame(&mut call, plain, frame)?;
     add_line(&mut call, &[Op::Call(func), Op::Br(1)])?;
     add_line(code, &[Op::Get(ADDRESS), Op::I32(ty), Op::Do(I32_EQ)])?;
     add_if(alloc, code, call)
 }
 
+/// The body that does a signature's implementation for a class.
+pub fn target_of(around: &Around<'_>, sig: u32, ty: u32) -> Result<u32, NoMemory> {
+    let row = held(around.rows.row(sig, ty))?;
+    held(around.flat.targets.get(row as usize).copied())
+}
+
+/// Adds the number of the class, as an operand.
+fn add_class(code: &mut Items<Instr>, around: &Around<'_>, class: Class) -> Result<(), NoMemory> {
+    match class {
+        Class::Of(var) => add_type_of(code, around, var),
+        Class::InAddress => add_line(code, &[Op::Get(ADDRESS)]),
+    }
+}
+
+/// Adds what puts the number of the class into the local for it.
+fn add_class_in_address(
+    code: &mut Items<Instr>,
+    around: &Around<'_>,
+    class: Class,
+) -> Result<(), NoMemory> {
+    match class {
+        Class::Of(var) => {
+            add_type_of(code, around, var)?;
+            add_line(code, &[Op::Set(ADDRESS)])
+        }
+        Class::InAddress => Ok(()),
+    }
+}
+
 /// Adds the depth and the frame that an implementation gets, as operands.
-fn add_handed(code: &mut Items<Instr>, plain: bool) -> Result<(), NoMemory> {
+fn add_depth_and_frame(code: &mut Items<Instr>, plain: bool, frame: Op) -> Result<(), NoMemory> {
     if plain {
-        add_deeper(code)
+        add_deeper(code, frame)
     } else {
-        add_as_deep(code)
+        add_as_deep(code, frame)
     }
 }

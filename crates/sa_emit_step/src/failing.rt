@@ -3,7 +3,9 @@
 use crate::around::{Around, BLOCK, NOT_A_HEAD, Role, held};
 use crate::choice::add_if;
 use sa_flat::{Fail, FlatBody, FlatExit, Raised};
-use sa_runtime::layout::{EXCEPTION, EXCEPTION_KIND, EXCEPTION_PLACE, FAULT, FAULT_KIND};
+use sa_runtime::layout::{
+    EXCEPTION, EXCEPTION_KIND, EXCEPTION_PLACE, FAULT, FAULT_KIND, HANDED_ON, RAISED,
+};
 use sa_runtime::line::{Op, add_line};
 use sqlite_items::Items;
 use std::alloc::Global;
@@ -24,15 +26,6 @@ pub const UNCAUGHT: u32 = 8;
 
 /// The fault where the room is used up.
 pub const NO_ROOM: u32 = 9;
-
-/// The fault where activations nest too deep.
-pub const TOO_DEEP: u32 = 10;
-
-/// The status of a body that is left with a raise.
-pub const RAISED: u32 = 1;
-
-/// The status of a body that hands a fault on.
-pub const HANDED_ON: u32 = 4;
 
 /// Adds a fault where the operand isn't 0. `kind` reads its number.
 pub fn add_fail_if(
@@ -76,7 +69,8 @@ pub fn add_fail(
     }
 }
 
-fn add_handed_on(code: &mut Items<Instr>, kind: Op) -> Result<(), NoMemory> {
+/// Adds what hands a fault to the caller. `kind` reads its number.
+pub fn add_handed_on(code: &mut Items<Instr>, kind: Op) -> Result<(), NoMemory> {
     let line = [
         kind,
         Op::SetGlobal(FAULT_KIND),
@@ -125,7 +119,7 @@ pub fn add_raise(
         Op::Set(around.local(raised.kind)),
     ];
     add_line(code, &line)?;
-    jump(code, around, raised.block, inside)
+    add_jump(code, around, raised.block, inside)
 }
 
 /// Adds a jump to a block that the dispatch knows. `inside` is the number of the label of the dispatch.
@@ -134,26 +128,26 @@ pub fn add_raise(
 ///
 /// `NoMemory`, also where the dispatch doesn't know the block.
 pub fn add_jump(
-    _alloc: Global,
     code: &mut Items<Instr>,
     around: &Around<'_>,
     block: u32,
     inside: u32,
 ) -> Result<(), NoMemory> {
-    jump(code, around, block, inside)
+    let head = head_of(around, block)?;
+    add_line(code, &[Op::I32(head), Op::Set(BLOCK), Op::Br(inside)])
 }
 
-fn jump(
-    code: &mut Items<Instr>,
-    around: &Around<'_>,
-    block: u32,
-    inside: u32,
-) -> Result<(), NoMemory> {
+/// The number of a block in the dispatch.
+///
+/// # Errors
+///
+/// `NoMemory` where the dispatch doesn't know the block.
+pub fn head_of(around: &Around<'_>, block: u32) -> Result<u32, NoMemory> {
     let head = held(around.heads.get(block as usize).copied())?;
     if head == NOT_A_HEAD {
         return Err(not_a_head());
     }
-    add_line(code, &[Op::I32(head), Op::Set(BLOCK), Op::Br(inside)])
+    Ok(head)
 }
 
 /// The answer for a jump to a block that the dispatch doesn't know.

@@ -1,29 +1,24 @@
 //! The exits that leave a body.
 
 use crate::area::add_copies_back;
-use crate::around::{Around, Role, not_emitted};
-use crate::failing::{RAISED, add_fail};
+use crate::around::{Around, Role};
+use crate::failing::add_fail;
+use crate::suspension::add_suspend;
 use sa_flat::FlatExit;
-use sa_runtime::layout::{EXCEPTION, EXCEPTION_KIND, EXCEPTION_PLACE, RESULT};
+use sa_runtime::layout::{
+    ENDED, EXCEPTION, EXCEPTION_KIND, EXCEPTION_PLACE, RAISED, RESULT, RETURNED,
+};
 use sa_runtime::line::{Op, add_line};
 use sqlite_items::Items;
-use std::alloc::Global;
 use wa_syntax::opcode::{I32_WRAP_I64, RETURN};
 use wa_syntax::{Instr, NoMemory};
-
-/// The status of a body that has returned.
-const RETURNED: u32 = 0;
-
-/// The status of an instance that has ended.
-const ENDED: u32 = 3;
 
 /// Adds an exit that leaves the body, or a fault. `inside` is the number of the label of the dispatch.
 ///
 /// # Errors
 ///
-/// `NoMemory`, also for a suspension and for exits that stay in the body.
+/// `NoMemory`, also for exits that stay in the body.
 pub fn add_leaving(
-    _alloc: Global,
     code: &mut Items<Instr>,
     around: &Around<'_>,
     exit: &FlatExit,
@@ -38,10 +33,15 @@ pub fn add_leaving(
         FlatExit::Stop { kind, fail } => {
             add_fail(code, around, Op::I32(u32::from(*kind)), fail, inside)
         }
-        FlatExit::Jump(_) => Err(not_emitted()),
-        FlatExit::Branch { .. } => Err(not_emitted()),
-        FlatExit::Suspend { .. } => Err(not_emitted()),
+        FlatExit::Suspend { value, resume } => add_suspend(code, around, *value, *resume, inside),
+        FlatExit::Jump(_) => Err(stays()),
+        FlatExit::Branch { .. } => Err(stays()),
     }
+}
+
+/// The answer for an exit that stays in the body.
+fn stays() -> NoMemory {
+    NoMemory
 }
 
 /// A return with a value.

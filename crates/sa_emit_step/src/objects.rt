@@ -1,9 +1,10 @@
 //! Steps that make objects, and those that widen immutable values and give them back.
 
 use crate::area::add_result;
-use crate::around::{ADDRESS, Around, STATUS};
+use crate::around::{ADDRESS, Around, Role, STATUS};
 use crate::builtins::CREATE;
-use crate::failing::{NO_ROOM, add_fail_if};
+use crate::choice::add_if_else;
+use crate::failing::{NO_ROOM, add_fail_if, deeper};
 use sa_flat::Fail;
 use sa_runtime::layout::{
     ALLOCATE, BOOL, BOXED, CHAR, INT, OBJECT, UNWRAPPED, WIDENED, attribute_at, first_element_at,
@@ -13,7 +14,8 @@ use sa_runtime::line::{Op, add_line};
 use sqlite_items::Items;
 use std::alloc::Global;
 use wa_syntax::opcode::{
-    I32_EQZ, I32_WRAP_I64, I64_ADD, I64_EXTEND_I32_U, I64_LOAD, I64_SHL, I64_STORE,
+    I32_EQZ, I32_WRAP_I64, I64_ADD, I64_AND, I64_EQ, I64_EXTEND_I32_U, I64_LOAD, I64_SHL,
+    I64_SHR_U, I64_STORE,
 };
 use wa_syntax::{Instr, NoMemory};
 
@@ -98,8 +100,62 @@ pub fn add_element(code: &mut Items<Instr>, object: u32, place: u32) -> Result<(
     add_line(code, &line)
 }
 
-/// An immutable value at an abstract type.
+/// An immutable value at an abstract type. An argument of a body that was made for an implementation may be one that a bind
+/// has widened, and is marked so.
 pub fn add_widen(
+    alloc: Global,
+    code: &mut Items<Instr>,
+    around: &Around<'_>,
+    to: u32,
+    from: u32,
+    ty: u32,
+    fail: &Fail,
+    inside: u32,
+) -> Result<(), NoMemory> {
+    if !may_be_marked(around, from) {
+        return add_widening(alloc, code, around, to, from, ty, fail, inside);
+    }
+    let mut marked = Items::new(alloc);
+    let line = [
+        Op::Get(around.local(from)),
+        Op::I64(0xffff_ffff),
+        Op::Do(I64_AND),
+        Op::Set(around.local(to)),
+    ];
+    add_line(&mut marked, &line)?;
+    let mut unmarked = Items::new(alloc);
+    add_widening(
+        alloc,
+        &mut unmarked,
+        around,
+        to,
+        from,
+        ty,
+        fail,
+        deeper(inside)?,
+    )?;
+    let line = [
+        Op::Get(around.local(from)),
+        Op::I64(32),
+        Op::Do(I64_SHR_U),
+        Op::I64(1),
+        Op::Do(I64_EQ),
+    ];
+    add_line(code, &line)?;
+    add_if_else(code, marked, unmarked)
+}
+
+/// Whether a variable may hold a value that a bind has widened.
+fn may_be_marked(around: &Around<'_>, var: u32) -> bool {
+    match around.role {
+        Role::Target => (var as usize) < around.body.formals.len(),
+        Role::Feature => false,
+        Role::Last => false,
+    }
+}
+
+/// Adds what widens a value.
+fn add_widening(
     alloc: Global,
     code: &mut Items<Instr>,
     around: &Around<'_>,
@@ -115,7 +171,7 @@ pub fn add_widen(
 }
 
 /// Adds the call that widens, which leaves its status in the local and as an operand.
-fn add_widened(
+pub fn add_widened(
     code: &mut Items<Instr>,
     around: &Around<'_>,
     from: u32,

@@ -1,10 +1,14 @@
 //! One step, as the instructions that its own function adds.
 
-use crate::around::{Around, not_emitted};
+use crate::around::Around;
 use crate::attributes::add_init_shared;
+use crate::binding::{add_bind, add_widen_for};
 use crate::calls::add_call;
+use crate::entering::{add_enter, add_has_frame};
 use crate::failing::{UNCAUGHT, add_void_test};
+use crate::frames::{add_has_entry, add_release};
 use crate::objects::{add_new, add_new_array, add_put_item, add_unwrap, add_widen};
+use crate::sites::{add_resume, add_start};
 use crate::values::{add_const, add_is_void, add_me, add_move, add_type_is};
 use sa_flat::{FlatStep, Raised};
 use sa_runtime::line::{Op, add_line};
@@ -16,7 +20,7 @@ use wa_syntax::{Instr, NoMemory};
 ///
 /// # Errors
 ///
-/// `NoMemory`, also for steps of iters and those that make bound values, and where a number of the step is out of range.
+/// `NoMemory`, also where a number of the step is out of range.
 pub fn add_step(
     alloc: Global,
     code: &mut Items<Instr>,
@@ -54,12 +58,39 @@ pub fn add_step(
         FlatStep::InitShared { shared, from } => add_init_shared(code, around, *shared, *from),
         FlatStep::Call { plan } => add_call(alloc, code, around, plan, inside),
         FlatStep::Raising { value, place, to } => add_raising(code, around, *value, *place, to),
-        FlatStep::Bind { .. } => Err(not_emitted()),
-        FlatStep::HasEntry { .. } => Err(not_emitted()),
-        FlatStep::Start { .. } => Err(not_emitted()),
-        FlatStep::Resume { .. } => Err(not_emitted()),
-        FlatStep::Enter { .. } => Err(not_emitted()),
-        FlatStep::Release { .. } => Err(not_emitted()),
+        FlatStep::WidenFor {
+            to,
+            from,
+            ty,
+            recv,
+            types,
+            fail,
+        } => {
+            let types = types.as_slice();
+            add_widen_for(
+                alloc, code, around, *to, *from, *ty, *recv, types, fail, inside,
+            )
+        }
+        FlatStep::Bind { plan, entry } => add_bind(alloc, code, around, plan, *entry, inside),
+        FlatStep::HasEntry { to, site } => add_has_entry(code, around, *to, *site),
+        FlatStep::Start { site, plan, quit } => {
+            add_start(alloc, code, around, *site, plan, *quit, inside)
+        }
+        FlatStep::Resume { site, plan, quit } => {
+            add_resume(alloc, code, around, *site, plan, *quit, inside)
+        }
+        FlatStep::HasFrame { to } => add_has_frame(code, around, *to),
+        FlatStep::Enter {
+            body,
+            recv,
+            args,
+            value,
+            quit,
+        } => {
+            let args = args.as_slice();
+            add_enter(alloc, code, around, *body, *recv, args, *value, *quit)
+        }
+        FlatStep::Release { sites } => add_release(alloc, code, around, sites.as_slice()),
     }
 }
 

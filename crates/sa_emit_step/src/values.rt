@@ -89,8 +89,8 @@ pub fn add_type_is(
     add_line(code, &line)
 }
 
-/// Adds the test of a type's number against a span.
-fn add_span_test(code: &mut Items<Instr>, span: &TypeSpan) -> Result<(), NoMemory> {
+/// Adds the test of the type's number in the local `ADDRESS` against a span.
+pub fn add_span_test(code: &mut Items<Instr>, span: &TypeSpan) -> Result<(), NoMemory> {
     if span.least == span.greatest {
         let line = [Op::Get(ADDRESS), Op::I32(span.least), Op::Do(I32_EQ)];
         return add_line(code, &line);

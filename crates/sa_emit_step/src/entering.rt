@@ -1,0 +1,100 @@
+//! Steps of bodies that were made for an implementation by an iter. Such a body is no activation: it takes the frame of the
+//! instance at a start, hands it out, and runs the iter's body on it, at the depth of its caller.
+
+use crate::area::{add_answers, add_handed};
+use crate::around::{Around, FRAME};
+use crate::calls::{add_deeper, add_too_deep, function_of};
+use crate::choice::{add_if, add_if_else};
+use crate::failing::add_handed_on;
+use crate::frames::{add_frame_self, add_is_frame};
+use crate::outcome::{add_is_raised, add_is_suspended, add_quit};
+use sa_flat::FlatArg;
+use sa_runtime::layout::{END_FRAME, FRAME_OUT, NEW_FRAME, RAISED, TOO_DEEP, TOO_MANY_FRAMES};
+use sa_runtime::line::{Op, add_line};
+use sqlite_items::Items;
+use std::alloc::Global;
+use wa_syntax::opcode::{I32_EQZ, RETURN};
+use wa_syntax::{Instr, NoMemory};
+
+/// Whether the instance has a frame already.
+pub fn add_has_frame(
+    code: &mut Items<Instr>,
+    around: &Around<'_>,
+    to: u32,
+) -> Result<(), NoMemory> {
+    add_is_frame(code, around, to, FRAME)
+}
+
+/// Takes the frame of the instance at a start, and runs the iter's body on it.
+pub fn add_enter(
+    alloc: Global,
+    code: &mut Items<Instr>,
+    around: &Around<'_>,
+    body: u32,
+    recv: u32,
+    args: &[FlatArg],
+    value: Option<u32>,
+    quit: u32,
+) -> Result<(), NoMemory> {
+    let func = function_of(body)?;
+    add_too_deep(code)?;
+    add_handed_on_if(alloc, code, TOO_DEEP)?;
+    add_frame(alloc, code, around, recv)?;
+    add_handed(code, around.body, args, true)?;
+    add_deeper(code, Op::Get(FRAME))?;
+    add_line(code, &[Op::Call(func)])?;
+    let suspended = suspended(alloc, around, args, value, quit)?;
+    let ended = ended(alloc, around, quit)?;
+    add_is_suspended(code)?;
+    add_if_else(code, suspended, ended)
+}
+
+/// Adds what hands a fault to the caller where the operand isn't 0.
+fn add_handed_on_if(alloc: Global, code: &mut Items<Instr>, kind: u32) -> Result<(), NoMemory> {
+    let mut fault = Items::new(alloc);
+    add_handed_on(&mut fault, Op::I32(kind))?;
+    add_if(alloc, code, fault)
+}
+
+/// Adds what takes a frame where the instance has none.
+fn add_frame(
+    alloc: Global,
+    code: &mut Items<Instr>,
+    around: &Around<'_>,
+    recv: u32,
+) -> Result<(), NoMemory> {
+    let mut start = Items::new(alloc);
+    let line = [Op::Call(NEW_FRAME), Op::Tee(FRAME), Op::Do(I32_EQZ)];
+    add_line(&mut start, &line)?;
+    add_handed_on_if(alloc, &mut start, TOO_MANY_FRAMES)?;
+    add_frame_self(&mut start, around, FRAME, recv)?;
+    add_line(code, &[Op::Get(FRAME), Op::Do(I32_EQZ)])?;
+    add_if(alloc, code, start)
+}
+
+/// What follows a suspension: the frame goes to the site.
+fn suspended(
+    alloc: Global,
+    around: &Around<'_>,
+    args: &[FlatArg],
+    value: Option<u32>,
+    quit: u32,
+) -> Result<Items<Instr>, NoMemory> {
+    let mut code = Items::new(alloc);
+    add_line(&mut code, &[Op::Get(FRAME), Op::SetGlobal(FRAME_OUT)])?;
+    add_answers(&mut code, around.body, value, args)?;
+    add_quit(&mut code, around, quit, false)?;
+    Ok(code)
+}
+
+/// What follows the end of the instance: a raise goes to the caller.
+fn ended(alloc: Global, around: &Around<'_>, quit: u32) -> Result<Items<Instr>, NoMemory> {
+    let mut code = Items::new(alloc);
+    add_line(&mut code, &[Op::Get(FRAME), Op::Call(END_FRAME)])?;
+    let mut raise = Items::new(alloc);
+    add_line(&mut raise, &[Op::I32(RAISED), Op::Do(RETURN)])?;
+    add_is_raised(&mut code)?;
+    add_if(alloc, &mut code, raise)?;
+    add_quit(&mut code, around, quit, true)?;
+    Ok(code)
+}

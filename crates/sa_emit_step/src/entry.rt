@@ -1,0 +1,169 @@
+//! The words of a bind, which the call of its values reads: what is called, and which arguments the values keep.
+
+use crate::around::{Around, NOT_PLACED, held};
+use crate::attributes::{is_immutable, shared_at};
+use crate::dispatch::is_plain;
+use sa_flat::{BindEntry, Callee};
+use sa_prelude::BuiltinFeature;
+use sa_runtime::layout::{
+    CHOSEN_ITER, CHOSEN_MADE, CHOSEN_ROUTINE, FIRST_BOUND_BUILTIN, GET_OF_OBJECT, GET_OF_VALUE,
+    GET_SHARED, ITER, ROUTINE, SET_OF_OBJECT, SET_OF_VALUE, SET_SHARED, attribute_at,
+    first_element_at,
+};
+use sqlite_items::Items;
+use std::alloc::Global;
+use wa_syntax::NoMemory;
+
+/// How many arguments a word tells of.
+const ARGUMENTS_A_WORD: usize = 8;
+
+/// What a bound value calls.
+#[derive(Clone, Copy)]
+struct Called {
+    /// The number of the form.
+    kind: u32,
+    /// The place in the table, of an attribute in its object, or of a shared in memory.
+    number: u32,
+}
+
+/// The words of a bind, in the order of their addresses.
+///
+/// # Errors
+///
+/// `NoMemory`, also where a number of the entry is out of range.
+pub fn entry_words(
+    alloc: Global,
+    around: &Around<'_>,
+    entry: &BindEntry,
+) -> Result<Items<u64>, NoMemory> {
+    let called = called_of(around, entry)?;
+    let count = held(u32::try_from(entry.open.len()).ok())?;
+    let given = given(entry.open.as_slice());
+    let mut words = Items::new(alloc);
+    words.push(word(called.kind, called.number))?;
+    words.push(word(entry.class, first_of(around, entry)?))?;
+    words.push(word(count, given))?;
+    for open in entry.open.as_slice().chunks(ARGUMENTS_A_WORD) {
+        words.push(open_word(open))?;
+    }
+    Ok(words)
+}
+
+/// A word of two halves, the one at the lower address first.
+fn word(low: u32, high: u32) -> u64 {
+    u64::from(low) + 0x1_0000_0000 * u64::from(high)
+}
+
+/// A word with a byte for each argument: 1 where it is open.
+fn open_word(open: &[bool]) -> u64 {
+    let mut word = 0u64;
+    for is_open in open.iter().rev() {
+        word = word.wrapping_mul(0x100).wrapping_add(u64::from(*is_open));
+    }
+    word
+}
+
+/// How many arguments aren't open.
+pub fn given(open: &[bool]) -> u32 {
+    let mut count = 0u32;
+    for is_open in open {
+        if !*is_open {
+            count = count.saturating_add(1);
+        }
+    }
+    count
+}
+
+/// What the values of a bind call.
+fn called_of(around: &Around<'_>, entry: &BindEntry) -> Result<Called, NoMemory> {
+    match entry.callee {
+        Callee::Body(body) => body_called(around, body),
+        Callee::Dispatch(sig) => Ok(of_kind(chosen_kind(around, sig)?, 0)),
+        Callee::Builtin(number) => {
+            let kind = FIRST_BOUND_BUILTIN + u32::from(number);
+            Ok(of_kind(kind, 0))
+        }
+        Callee::Get(place) => {
+            let kind = of_object_or_value(around, entry, GET_OF_OBJECT, GET_OF_VALUE)?;
+            Ok(of_kind(kind, attribute_at(place)))
+        }
+        Callee::Set(place) => {
+            let kind = of_object_or_value(around, entry, SET_OF_OBJECT, SET_OF_VALUE)?;
+            Ok(of_kind(kind, attribute_at(place)))
+        }
+        Callee::GetShared(shared) => Ok(of_kind(GET_SHARED, shared_at(shared)?)),
+        Callee::SetShared(shared) => Ok(of_kind(SET_SHARED, shared_at(shared)?)),
+        Callee::Bound => held(None),
+    }
+}
+
+fn of_kind(kind: u32, number: u32) -> Called {
+    Called { kind, number }
+}
+
+/// The body of a feature, by its place in the table.
+fn body_called(around: &Around<'_>, body: u32) -> Result<Called, NoMemory> {
+    let place = held(around.places.get(body as usize).copied())?;
+    if place == NOT_PLACED {
+        return held(None);
+    }
+    let kind = if is_iter(around, body)? {
+        ITER
+    } else {
+        ROUTINE
+    };
+    Ok(of_kind(kind, place))
+}
+
+/// The form of what the receiver's class chooses. The implementations of a signature are alike in it, so the first one tells.
+/// Where there is none, no value is made.
+fn chosen_kind(around: &Around<'_>, sig: u32) -> Result<u32, NoMemory> {
+    let Some(first) = around.rows.first(sig) else {
+        return Ok(CHOSEN_ROUTINE);
+    };
+    if !is_plain(around, sig)? {
+        return Ok(CHOSEN_MADE);
+    }
+    let target = held(around.flat.targets.get(first as usize).copied())?;
+    if is_iter(around, target)? {
+        return Ok(CHOSEN_ITER);
+    }
+    Ok(CHOSEN_ROUTINE)
+}
+
+fn is_iter(around: &Around<'_>, body: u32) -> Result<bool, NoMemory> {
+    Ok(held(around.flat.bodies.get(body as usize))?.iter)
+}
+
+/// One form for objects, and another for immutable values.
+fn of_object_or_value(
+    around: &Around<'_>,
+    entry: &BindEntry,
+    object: u32,
+    value: u32,
+) -> Result<u32, NoMemory> {
+    if is_immutable(around, entry.class)? {
+        return Ok(value);
+    }
+    Ok(object)
+}
+
+/// What has to be known of the class: where the elements of its objects begin, or how many attributes its values have.
+fn first_of(around: &Around<'_>, entry: &BindEntry) -> Result<u32, NoMemory> {
+    match entry.callee {
+        Callee::Builtin(number) => first_of_builtin(around, entry.class, number),
+        Callee::Set(_) => around.attributes(entry.class),
+        _ => Ok(0),
+    }
+}
+
+/// Where elements begin that a built-in feature reads, writes or makes.
+fn first_of_builtin(around: &Around<'_>, class: u32, number: u8) -> Result<u32, NoMemory> {
+    match held(BuiltinFeature::of_number(number))? {
+        BuiltinFeature::ArefAget | BuiltinFeature::ArefAset | BuiltinFeature::ArrayCreate => {
+            Ok(first_element_at(around.attributes(class)?))
+        }
+        BuiltinFeature::StrOf => Ok(first_element_at(0)),
+        _ => Ok(0),
+    }
+}

@@ -1,0 +1,97 @@
+//! The frames of instances: each site has that of its instance in a local, or 0 where it has none.
+
+use crate::around::Around;
+use crate::calls::add_depth_test;
+use crate::choice::add_if;
+use crate::failing::add_fail_if;
+use crate::outcome::Site;
+use sa_runtime::layout::{FRAME_SELF_AT, NEW_FRAME, RELEASE, TOO_MANY_FRAMES};
+use sa_runtime::line::{Op, add_line};
+use sqlite_items::Items;
+use std::alloc::Global;
+use wa_syntax::opcode::{I32_EQZ, I32_NE, I64_EXTEND_I32_U, I64_STORE};
+use wa_syntax::{Instr, NoMemory};
+
+/// Whether a site has an instance.
+pub fn add_has_entry(
+    code: &mut Items<Instr>,
+    around: &Around<'_>,
+    to: u32,
+    site: u32,
+) -> Result<(), NoMemory> {
+    add_is_frame(code, around, to, around.site(site))
+}
+
+/// Adds what tells whether a local holds the address of a frame.
+pub fn add_is_frame(
+    code: &mut Items<Instr>,
+    around: &Around<'_>,
+    to: u32,
+    frame: u32,
+) -> Result<(), NoMemory> {
+    let line = [
+        Op::Get(frame),
+        Op::I32(0),
+        Op::Do(I32_NE),
+        Op::Do(I64_EXTEND_I32_U),
+        Op::Set(around.local(to)),
+    ];
+    add_line(code, &line)
+}
+
+/// Ends the instances of sites in this order, with those inside them.
+pub fn add_release(
+    alloc: Global,
+    code: &mut Items<Instr>,
+    around: &Around<'_>,
+    sites: &[u32],
+) -> Result<(), NoMemory> {
+    for site in sites {
+        add_release_of(alloc, code, around.site(*site))?;
+    }
+    Ok(())
+}
+
+fn add_release_of(alloc: Global, code: &mut Items<Instr>, frame: u32) -> Result<(), NoMemory> {
+    let mut release = Items::new(alloc);
+    let line = [
+        Op::Get(frame),
+        Op::Call(RELEASE),
+        Op::I32(0),
+        Op::Set(frame),
+    ];
+    add_line(&mut release, &line)?;
+    add_line(code, &[Op::Get(frame)])?;
+    add_if(alloc, code, release)
+}
+
+/// Adds the faults of a start of the body of a feature, and what takes the frame of the instance and puts its own object there.
+pub fn add_new_frame(
+    alloc: Global,
+    code: &mut Items<Instr>,
+    around: &Around<'_>,
+    site: &Site<'_>,
+    inside: u32,
+) -> Result<(), NoMemory> {
+    let fail = &site.plan.fail;
+    add_depth_test(alloc, code, around, fail, inside)?;
+    let line = [Op::Call(NEW_FRAME), Op::Tee(site.frame), Op::Do(I32_EQZ)];
+    add_line(code, &line)?;
+    add_fail_if(alloc, code, around, Op::I32(TOO_MANY_FRAMES), fail, inside)?;
+    add_frame_self(code, around, site.frame, site.plan.recv)
+}
+
+/// Adds what puts the own object of an instance into its frame.
+pub fn add_frame_self(
+    code: &mut Items<Instr>,
+    around: &Around<'_>,
+    frame: u32,
+    recv: u32,
+) -> Result<(), NoMemory> {
+    let line = [
+        Op::Get(frame),
+        Op::Get(around.local(recv)),
+        Op::Memory(I64_STORE, FRAME_SELF_AT),
+    ];
+    add_line(code, &line)
+}

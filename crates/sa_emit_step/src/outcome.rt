@@ -1,0 +1,215 @@
+//! What follows the call at a site, by the status that it answers: the instance is suspended, or it has ended.
+//!
+//! Who takes a frame gives it back when the body ends: the site where it calls the body of a feature itself, and else what it
+//! calls. The local of the site is cleared before a raise goes on, so that what ends the instances of the loop finds none there.
+
+use crate::area::add_answers;
+use crate::around::{ADDRESS, Around, STATUS};
+use crate::choice::{add_if, add_if_else};
+use crate::dispatch::add_handed_on_fault;
+use crate::failing::{add_raise, deeper};
+use sa_flat::{CallPlan, Raised};
+use sa_runtime::layout::{CALLED_AT, END_FRAME, FRAME_OUT, RAISED, SITE_AT, SUSPENDED};
+use sa_runtime::line::{Op, add_line};
+use sqlite_items::Items;
+use std::alloc::Global;
+use wa_syntax::opcode::{I32_EQ, I32_STORE, I32_WRAP_I64};
+use wa_syntax::{Instr, NoMemory};
+
+/// A site as a start or a resumption names it.
+#[derive(Clone, Copy)]
+pub struct Site<'a> {
+    pub number: u32,
+    /// The local with the frame of its instance.
+    pub frame: u32,
+    pub plan: &'a CallPlan,
+    /// The variable that tells afterwards whether the instance has ended.
+    pub quit: u32,
+}
+
+/// What a site calls.
+#[derive(Clone, Copy)]
+pub enum Called {
+    /// The body of a feature.
+    Body,
+    /// The body of a feature that the class in `ADDRESS` chooses.
+    Plain,
+    /// A body that was made for an implementation alone, which the class in `ADDRESS` chooses.
+    Mixed,
+    /// A bound value.
+    Bound,
+}
+
+/// Whether the site itself takes the frame of the instance and gives it back.
+fn keeps_frame(called: Called) -> bool {
+    match called {
+        Called::Body => true,
+        Called::Plain => true,
+        Called::Mixed => false,
+        Called::Bound => false,
+    }
+}
+
+/// Adds what follows a start, whose status is the operand.
+pub fn add_started(
+    alloc: Global,
+    code: &mut Items<Instr>,
+    around: &Around<'_>,
+    site: &Site<'_>,
+    called: Called,
+    inside: u32,
+) -> Result<(), NoMemory> {
+    let mut suspended = Items::new(alloc);
+    add_begun(&mut suspended, around, site, called)?;
+    add_yielded(&mut suspended, around, site)?;
+    add_outcome(alloc, code, around, site, called, suspended, inside)
+}
+
+/// Adds what follows a resumption, whose status is the operand.
+pub fn add_resumed(
+    alloc: Global,
+    code: &mut Items<Instr>,
+    around: &Around<'_>,
+    site: &Site<'_>,
+    called: Called,
+    inside: u32,
+) -> Result<(), NoMemory> {
+    let mut suspended = Items::new(alloc);
+    add_yielded(&mut suspended, around, site)?;
+    add_outcome(alloc, code, around, site, called, suspended, inside)
+}
+
+/// Adds the choice by the status that is the operand: what is done where the instance is suspended, and else its end.
+fn add_outcome(
+    alloc: Global,
+    code: &mut Items<Instr>,
+    around: &Around<'_>,
+    site: &Site<'_>,
+    called: Called,
+    suspended: Items<Instr>,
+    inside: u32,
+) -> Result<(), NoMemory> {
+    let mut ended = Items::new(alloc);
+    add_ended(alloc, &mut ended, around, site, called, deeper(inside)?)?;
+    add_is_suspended(code)?;
+    add_if_else(code, suspended, ended)
+}
+
+/// Adds what keeps the status that is the operand, and whether it is that of a suspension, as an operand.
+pub fn add_is_suspended(code: &mut Items<Instr>) -> Result<(), NoMemory> {
+    let line = [Op::Tee(STATUS), Op::I32(SUSPENDED), Op::Do(I32_EQ)];
+    add_line(code, &line)
+}
+
+/// Adds what a site does behind the first suspension of an instance: it keeps the frame, and the frame gets the number of the
+/// site and what was called.
+fn add_begun(
+    code: &mut Items<Instr>,
+    around: &Around<'_>,
+    site: &Site<'_>,
+    called: Called,
+) -> Result<(), NoMemory> {
+    if !keeps_frame(called) {
+        add_line(code, &[Op::GetGlobal(FRAME_OUT), Op::Set(site.frame)])?;
+    }
+    let line = [
+        Op::Get(site.frame),
+        Op::I32(site.number),
+        Op::Memory(I32_STORE, SITE_AT),
+    ];
+    add_line(code, &line)?;
+    match called {
+        Called::Body => Ok(()),
+        Called::Plain => add_class_kept(code, site),
+        Called::Mixed => add_class_kept(code, site),
+        Called::Bound => add_bound_kept(code, around, site),
+    }
+}
+
+/// Adds what puts the class in `ADDRESS` into the frame.
+fn add_class_kept(code: &mut Items<Instr>, site: &Site<'_>) -> Result<(), NoMemory> {
+    let line = [
+        Op::Get(site.frame),
+        Op::Get(ADDRESS),
+        Op::Memory(I32_STORE, CALLED_AT),
+    ];
+    add_line(code, &line)
+}
+
+/// Adds what puts the address of the bound value into the frame.
+fn add_bound_kept(
+    code: &mut Items<Instr>,
+    around: &Around<'_>,
+    site: &Site<'_>,
+) -> Result<(), NoMemory> {
+    let line = [
+        Op::Get(site.frame),
+        Op::Get(around.local(site.plan.recv)),
+        Op::Do(I32_WRAP_I64),
+        Op::Memory(I32_STORE, CALLED_AT),
+    ];
+    add_line(code, &line)
+}
+
+/// Adds what takes the value of a suspension and what is copied back.
+fn add_yielded(
+    code: &mut Items<Instr>,
+    around: &Around<'_>,
+    site: &Site<'_>,
+) -> Result<(), NoMemory> {
+    let plan = site.plan;
+    add_answers(code, around.body, plan.value, plan.args.as_slice())?;
+    add_quit(code, around, site.quit, false)
+}
+
+/// Adds what follows the end of an instance, by the status in the local: a fault that is handed on, a raise, or the quit.
+fn add_ended(
+    alloc: Global,
+    code: &mut Items<Instr>,
+    around: &Around<'_>,
+    site: &Site<'_>,
+    called: Called,
+    inside: u32,
+) -> Result<(), NoMemory> {
+    let fail = &site.plan.fail;
+    if keeps_frame(called) {
+        add_line(code, &[Op::Get(site.frame), Op::Call(END_FRAME)])?;
+    }
+    add_line(code, &[Op::I32(0), Op::Set(site.frame)])?;
+    if !keeps_frame(called) {
+        add_handed_on_fault(alloc, code, around, fail, inside)?;
+    }
+    add_raised(alloc, code, around, &fail.raised, inside)?;
+    add_quit(code, around, site.quit, true)
+}
+
+/// Adds the raise that an instance has ended with, where the status in the local says so.
+fn add_raised(
+    alloc: Global,
+    code: &mut Items<Instr>,
+    around: &Around<'_>,
+    raised: &Raised,
+    inside: u32,
+) -> Result<(), NoMemory> {
+    let mut raise = Items::new(alloc);
+    add_raise(&mut raise, around, raised, deeper(inside)?)?;
+    add_is_raised(code)?;
+    add_if(alloc, code, raise)
+}
+
+/// Adds the test whether the status in the local is that of a raise, as an operand.
+pub fn add_is_raised(code: &mut Items<Instr>) -> Result<(), NoMemory> {
+    let line = [Op::Get(STATUS), Op::I32(RAISED), Op::Do(I32_EQ)];
+    add_line(code, &line)
+}
+
+/// Adds what tells whether the instance has ended.
+pub fn add_quit(
+    code: &mut Items<Instr>,
+    around: &Around<'_>,
+    quit: u32,
+    ended: bool,
+) -> Result<(), NoMemory> {
+    let line = [Op::I64(u64::from(ended)), Op::Set(around.local(quit))];
+    add_line(code, &line)
+}

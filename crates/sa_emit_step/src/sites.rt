@@ -1,0 +1,290 @@
+//! Iter calls: a start of an instance at a site, and its resumptions.
+//!
+//! The order at a start is: the fault of a void receiver, then that of the depth, then that of too many instances, then the
+//! arguments go into the area. A resumption reads neither the receiver nor the arguments that are `once`.
+
+use crate::area::{ARGUMENTS, add_handed, add_self};
+use crate::around::{ADDRESS, Around, DEPTH};
+use crate::calls::{add_deeper, add_depth_test, function_of};
+use crate::dispatch::{Class, add_chosen, is_plain};
+use crate::failing::add_void_test;
+use crate::frames::add_new_frame;
+use crate::outcome::{Called, Site, add_resumed, add_started};
+use crate::values::add_type_of;
+use sa_flat::{CallPlan, Callee};
+use sa_runtime::layout::{BOUND_CALL, CALLED_AT};
+use sa_runtime::line::{Op, add_line};
+use sqlite_items::Items;
+use std::alloc::Global;
+use wa_syntax::opcode::{I32_LOAD, I32_WRAP_I64, UNREACHABLE};
+use wa_syntax::{Instr, NoMemory};
+
+/// Starts an instance at a site.
+pub fn add_start(
+    alloc: Global,
+    code: &mut Items<Instr>,
+    around: &Around<'_>,
+    number: u32,
+    plan: &CallPlan,
+    quit: u32,
+    inside: u32,
+) -> Result<(), NoMemory> {
+    let site = site_of(around, number, plan, quit);
+    match plan.callee {
+        Callee::Body(body) => add_body_start(alloc, code, around, &site, body, inside),
+        Callee::Dispatch(sig) => add_dispatched_start(alloc, code, around, &site, sig, inside),
+        Callee::Bound => add_bound_start(alloc, code, around, &site, inside),
+        _ => Err(no_iter()),
+    }
+}
+
+/// Resumes the instance at a site.
+pub fn add_resume(
+    alloc: Global,
+    code: &mut Items<Instr>,
+    around: &Around<'_>,
+    number: u32,
+    plan: &CallPlan,
+    quit: u32,
+    inside: u32,
+) -> Result<(), NoMemory> {
+    let site = site_of(around, number, plan, quit);
+    match plan.callee {
+        Callee::Body(body) => add_body_resume(alloc, code, around, &site, body, inside),
+        Callee::Dispatch(sig) => add_dispatched_resume(alloc, code, around, &site, sig, inside),
+        Callee::Bound => add_bound_resume(alloc, code, around, &site, inside),
+        _ => Err(no_iter()),
+    }
+}
+
+/// The answer for a start of what is no iter.
+fn no_iter() -> NoMemory {
+    NoMemory
+}
+
+fn site_of<'a>(around: &Around<'_>, number: u32, plan: &'a CallPlan, quit: u32) -> Site<'a> {
+    Site {
+        number,
+        frame: around.site(number),
+        plan,
+        quit,
+    }
+}
+
+/// A start of the body of a feature.
+fn add_body_start(
+    alloc: Global,
+    code: &mut Items<Instr>,
+    around: &Around<'_>,
+    site: &Site<'_>,
+    body: u32,
+    inside: u32,
+) -> Result<(), NoMemory> {
+    let func = function_of(body)?;
+    add_new_frame(alloc, code, around, site, inside)?;
+    add_all(code, around, site)?;
+    add_deeper(code, Op::Get(site.frame))?;
+    add_line(code, &[Op::Call(func)])?;
+    add_started(alloc, code, around, site, Called::Body, inside)
+}
+
+/// A resumption of the body of a feature.
+fn add_body_resume(
+    alloc: Global,
+    code: &mut Items<Instr>,
+    around: &Around<'_>,
+    site: &Site<'_>,
+    body: u32,
+    inside: u32,
+) -> Result<(), NoMemory> {
+    let func = function_of(body)?;
+    add_depth_test(alloc, code, around, &site.plan.fail, inside)?;
+    add_all_but_once(code, around, site)?;
+    add_deeper(code, Op::Get(site.frame))?;
+    add_line(code, &[Op::Call(func)])?;
+    add_resumed(alloc, code, around, site, Called::Body, inside)
+}
+
+/// A start of the implementation of a signature.
+fn add_dispatched_start(
+    alloc: Global,
+    code: &mut Items<Instr>,
+    around: &Around<'_>,
+    site: &Site<'_>,
+    sig: u32,
+    inside: u32,
+) -> Result<(), NoMemory> {
+    let plan = site.plan;
+    add_void_test(alloc, code, around, plan.recv, &plan.fail, inside)?;
+    if around.rows.types(sig).is_empty() {
+        return add_line(code, &[Op::Do(UNREACHABLE)]);
+    }
+    if is_plain(around, sig)? {
+        add_plain_start(alloc, code, around, site, sig, inside)
+    } else {
+        add_mixed_start(alloc, code, around, site, sig, inside)
+    }
+}
+
+/// A start of one of the bodies of features.
+fn add_plain_start(
+    alloc: Global,
+    code: &mut Items<Instr>,
+    around: &Around<'_>,
+    site: &Site<'_>,
+    sig: u32,
+    inside: u32,
+) -> Result<(), NoMemory> {
+    let frame = Op::Get(site.frame);
+    add_new_frame(alloc, code, around, site, inside)?;
+    add_all(code, around, site)?;
+    add_class_of(code, around, site)?;
+    add_chosen(alloc, code, around, Class::InAddress, sig, true, frame)?;
+    add_started(alloc, code, around, site, Called::Plain, inside)
+}
+
+/// A start of one of the bodies that were made for the implementations alone. The body takes the frame.
+fn add_mixed_start(
+    alloc: Global,
+    code: &mut Items<Instr>,
+    around: &Around<'_>,
+    site: &Site<'_>,
+    sig: u32,
+    inside: u32,
+) -> Result<(), NoMemory> {
+    let frame = Op::I32(0);
+    add_self(code, around.body, site.plan.recv)?;
+    add_all(code, around, site)?;
+    add_class_of(code, around, site)?;
+    add_chosen(alloc, code, around, Class::InAddress, sig, false, frame)?;
+    add_started(alloc, code, around, site, Called::Mixed, inside)
+}
+
+/// A resumption of the implementation of a signature. The class that chose it stands in the frame.
+fn add_dispatched_resume(
+    alloc: Global,
+    code: &mut Items<Instr>,
+    around: &Around<'_>,
+    site: &Site<'_>,
+    sig: u32,
+    inside: u32,
+) -> Result<(), NoMemory> {
+    if around.rows.types(sig).is_empty() {
+        return add_line(code, &[Op::Do(UNREACHABLE)]);
+    }
+    if is_plain(around, sig)? {
+        add_plain_resume(alloc, code, around, site, sig, inside)
+    } else {
+        add_mixed_resume(alloc, code, around, site, sig, inside)
+    }
+}
+
+/// A resumption of one of the bodies of features.
+fn add_plain_resume(
+    alloc: Global,
+    code: &mut Items<Instr>,
+    around: &Around<'_>,
+    site: &Site<'_>,
+    sig: u32,
+    inside: u32,
+) -> Result<(), NoMemory> {
+    let frame = Op::Get(site.frame);
+    add_depth_test(alloc, code, around, &site.plan.fail, inside)?;
+    add_all_but_once(code, around, site)?;
+    add_called(code, site)?;
+    add_line(code, &[Op::Set(ADDRESS)])?;
+    add_chosen(alloc, code, around, Class::InAddress, sig, true, frame)?;
+    add_resumed(alloc, code, around, site, Called::Plain, inside)
+}
+
+/// A resumption of one of the bodies that were made for the implementations alone.
+fn add_mixed_resume(
+    alloc: Global,
+    code: &mut Items<Instr>,
+    around: &Around<'_>,
+    site: &Site<'_>,
+    sig: u32,
+    inside: u32,
+) -> Result<(), NoMemory> {
+    let frame = Op::Get(site.frame);
+    add_all_but_once(code, around, site)?;
+    add_called(code, site)?;
+    add_line(code, &[Op::Set(ADDRESS)])?;
+    add_chosen(alloc, code, around, Class::InAddress, sig, false, frame)?;
+    add_resumed(alloc, code, around, site, Called::Mixed, inside)
+}
+
+/// A start of a bound value.
+fn add_bound_start(
+    alloc: Global,
+    code: &mut Items<Instr>,
+    around: &Around<'_>,
+    site: &Site<'_>,
+    inside: u32,
+) -> Result<(), NoMemory> {
+    let plan = site.plan;
+    add_void_test(alloc, code, around, plan.recv, &plan.fail, inside)?;
+    if plan.args.len() > ARGUMENTS {
+        return add_line(code, &[Op::Do(UNREACHABLE)]);
+    }
+    add_all(code, around, site)?;
+    let line = [
+        Op::Get(DEPTH),
+        Op::I32(0),
+        Op::Get(around.local(plan.recv)),
+        Op::Do(I32_WRAP_I64),
+        Op::Call(BOUND_CALL),
+    ];
+    add_line(code, &line)?;
+    add_started(alloc, code, around, site, Called::Bound, inside)
+}
+
+/// A resumption of a bound value, whose address stands in the frame.
+fn add_bound_resume(
+    alloc: Global,
+    code: &mut Items<Instr>,
+    around: &Around<'_>,
+    site: &Site<'_>,
+    inside: u32,
+) -> Result<(), NoMemory> {
+    if site.plan.args.len() > ARGUMENTS {
+        return add_line(code, &[Op::Do(UNREACHABLE)]);
+    }
+    add_all_but_once(code, around, site)?;
+    add_line(code, &[Op::Get(DEPTH), Op::Get(site.frame)])?;
+    add_called(code, site)?;
+    add_line(code, &[Op::Call(BOUND_CALL)])?;
+    add_resumed(alloc, code, around, site, Called::Bound, inside)
+}
+
+/// Adds what stores the arguments of a start.
+fn add_all(code: &mut Items<Instr>, around: &Around<'_>, site: &Site<'_>) -> Result<(), NoMemory> {
+    add_handed(code, around.body, site.plan.args.as_slice(), true)
+}
+
+/// Adds what stores the arguments of a resumption.
+fn add_all_but_once(
+    code: &mut Items<Instr>,
+    around: &Around<'_>,
+    site: &Site<'_>,
+) -> Result<(), NoMemory> {
+    add_handed(code, around.body, site.plan.args.as_slice(), false)
+}
+
+/// Adds what puts the number of the receiver's class into `ADDRESS`, where it stays over the call.
+fn add_class_of(
+    code: &mut Items<Instr>,
+    around: &Around<'_>,
+    site: &Site<'_>,
+) -> Result<(), NoMemory> {
+    add_type_of(code, around, site.plan.recv)?;
+    add_line(code, &[Op::Set(ADDRESS)])
+}
+
+/// Adds what the frame tells of the start: the number of the receiver's class, or the address of the bound value.
+fn add_called(code: &mut Items<Instr>, site: &Site<'_>) -> Result<(), NoMemory> {
+    add_line(
+        code,
+        &[Op::Get(site.frame), Op::Memory(I32_LOAD, CALLED_AT)],
+    )
+}
