@@ -130,13 +130,13 @@ fn add_block(
     let block = held(around.body.blocks.get(number as usize))?;
     add_steps(alloc, code, around, block.steps.as_slice(), spot.inside)?;
     match &block.exit {
-        FlatExit::Jump(to) => add_going_on(alloc, code, around, *to, spot),
+        FlatExit::Jump(to) => add_going_on(code, around, *to, spot),
         FlatExit::Branch { test, yes, no } => {
             add_test(code, around, *test)?;
             add_branch(alloc, code, around, *yes, *no, spot)
         }
         exit => {
-            add_leaving(alloc, code, around, exit, spot.inside)?;
+            add_leaving(code, around, exit, spot.inside)?;
             Ok(Behind::Nothing)
         }
     }
@@ -158,7 +158,6 @@ fn add_steps(
 
 /// Adds a jump to a block that is a head. The code of another one stands here.
 fn add_going_on(
-    alloc: Global,
     code: &mut Items<Instr>,
     around: &Around<'_>,
     block: u32,
@@ -167,7 +166,7 @@ fn add_going_on(
     if !is_head(around, block)? {
         return Ok(Behind::Block(block));
     }
-    add_jump_to(alloc, code, around, block, spot)?;
+    add_jump_to(code, around, block, spot)?;
     Ok(Behind::Nothing)
 }
 
@@ -182,7 +181,7 @@ fn add_branch(
 ) -> Result<Behind, NoMemory> {
     if is_head(around, yes)? {
         add_jump_where(alloc, code, around, yes, spot)?;
-        return add_going_on(alloc, code, around, no, spot);
+        return add_going_on(code, around, no, spot);
     }
     if is_head(around, no)? {
         code.push(Instr::Plain(opcode::I32_EQZ))?;
@@ -211,14 +210,13 @@ fn add_jump_where(
         return Ok(code.push(Instr::BrIf(label))?);
     }
     let mut jump = Items::new(alloc);
-    add_jump(alloc, &mut jump, around, head, sum(spot.inside, 1)?)?;
+    add_jump(&mut jump, around, head, sum(spot.inside, 1)?)?;
     code.push(Instr::If(None, jump, Items::new(alloc)))?;
     Ok(())
 }
 
 /// Adds a jump to a head: back to its own loop, or to the dispatch.
 fn add_jump_to(
-    alloc: Global,
     code: &mut Items<Instr>,
     around: &Around<'_>,
     head: u32,
@@ -226,7 +224,7 @@ fn add_jump_to(
 ) -> Result<(), NoMemory> {
     match label_of(spot, head) {
         Some(label) => Ok(code.push(Instr::Br(label))?),
-        None => add_jump(alloc, code, around, head, spot.inside),
+        None => add_jump(code, around, head, spot.inside),
     }
 }
 

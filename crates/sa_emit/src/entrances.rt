@@ -146,6 +146,7 @@ fn raised_of(step: &FlatStep) -> Option<Raised> {
         FlatStep::New { fail, .. } => Some(fail.raised),
         FlatStep::NewArray { fail, .. } => Some(fail.raised),
         FlatStep::Widen { fail, .. } => Some(fail.raised),
+        FlatStep::WidenFor { fail, .. } => Some(fail.raised),
         FlatStep::NotVoid { fail, .. } => Some(fail.raised),
         FlatStep::Call { plan } => Some(plan.fail.raised),
         FlatStep::Bind { plan, .. } => Some(plan.fail.raised),

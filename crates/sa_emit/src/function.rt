@@ -3,10 +3,14 @@
 use crate::chain::add_head;
 use crate::dispatch::{Dispatch, add_loop};
 use crate::entrances::{Entrance, entrances};
-use crate::heads::heads_of;
+use crate::heads::{Heads, heads_of};
+use crate::pool::has_frames;
 use sa_dispatch::Rows;
-use sa_emit_step::{Around, BODY_TYPE, Below, Role, add_prologue, locals_of};
+use sa_emit_step::{
+    Around, Below, Role, add_iter_prologue, add_prologue, add_suspension, locals_of,
+};
 use sa_flat::{FlatBody, FlatProgram};
+use sa_runtime::layout::BODY_TYPE;
 use sqlite_items::Items;
 use std::alloc::Global;
 use wa_syntax::{Func, Instr, NoMemory};
@@ -19,6 +23,10 @@ pub struct Common<'a> {
     /// The address of each text.
     pub texts: &'a [u32],
     pub below: &'a Below,
+    /// The address of each bind.
+    pub entries: &'a [u32],
+    /// For each body its place in the table behind those of the implementations, or `NOT_PLACED`.
+    pub places: &'a [u32],
 }
 
 /// The function of each body, in order.
@@ -63,27 +71,63 @@ fn function(
         texts: common.texts,
         below: common.below,
         heads: heads.numbers.as_slice(),
+        entries: common.entries,
+        places: common.places,
     };
-    let mut code = Items::new(alloc);
-    add_prologue(alloc, &mut code, body)?;
-    if is_chain(entrances.as_slice(), heads.blocks.as_slice()) {
-        add_head(alloc, &mut code, &around, 0, 0)?;
+    let code = if has_frames(body) {
+        resumed(alloc, &around, &heads)?
     } else {
-        add_loop(
-            alloc,
-            &mut code,
-            &Dispatch {
-                around: &around,
-                heads: heads.blocks.as_slice(),
-                repeats: heads.repeats.as_slice(),
-            },
-        )?;
-    }
+        run_once(alloc, &around, entrances.as_slice(), &heads)?
+    };
     Ok(Func {
         ty: BODY_TYPE,
         locals: locals_of(alloc, body)?,
         body: code,
     })
+}
+
+/// The code of a body whose instances are suspended and resumed. A suspension leaves the block around the dispatch, and a
+/// resumption goes through the dispatch to the head that it goes on in, so there is one also where nothing else jumps to a head.
+fn resumed(alloc: Global, around: &Around<'_>, heads: &Heads) -> Result<Items<Instr>, NoMemory> {
+    let mut code = Items::new(alloc);
+    add_iter_prologue(alloc, &mut code, around.body)?;
+    let mut inside = Items::new(alloc);
+    add_dispatched(alloc, &mut inside, around, heads)?;
+    code.push(Instr::Block(None, inside))?;
+    add_suspension(alloc, &mut code, around.body)?;
+    Ok(code)
+}
+
+/// The code of a body that runs from its beginning.
+fn run_once(
+    alloc: Global,
+    around: &Around<'_>,
+    entrances: &[Entrance],
+    heads: &Heads,
+) -> Result<Items<Instr>, NoMemory> {
+    let mut code = Items::new(alloc);
+    add_prologue(&mut code, around.body)?;
+    if is_chain(entrances, heads.blocks.as_slice()) {
+        add_head(alloc, &mut code, around, 0, 0)?;
+    } else {
+        add_dispatched(alloc, &mut code, around, heads)?;
+    }
+    Ok(code)
+}
+
+/// Adds the code of heads that are jumped to.
+fn add_dispatched(
+    alloc: Global,
+    code: &mut Items<Instr>,
+    around: &Around<'_>,
+    heads: &Heads,
+) -> Result<(), NoMemory> {
+    let dispatch = Dispatch {
+        around,
+        heads: heads.blocks.as_slice(),
+        repeats: heads.repeats.as_slice(),
+    };
+    add_loop(alloc, code, &dispatch)
 }
 
 /// Whether nothing jumps to a head, so that the body needs no loop.

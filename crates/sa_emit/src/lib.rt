@@ -11,6 +11,8 @@ mod heads;
 mod held;
 mod memory;
 mod module;
+mod places;
+mod pool;
 mod program;
 mod table;
 mod texts;

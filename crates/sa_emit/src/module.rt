@@ -5,11 +5,13 @@ use crate::function::{Common, add_bodies};
 use crate::globals::globals;
 use crate::held::{held, number, sum};
 use crate::memory::Memory;
+use crate::places::Places;
+use crate::pool::{add_pool, first_frame};
 use crate::table::{elements, tables};
 use crate::texts::segments;
 use crate::types::{GET_TYPE, PUT_TYPE, STOP_TYPE, own_types};
 use sa_runtime::layout::FIRST_BODY;
-use sa_runtime::{RuntimeCode, code, support};
+use sa_runtime::{RuntimeCode, code, frames, support};
 use sqlite_items::Items;
 use std::alloc::Global;
 use wa_syntax::{
@@ -21,12 +23,14 @@ pub fn module(
     alloc: Global,
     common: &Common<'_>,
     memory: &Memory,
+    places: &Places,
     room: u32,
 ) -> Result<Module, NoMemory> {
     let mut types = own_types(alloc)?;
     let mut funcs = Items::new(alloc);
     add_runtime(&mut types, &mut funcs, code(alloc, memory.base, room)?)?;
     add_runtime(&mut types, &mut funcs, support(alloc)?)?;
+    add_frames(alloc, &mut types, &mut funcs, memory)?;
     add_bodies(alloc, &mut funcs, common)?;
     let main = sum(FIRST_BODY, number(common.flat.bodies.len())?)?;
     funcs.push(main_function(alloc, held(main.checked_sub(1))?)?)?;
@@ -34,12 +38,12 @@ pub fn module(
         types,
         imports: imports(alloc)?,
         funcs,
-        tables: tables(alloc, common.rows)?,
+        tables: tables(alloc, places)?,
         memories: memories(alloc, memory.pages)?,
         globals: globals(alloc, memory.base)?,
         exports: exports(alloc, main)?,
         start: None,
-        elems: elements(alloc, common.flat, common.rows)?,
+        elems: elements(alloc, common.flat, common.rows, places)?,
         segments: segments(alloc, common.flat, memory.texts_at)?,
     })
 }
@@ -65,6 +69,18 @@ fn add_runtime(
         funcs.push(Func { ty, locals, body })?;
     }
     Ok(())
+}
+
+/// Adds the functions of the pool, and those of frames and bound values.
+fn add_frames(
+    alloc: Global,
+    types: &mut Items<FuncTy>,
+    funcs: &mut Items<Func>,
+    memory: &Memory,
+) -> Result<(), NoMemory> {
+    add_pool(alloc, funcs, memory.pool, memory.slot_bytes)?;
+    let first = first_frame(memory.pool)?;
+    add_runtime(types, funcs, frames(alloc, first, memory.slot_bytes)?)
 }
 
 /// The host's three functions.

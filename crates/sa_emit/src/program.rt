@@ -4,6 +4,8 @@ use crate::function::Common;
 use crate::held::{number, sum};
 use crate::memory::memory_of;
 use crate::module::module;
+use crate::places::places_of;
+use crate::pool::{slot_bytes, slot_words};
 use sa_dispatch::Rows;
 use sa_emit_step::Below;
 use sa_flat::FlatProgram;
@@ -12,9 +14,6 @@ use sa_tree::Pos;
 use sqlite_items::Items;
 use std::alloc::Global;
 use wa_syntax::{Module, NoMemory};
-
-/// How many words a frame has.
-const SLOT_WORDS: u32 = 8;
 
 /// A program as a module.
 #[derive(Drop)]
@@ -40,19 +39,23 @@ pub fn emit(
     rows: &Rows,
     room: u32,
 ) -> Result<Emitted, NoMemory> {
-    let memory = memory_of(alloc, flat, room)?;
+    let slot_words = slot_words(flat)?;
+    let memory = memory_of(alloc, flat, slot_bytes(slot_words)?, room)?;
     let below = Below::of(alloc, flat)?;
+    let places = places_of(alloc, flat, rows)?;
     let common = Common {
         flat,
         rows,
         texts: memory.texts.as_slice(),
         below: &below,
+        entries: memory.entries.as_slice(),
+        places: places.of.as_slice(),
     };
     Ok(Emitted {
-        module: module(alloc, &common, &memory, room)?,
+        module: module(alloc, &common, &memory, &places, room)?,
         func_of: functions(alloc, flat.bodies.len())?,
         sites: Items::from_slice(alloc, flat.sites.as_slice())?,
-        slot_words: SLOT_WORDS,
+        slot_words,
     })
 }
 

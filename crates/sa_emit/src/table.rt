@@ -1,7 +1,8 @@
-//! The table of functions that dispatched calls go through: for each implementation of a signature with a span the function that
-//! does it.
+//! The table of functions that dispatched calls and calls of bound values go through: for each implementation of a signature with
+//! a span the function that does it, and behind them the functions of the other bodies that bound values call.
 
 use crate::held::{held, number, sum};
+use crate::places::Places;
 use sa_dispatch::Rows;
 use sa_flat::FlatProgram;
 use sa_runtime::layout::FIRST_BODY;
@@ -10,16 +11,14 @@ use std::alloc::Global;
 use std::mem;
 use wa_syntax::{Elem, Init, Limits, NoMemory};
 
-/// The table, where there are rows with a place in it.
-pub fn tables(alloc: Global, rows: &Rows) -> Result<Items<Limits>, NoMemory> {
-    let mut tables = Items::new(alloc);
-    if rows.size() > 0 {
-        tables.push(Limits {
-            min: rows.size(),
-            max: Some(rows.size()),
-        })?;
-    }
-    Ok(tables)
+/// The table. Each module has one, since the runtime calls bound values through it.
+pub fn tables(alloc: Global, places: &Places) -> Result<Items<Limits>, NoMemory> {
+    let size = sum(places.first, number(places.bodies.len())?)?;
+    let table = Limits {
+        min: size,
+        max: Some(size),
+    };
+    Ok(Items::from_slice(alloc, &[table])?)
 }
 
 /// The segments so far, and the functions of neighbouring places that aren't in one yet.
@@ -31,7 +30,12 @@ struct Filled {
 }
 
 /// The segments of the table: one for each run of neighbouring places.
-pub fn elements(alloc: Global, flat: &FlatProgram, rows: &Rows) -> Result<Items<Elem>, NoMemory> {
+pub fn elements(
+    alloc: Global,
+    flat: &FlatProgram,
+    rows: &Rows,
+    places: &Places,
+) -> Result<Items<Elem>, NoMemory> {
     let mut filled = Filled {
         elems: Items::new(alloc),
         first: 0,
@@ -40,6 +44,7 @@ pub fn elements(alloc: Global, flat: &FlatProgram, rows: &Rows) -> Result<Items<
     for sig in 0..rows.signatures() {
         add_signature(alloc, &mut filled, flat, rows, sig)?;
     }
+    add_placed(alloc, &mut filled, places)?;
     filled.close(alloc)?;
     let Filled {
         elems,
@@ -63,6 +68,15 @@ fn add_signature(
             let body = *held(flat.targets.get(row as usize))?;
             filled.add(alloc, place, sum(FIRST_BODY, body)?)?;
         }
+    }
+    Ok(())
+}
+
+/// Adds the functions of the bodies behind those of the implementations.
+fn add_placed(alloc: Global, filled: &mut Filled, places: &Places) -> Result<(), NoMemory> {
+    for (behind, body) in places.bodies.as_slice().iter().enumerate() {
+        let place = sum(places.first, number(behind)?)?;
+        filled.add(alloc, place, sum(FIRST_BODY, *body)?)?;
     }
     Ok(())
 }

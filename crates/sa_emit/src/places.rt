@@ -1,0 +1,95 @@
+//! The bodies that bound values call, and their places in the table of functions, behind those of the implementations that have
+//! a place by their signature.
+
+use crate::held::{held, number, sum};
+use sa_dispatch::Rows;
+use sa_emit_step::NOT_PLACED;
+use sa_flat::{Callee, FlatProgram};
+use sqlite_items::Items;
+use std::alloc::Global;
+use wa_syntax::NoMemory;
+
+/// The places of bodies that bound values call.
+#[derive(Drop)]
+pub struct Places {
+    /// The place of the first such body.
+    pub first: u32,
+    /// For each body of the program its place, or `NOT_PLACED`.
+    pub of: Items<u32>,
+    /// The bodies in the order of their places.
+    pub bodies: Items<u32>,
+    /// For each signature whether its implementations have been seen to.
+    seen: Items<bool>,
+}
+
+/// The places of a program's bodies: of those that binds name, and of the implementations of signatures that binds name and that
+/// have no place by their signature.
+pub fn places_of(alloc: Global, flat: &FlatProgram, rows: &Rows) -> Result<Places, NoMemory> {
+    let mut places = no_places(alloc, flat, rows)?;
+    for bind in flat.binds.as_slice() {
+        match bind.callee {
+            Callee::Body(body) => places.add(body)?,
+            Callee::Dispatch(sig) => places.add_signature(flat, rows, sig)?,
+            _ => {}
+        }
+    }
+    Ok(places)
+}
+
+/// No body has a place.
+fn no_places(alloc: Global, flat: &FlatProgram, rows: &Rows) -> Result<Places, NoMemory> {
+    let mut places = Places {
+        first: rows.size(),
+        of: Items::new(alloc),
+        bodies: Items::new(alloc),
+        seen: Items::new(alloc),
+    };
+    for _ in 0..flat.bodies.len() {
+        places.of.push(NOT_PLACED)?;
+    }
+    for _ in 0..rows.signatures() {
+        places.seen.push(false)?;
+    }
+    Ok(places)
+}
+
+impl Places {
+    /// Adds a body that isn't there yet.
+    fn add(&mut self, body: u32) -> Result<(), NoMemory> {
+        let at = body as usize;
+        if at >= self.of.len() {
+            return Err(NoMemory);
+        }
+        if self.of.get(at) != Some(&NOT_PLACED) {
+            return Ok(());
+        }
+        let place = sum(self.first, number(self.bodies.len())?)?;
+        self.of.set(at, place);
+        self.bodies.push(body)?;
+        Ok(())
+    }
+
+    /// Adds the implementations of a signature that has no part of the table.
+    fn add_signature(&mut self, flat: &FlatProgram, rows: &Rows, sig: u32) -> Result<(), NoMemory> {
+        if self.is_seen(sig)? || rows.span(sig).is_some() {
+            return Ok(());
+        }
+        let first = held(rows.first(sig))?;
+        let end = sum(first, number(rows.types(sig).len())?)?;
+        for row in first..end {
+            self.add(*held(flat.targets.get(row as usize))?)?;
+        }
+        Ok(())
+    }
+
+    /// Whether the implementations of a signature have been seen to. From now on they have.
+    fn is_seen(&mut self, sig: u32) -> Result<bool, NoMemory> {
+        let at = sig as usize;
+        if at >= self.seen.len() {
+            return Err(NoMemory);
+        }
+        let seen = self.seen.get(at) == Some(&true);
+        self.seen.set(at, true);
+        Ok(seen)
+    }
+}

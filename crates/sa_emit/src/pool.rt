@@ -1,0 +1,81 @@
+//! The pool of frames: how large a frame and the pool are, and the two functions of the module that take frames and give them
+//! back.
+
+use crate::held::{held, number, sum};
+use crate::types::{GET_TYPE, PUT_TYPE};
+use sa_flat::{FlatBody, FlatProgram};
+use sa_pool::{PoolCode, code};
+use sa_runtime::layout::FRAME_WORDS;
+use sqlite_items::Items;
+use std::alloc::Global;
+use wa_syntax::{Func, NoMemory};
+
+/// How many frames the pool has.
+const FRAMES: u64 = 10_000;
+
+/// The bytes of the pool's head, which the frames follow.
+const HEAD: u32 = 8;
+
+/// The bytes of a word.
+const WORD: u32 = 8;
+
+/// Whether instances of a body have a frame while they are suspended: the body is that of an iter of a class. A body that was
+/// made for an implementation alone has the frame of the one that it enters.
+pub fn has_frames(body: &FlatBody) -> bool {
+    body.iter && body.feature.is_some()
+}
+
+/// How many words a frame takes, so that it holds what any iter of the program keeps.
+pub fn slot_words(flat: &FlatProgram) -> Result<u32, NoMemory> {
+    let mut most = 0;
+    for body in flat.bodies.as_slice() {
+        most = kept(body).max(most);
+    }
+    sum(FRAME_WORDS, number(most)?)
+}
+
+/// How many variables a frame of this body keeps.
+fn kept(body: &FlatBody) -> usize {
+    if has_frames(body) {
+        return body.kept.len();
+    }
+    0
+}
+
+/// How many bytes a frame of so many words takes.
+pub fn slot_bytes(words: u32) -> Result<u32, NoMemory> {
+    held(words.checked_mul(WORD))
+}
+
+/// How many bytes the pool takes with frames of so many bytes.
+pub fn pool_bytes(slot_bytes: u32) -> u64 {
+    u64::from(HEAD) + FRAMES * u64::from(slot_bytes)
+}
+
+/// The address of the first frame of the pool at this address.
+pub fn first_frame(pool: u32) -> Result<u32, NoMemory> {
+    sum(pool, HEAD)
+}
+
+/// Adds `TAKE` and `GIVE`, for the pool at this address with frames of so many bytes.
+pub fn add_pool(
+    alloc: Global,
+    funcs: &mut Items<Func>,
+    pool: u32,
+    slot_bytes: u32,
+) -> Result<(), NoMemory> {
+    let PoolCode { take, give } = code(alloc, pool, slot_bytes)?;
+    funcs.push(typed(take, GET_TYPE))?;
+    funcs.push(typed(give, PUT_TYPE))?;
+    Ok(())
+}
+
+/// The function with the number that its type has in the module.
+fn typed(func: Func, ty: u32) -> Func {
+    let Func {
+        ty: _,
+        locals,
+        body,
+    } = func;
+    Func { ty, locals, body }
+}
