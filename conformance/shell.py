@@ -37,7 +37,7 @@ def cases(folder):
     yield 'without words the usage is told', run([], folder), (b'', USAGE, 124)
     yield 'a program is accepted', run(['check', 'f.sa'], folder), (b'accepted\n', b'', 0)
     yield 'a program with an iter call is accepted', run(['check', 'iter.sa'], folder), (b'accepted\n', b'', 0)
-    yield 'a program with an iter call isn\'t built', run(['run', 'iter.sa'], folder), (b'', b'not built\n', 119)
+    yield 'a program with an iter call prints what is yielded', run(['run', 'iter.sa'], folder), (b'123', b'', 0)
     yield 'a program prints a sum', run(['run', 'sum.sa'], folder), (b'3', b'', 0)
     fault = b'fault.sa:2: fault: division by zero\n'
     yield 'a fault stops a program at its line', run(['run', 'fault.sa'], folder), (b'a', fault, 121)

@@ -4,4 +4,4 @@
 mod lines;
 mod module;
 
-pub use module::{BuildFault, Built, module_of};
+pub use module::{Built, module_of};

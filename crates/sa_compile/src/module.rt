@@ -6,7 +6,7 @@ use crate::lines::lines;
 use sa_core::{Core, positions};
 use sa_dispatch::rows;
 use sa_emit::emit;
-use sa_lower::{is_built, lower};
+use sa_lower::lower;
 use sa_tree::{NoMemory, Pos};
 use sqlite_items::Items;
 use std::alloc::Global;
@@ -19,34 +19,14 @@ pub struct Built {
     pub sites: Items<Pos>,
 }
 
-/// Why a program has no module.
-#[derive(Clone, Copy, Debug, PartialEq, Eq, Hash)]
-pub enum BuildFault {
-    /// It has iter calls, bound values or protects, which can't be compiled yet.
-    NotBuilt,
-    NoMemory,
-}
-
-/// The module of a typed program of these texts, with so many KiB of room for its objects.
+/// The module of a typed program of these texts, with so many KiB of room for its objects. Fails where memory runs out, also
+/// where a module of WebAssembly can't be as large as this one.
 pub fn module_of(
     alloc: Global,
     core: Core,
     texts: &[Items<u8>],
     room: u32,
-) -> Result<Built, BuildFault>
-    ensures size { IfOk result (λ built. length built.bytes.items < 4294967295) }
-{
-    if !is_built(&core) {
-        return Err(BuildFault::NotBuilt);
-    }
-    match compiled(alloc, core, texts, room) {
-        Ok(built) => Ok(built),
-        Err(NoMemory) => Err(BuildFault::NoMemory),
-    }
-}
-
-/// The module of a program that can be compiled.
-fn compiled(alloc: Global, core: Core, texts: &[Items<u8>], room: u32) -> Result<Built, NoMemory>
+) -> Result<Built, NoMemory>
     ensures size { IfOk result (λ built. length built.bytes.items < 4294967295) }
 {
     let positions = positions(alloc, &core)?;

@@ -39,7 +39,6 @@ placed_check seen sources _ check = tt
 -- texts that give no module, read from these files
 explained : (files : Option Files) (failed : Type 0) (names : List (List ℕ)) (sources : Sources) (ends : Cause) → IsReadAs files names sources None → Explains sources.texts ends → ComesOfFiles files failed names sources ends
 explained files failed names sources (cause.Refused refusal) read explains = inr (read, explains)
-explained files failed names sources cause.NotBuilt read explains = (read, explains)
 explained files failed names sources cause.NoMemory read explains = tt
 explained files failed names sources _ read explains = absurd explains
 

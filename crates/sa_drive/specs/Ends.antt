@@ -16,7 +16,6 @@ RunEnds seen fuel (cause.Fault kind pos) = ⊥
 RunEnds seen fuel cause.StoreFault = ⊥
 RunEnds seen fuel cause.Usage = ⊥
 RunEnds seen fuel (cause.NotListing line) = ⊥
-RunEnds seen fuel cause.NotBuilt = ⊥
 RunEnds seen fuel _ = ⊤
 
 -- the end of a program that is run with this fuel: that of its module, or a fault
@@ -43,7 +42,6 @@ abbrev pub ComesBeforeOutput : Cause → Type 0
 ComesBeforeOutput (cause.Refused refusal) = ⊤
 ComesBeforeOutput cause.StoreFault = ⊤
 ComesBeforeOutput cause.Usage = ⊤
-ComesBeforeOutput cause.NotBuilt = ⊤
 ComesBeforeOutput cause.Malformed = ⊤
 ComesBeforeOutput (cause.Invalid func) = ⊤
 ComesBeforeOutput (cause.Unlinked import) = ⊤

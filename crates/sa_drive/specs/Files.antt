@@ -32,16 +32,14 @@ abbrev pub IsAmong : ℕ → FrontFault → Type 0
 IsAmong texts (Refused refusal) = refusal.pos.file < texts
 IsAmong texts NoMemory = ⊤
 
--- an accepted program has no module: it can't be compiled yet, or memory has run out
-abbrev pub IsUnbuilt : Cause → Type 0
-IsUnbuilt cause.NotBuilt = ⊤
-IsUnbuilt cause.NoMemory = ⊤
-IsUnbuilt _ = ⊥
+-- why an accepted program has no module
+abbrev pub IsWantOfMemory : Cause → Type 0
+IsWantOfMemory cause.NoMemory = ⊤
+IsWantOfMemory _ = ⊥
 
 -- why texts give no module
 abbrev pub Explains : List (List ℕ) → Cause → Type 0
 Explains texts (cause.Refused refusal) = IsRefusalFor texts refusal
-Explains texts cause.NotBuilt = IsTakenUpTo texts (length texts)
 Explains texts cause.NoMemory = ⊤
 Explains texts _ = ⊥
 
@@ -52,7 +50,6 @@ ExplainsProgram program ends = ((refusal : Refusal) × (program.cut ≡ Some ref
 -- why files give no module, where this says that the store failed
 abbrev pub ComesOfFiles : Option Files → Type 0 → List (List ℕ) → Sources → Cause → Type 0
 ComesOfFiles files store_failed names sources (cause.Refused refusal) = IsRefusedFor files names sources refusal
-ComesOfFiles files store_failed names sources cause.NotBuilt = IsTakenProgram files names sources
 ComesOfFiles files store_failed names sources cause.StoreFault = store_failed ⊎ LacksOneOf files names
 ComesOfFiles files store_failed names sources cause.NoMemory = ⊤
 ComesOfFiles files store_failed names sources _ = ⊥

@@ -7,7 +7,7 @@ use Rattle.std.specs.Prelude.{Option, None, Some}
 use Rattle.sa_drive.specs.declared.outcome.Outcome.{Outcome}
 use Rattle.sa_drive.specs.Texts.{refusal_text, fault_text}
 use Rattle.sa_drive.specs.declared.cause.Cause.{Cause}
-use Rattle.sa_drive.specs.declared.cause.Cause.TheVariants.{Done, Refused, Fault, Stopped, Spent, StoreFault, InFault, OutFault, Usage, Malformed, Invalid, Unlinked, Segment, Trap, TooDeep, NotListing, NotBuilt, NoMemory}
+use Rattle.sa_drive.specs.declared.cause.Cause.TheVariants.{Done, Refused, Fault, Stopped, Spent, StoreFault, InFault, OutFault, Usage, Malformed, Invalid, Unlinked, Segment, Trap, TooDeep, NotListing, NoMemory}
 
 -- the line of a place, from 1
 abbrev pub line_number : Sources → Pos → ℕ
@@ -47,7 +47,6 @@ line_of_cause sources file Segment = about_file file (codes "segment")
 line_of_cause sources file (Trap kind) = about_file file (codes "trap")
 line_of_cause sources file TooDeep = about_file file (codes "too deep")
 line_of_cause sources file (NotListing line) = listing_line file line
-line_of_cause sources file NotBuilt = codes "not built\n"
 line_of_cause sources file NoMemory = codes "out of memory\n"
 
 -- the position is in one of the texts

@@ -1,11 +1,10 @@
 -- The status of each cause.
 use Rattle.std.specs.Prelude.{ℕ}
 use Rattle.sa_drive.specs.declared.cause.Cause.{Cause}
-use Rattle.sa_drive.specs.declared.cause.Cause.TheVariants.{Done, Refused, Fault, Stopped, Spent, StoreFault, InFault, OutFault, Usage, Malformed, Invalid, Unlinked, Segment, Trap, TooDeep, NotListing, NotBuilt, NoMemory}
+use Rattle.sa_drive.specs.declared.cause.Cause.TheVariants.{Done, Refused, Fault, Stopped, Spent, StoreFault, InFault, OutFault, Usage, Malformed, Invalid, Unlinked, Segment, Trap, TooDeep, NotListing, NoMemory}
 
 abbrev pub status_of : Cause → ℕ
 status_of Done = 0
-status_of NotBuilt = 119
 status_of (Refused refusal) = 120
 status_of (Fault kind position) = 121
 status_of (Stopped code site) = 121

@@ -43,8 +43,6 @@ pub enum Cause {
     TooDeep,
     /// The text is no listing of a module, from the line with this number on.
     NotListing(u32),
-    /// The source is in a form that can't be compiled yet.
-    NotBuilt,
     /// Memory ran out.
     NoMemory,
 }
@@ -66,7 +64,6 @@ impl Cause {
     {
         match self {
             Cause::Done => 0,
-            Cause::NotBuilt => 119,
             Cause::Refused(_) => 120,
             Cause::Fault(_, _) | Cause::Stopped(_, _) => 121,
             Cause::Spent(_) => 122,

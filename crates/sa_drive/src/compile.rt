@@ -3,16 +3,16 @@
 ghost use Rattle.std.specs.Prelude.{◌≡◌, ◌≤◌, ◌<◌, All, length, map, None, IfErr, IfOk, IfSome, MatchResult};
 ghost use Rattle.sa_outside.specs.Faults.{Rose};
 ghost use Rattle.sa_read.specs.Front.{IsTakenUpTo};
-ghost use Rattle.sa_drive.specs.Files.{ComesOfFiles, Explains, ExplainsProgram, IsAmong, IsTakenProgram, IsUnbuilt};
+ghost use Rattle.sa_drive.specs.Files.{ComesOfFiles, Explains, ExplainsProgram, IsAmong, IsTakenProgram, IsWantOfMemory};
 ghost use Rattle.sa_drive.specs.Lines.{IsPlaced};
 
 use crate::cause::Cause;
 use sa_check::check;
-use sa_compile::{BuildFault, Built, module_of};
+use sa_compile::{Built, module_of};
 use sa_core::Core;
 use sa_outside::Store;
 use sa_read::{Program, ReadFault, classes, read_program};
-use sa_tree::{Class, FrontFault, Sources};
+use sa_tree::{Class, FrontFault, NoMemory, Sources};
 use sqlite_items::Items;
 use std::alloc::Global;
 
@@ -142,7 +142,7 @@ fn accepted(alloc: Global, classes: Items<Class>, texts: usize) -> Result<Core, 
 /// What is made of a typed program of these texts.
 fn made(alloc: Global, core: Core, texts: &[Items<u8>], goal: Goal) -> Result<Built, Cause>
     ensures size { IfOk result (λ built. length built.bytes.items < 4294967295) }
-    ensures fault { IfErr result IsUnbuilt }
+    ensures fault { IfErr result IsWantOfMemory }
 {
     match goal {
         Goal::Check => Ok(Built {
@@ -151,8 +151,7 @@ fn made(alloc: Global, core: Core, texts: &[Items<u8>], goal: Goal) -> Result<Bu
         }),
         Goal::Module(room) => match module_of(alloc, core, texts, room) {
             Ok(built) => Ok(built),
-            Err(BuildFault::NotBuilt) => Err(Cause::NotBuilt),
-            Err(BuildFault::NoMemory) => Err(Cause::NoMemory),
+            Err(NoMemory) => Err(Cause::NoMemory),
         },
     }
 }

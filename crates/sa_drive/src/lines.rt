@@ -72,7 +72,6 @@ fn line(alloc: Global, sources: &Sources, file: &str, cause: &Cause) -> Result<V
         Cause::Trap(_) => about_file(alloc, file, "trap", ""),
         Cause::TooDeep => about_file(alloc, file, "too deep", ""),
         Cause::NotListing(line) => listing_line(alloc, file, *line),
-        Cause::NotBuilt => Vec::from_slice(alloc, b"not built\n"),
         Cause::NoMemory => Vec::from_slice(alloc, NO_MEMORY),
     }
 }
