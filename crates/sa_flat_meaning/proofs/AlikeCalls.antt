@@ -16,7 +16,7 @@ use Rattle.sa_flat_meaning.specs.Frames as frames
 use Rattle.sa_flat_meaning.specs.Frames.{Activation, Ending, Way, Cause, Faulted, Failed, InputFailed, Stuck}
 use Rattle.sa_flat_meaning.specs.Order.{Eval, read, write, put, this, enter, leave}
 use Rattle.sa_flat_meaning.specs.Faults.{raised, fault_here, fault, faulted, guarded}
-use Rattle.sa_flat_meaning.specs.Calls.{given_as, given_by_all, copied_back, kept_in, all_given, all_backs, dispatched, bound_to, reached, checked_depth, run_body, call_in, call_body, simply, run_reached, after_call, call, read_all, bindable, bind}
+use Rattle.sa_flat_meaning.specs.Calls.{given_as, given_by_all, copied_back, kept_in, all_given, all_backs, dispatched, bound_to, reached, checked_depth, run_body, call_in, call_body, simply, run_reached, after_call, call, read_all, chosen, bind}
 use Rattle.sa_flat_meaning.proofs.Alike.{Alike, Steady, turns, alike_resolve, alike_then, alike_before, alike_if, steady_stop, steady_pure, steady_look, steady_change, steady_or_stuck, steady_within}
 
 -- ---- variables and activations
@@ -160,18 +160,19 @@ steady_read_all : {level : ℕ} (vars : List ℕ) → Steady level (read_all var
 steady_read_all [] = steady_pure _
 steady_read_all (var ∷ more) = alike_then (steady_read var) (λ v. alike_then (steady_read_all more) (λ vs. steady_pure _))
 
-steady_bindable : {level : ℕ} (callee : Callee) (v : Value) → Steady level (bindable callee v)
-steady_bindable (Dispatch k) v = alike_if _ (steady_stop _) (steady_pure _)
-steady_bindable Bound v = steady_pure _
-steady_bindable (Body k) v = steady_pure _
-steady_bindable (Builtin n) v = steady_pure _
-steady_bindable (Get a) v = steady_pure _
-steady_bindable (Set a) v = steady_pure _
-steady_bindable (GetShared k) v = steady_pure _
-steady_bindable (SetShared k) v = steady_pure _
+module _ (p : FlatProgram) (rows : List (List ℕ)) where
+  steady_chosen : {level : ℕ} (callee : Callee) (class : ℕ) (v : Value) → Steady level (chosen p rows callee class v)
+  steady_chosen (Dispatch k) class v = steady_dispatched p rows k class v
+  steady_chosen Bound class v = steady_stop _
+  steady_chosen (Body k) class v = steady_pure _
+  steady_chosen (Builtin n) class v = steady_pure _
+  steady_chosen (Get a) class v = steady_pure _
+  steady_chosen (Set a) class v = steady_pure _
+  steady_chosen (GetShared k) class v = steady_pure _
+  steady_chosen (SetShared k) class v = steady_pure _
 
-pub steady_bind : {level : ℕ} (p : FlatProgram) (plan : CallPlan) (entry : ℕ) → Steady level (bind p plan entry)
-steady_bind p plan entry =
-    alike_then (steady_read _) (λ v. alike_then (steady_read_all _) (λ kept. alike_then (steady_or_stuck _) (λ e.
-    alike_before (steady_bindable _ _) (alike_then (steady_or_stuck _) (λ t. alike_before (steady_within _) (alike_then (steady_within _) (λ number.
-    alike_before (steady_put _ _) (steady_pure _))))))))
+  pub steady_bind : {level : ℕ} (plan : CallPlan) (entry : ℕ) → Steady level (bind p rows plan entry)
+  steady_bind plan entry =
+      alike_then (steady_read _) (λ v. alike_then (steady_read_all _) (λ kept. alike_then (steady_or_stuck _) (λ e.
+      alike_then (steady_chosen _ _ _) (λ r. alike_then (steady_or_stuck _) (λ t. alike_before (steady_within _) (alike_then (steady_within _) (λ number.
+      alike_before (steady_put _ _) (steady_pure _))))))))

@@ -153,14 +153,14 @@ module _ (p : FlatProgram) (level : ℕ) (go to : ℕ → ℕ → Eval Ending) (
   alike_after_enter args value quit (frames.Handed kind, variables) = steady_stop _
   alike_after_enter args value quit (frames.Returned v, variables) = steady_stop _
 
-  alike_run_entered : (k : ℕ) (here : Activation) (at : Station) (given : List (Option Value)) (frame : Option ℕ) → Alike level (run_entered p go k here at given frame) (run_entered p to k here at given frame)
-  alike_run_entered k here at given None = turns (alike_begin at here.body k _ given)
-  alike_run_entered k here at given (Some number) = turns (alike_continue at k number given)
+  alike_run_entered : (k : ℕ) (here : Activation) (at : Station) (recv : ℕ) (given : List (Option Value)) (frame : Option ℕ) → Alike level (run_entered p go k here at recv given frame) (run_entered p to k here at recv given frame)
+  alike_run_entered k here at recv given None = alike_then (steady_read recv) (λ self. turns (alike_begin at here.body k self given))
+  alike_run_entered k here at recv given (Some number) = turns (alike_continue at k number given)
 
-  alike_entered_for : (k : ℕ) (args : List FlatArg) (value : Option ℕ) (quit : ℕ) → Alike level (entered_for p go k args value quit) (entered_for p to k args value quit)
-  alike_entered_for k args value quit =
+  alike_entered_for : (k recv : ℕ) (args : List FlatArg) (value : Option ℕ) (quit : ℕ) → Alike level (entered_for p go k recv args value quit) (entered_for p to k recv args value quit)
+  alike_entered_for k recv args value quit =
       alike_then steady_this (λ here. alike_then (steady_or_stuck _) (λ at. alike_then (steady_given _) (λ given.
-      alike_then (alike_run_entered k here at given here.frame) (λ ended. alike_after_enter args value quit ended))))
+      alike_then (alike_run_entered k here at recv given here.frame) (λ ended. alike_after_enter args value quit ended))))
 
-  pub alike_enter_iter : (k : ℕ) (args : List FlatArg) (value : Option ℕ) (quit : ℕ) → Alike level (enter_iter p go k args value quit) (enter_iter p to k args value quit)
-  alike_enter_iter k args value quit = alike_resolve (alike_entered_for k args value quit) (λ way. steady_pure way) (λ c. alike_handed_on c)
+  pub alike_enter_iter : (k recv : ℕ) (args : List FlatArg) (value : Option ℕ) (quit : ℕ) → Alike level (enter_iter p go k recv args value quit) (enter_iter p to k recv args value quit)
+  alike_enter_iter k recv args value quit = alike_resolve (alike_entered_for k recv args value quit) (λ way. steady_pure way) (λ c. alike_handed_on c)

@@ -8,11 +8,11 @@ use Rattle.sa_flat.specs.declared.step.FlatConst.TheVariants as const
 use Rattle.sa_flat.specs.declared.step.FlatExit.{FlatExit}
 use Rattle.sa_flat.specs.declared.step.FlatExit.TheVariants.{Jump, Branch, Return, Suspend, Quit, Raise, Stop}
 use Rattle.sa_flat.specs.declared.step.FlatStep.{FlatStep}
-use Rattle.sa_flat.specs.declared.step.FlatStep.TheVariants.{Const, Move, Me, IsVoid, Turn, New, NewArray, PutItem, Widen, Unwrap, TypeIs, NotVoid, InitShared, Call, Bind, HasEntry, Start, Resume, Enter, Release, Raising}
+use Rattle.sa_flat.specs.declared.step.FlatStep.TheVariants.{Const, Move, Me, IsVoid, Turn, New, NewArray, PutItem, Widen, WidenFor, Unwrap, TypeIs, NotVoid, InitShared, Call, Bind, HasEntry, Start, Resume, HasFrame, Enter, Release, Raising}
 use Rattle.sa_meaning.specs.Value.{Value}
 use Rattle.sa_flat_meaning.specs.Frames.{Ending, Way, Onward, To, Leaving}
 use Rattle.sa_flat_meaning.specs.Order.{Eval}
-use Rattle.sa_flat_meaning.specs.Steps.{give, give_of, constant, array, has_type, put_item, not_void, step}
+use Rattle.sa_flat_meaning.specs.Steps.{give, give_of, constant, array, has_type, kept_for, put_item, not_void, step}
 use Rattle.sa_flat_meaning.specs.Exits.{value_of, number_in, store, suspend, exit}
 use Rattle.sa_flat_meaning.specs.Run.{this_block, next, step_or_exit, run_at, run_from}
 use Rattle.sa_flat_meaning.specs.Law.{HasLevels}
@@ -42,6 +42,9 @@ module _ (p : FlatProgram) where
   steady_has_type : {level : ℕ} (from ty : ℕ) → Steady level (has_type p from ty)
   steady_has_type from ty = alike_then (steady_read from) (λ v. alike_then (steady_within _) (λ dynamic. steady_pure _))
 
+  steady_kept_for : {level : ℕ} (from recv : ℕ) (types : List ℕ) → Steady level (kept_for p from recv types)
+  steady_kept_for from recv types = alike_then (steady_read from) (λ v. alike_then (steady_read recv) (λ receiver. alike_then (steady_within _) (λ dynamic. steady_within _)))
+
 steady_put_item : {level : ℕ} (array at value : ℕ) → Steady level (put_item array at value)
 steady_put_item array at value =
     alike_then (steady_read _) (λ a. alike_then (steady_read _) (λ i. alike_then (steady_read _) (λ v. alike_then (steady_or_stuck _) (λ number.
@@ -61,16 +64,18 @@ module _ (p : FlatProgram) (rows : List (List ℕ)) (level : ℕ) (go to : ℕ �
   alike_step (NewArray x ty count fail) = alike_guarded p fail (steady_give x (steady_array p ty count))
   alike_step (PutItem array ty at value) = alike_before (steady_put_item array at value) (steady_pure _)
   alike_step (Widen x from ty fail) = alike_guarded p fail (steady_give x (alike_then (steady_read from) (λ v. steady_within _)))
+  alike_step (WidenFor x from ty recv types fail) = alike_guarded p fail (steady_give x (steady_kept_for p from recv types))
   alike_step (Unwrap x from ty) = steady_give_of x from _
   alike_step (TypeIs x from ty) = steady_give x (steady_has_type p from ty)
   alike_step (NotVoid from fail) = alike_guarded p fail (alike_then (steady_read from) (λ v. steady_not_void v))
   alike_step (InitShared shared from) = alike_before (alike_then (steady_read from) (λ v. steady_within _)) (steady_pure _)
   alike_step (Call plan) = alike_guarded p plan.fail (alike_call p level go to alike rows plan)
-  alike_step (Bind plan entry) = alike_guarded p plan.fail (steady_bind p plan entry)
+  alike_step (Bind plan entry) = alike_guarded p plan.fail (steady_bind p rows plan entry)
   alike_step (HasEntry x site) = steady_give x (alike_then (steady_entry_at site) (λ entry. steady_pure _))
   alike_step (Start site plan quit) = alike_guarded p plan.fail (alike_start p level go to alike rows site plan quit)
   alike_step (Resume site plan quit) = alike_guarded p plan.fail (alike_resume p level go to alike site plan quit)
-  alike_step (Enter body args value quit) = alike_enter_iter p level go to alike body args value quit
+  alike_step (HasFrame x) = steady_give x (alike_then steady_this (λ here. steady_pure _))
+  alike_step (Enter body recv args value quit) = alike_enter_iter p level go to alike body recv args value quit
   alike_step (Release sites) = alike_before (steady_release_all p sites) (steady_pure _)
   alike_step (Raising value place x) = alike_then (steady_read value) (λ v. alike_before (steady_write _ _) (alike_before (steady_write _ _) (alike_before (steady_write _ _) (steady_pure _))))
 

@@ -70,6 +70,24 @@ binding : end sample.binding ≡ Ended (codes "42") 0
 unfolding outcome resolve or_stuck within language.resolve language.or_stuck digits
 binding = refl
 
+choosing : end sample.choosing ≡ Ended (codes "42") 0
+unfolding outcome resolve or_stuck within language.resolve language.or_stuck digits
+choosing = refl
+
+-- The fault is the bind's, and comes before room is taken for the bound value.
+choosing_void : flat_run sample.choosing_void one_implementation no_input 0 1000 ≡ Stopped [] 3 here
+unfolding outcome resolve or_stuck within language.resolve language.or_stuck digits
+choosing_void = refl
+
+-- 8 bytes for the object, 16 for the INT that is kept at $OB, and 24 for the bound value; the calls widen nothing
+keeping : flat_run sample.keeping one_implementation no_input 48 1000 ≡ Ended (codes "77") 0
+unfolding outcome resolve or_stuck within language.resolve language.or_stuck digits
+keeping = refl
+
+keeping_past_room : flat_run sample.keeping one_implementation no_input 47 1000 ≡ Stopped [] 9 here
+unfolding outcome resolve or_stuck within language.resolve language.or_stuck digits
+keeping_past_room = refl
+
 -- ---- iters
 
 counting : end sample.counting ≡ Ended (codes "012") 0
@@ -102,6 +120,15 @@ widening_iter_trail = refl
 widening_iter_past_room : flat_run sample.widening_iter one_implementation no_input 55 1000 ≡ Stopped (codes "01") 9 here
 unfolding outcome resolve or_stuck within language.resolve language.or_stuck digits
 widening_iter_past_room = refl
+
+-- 8 bytes for the object, and 16 for the INT that stands at $OB; the resumptions widen nothing
+widening_once : flat_run sample.widening_once one_implementation no_input 24 1000 ≡ Ended (codes "12") 0
+unfolding outcome resolve or_stuck within language.resolve language.or_stuck digits
+widening_once = refl
+
+widening_once_past_room : flat_run sample.widening_once one_implementation no_input 23 1000 ≡ Stopped [] 9 here
+unfolding outcome resolve or_stuck within language.resolve language.or_stuck digits
+widening_once_past_room = refl
 
 failing : end sample.failing ≡ Stopped [] 1 here
 unfolding outcome resolve or_stuck within language.resolve language.or_stuck digits

@@ -13,7 +13,7 @@ use Rattle.sa_flat.specs.declared.call.FlatArg.{FlatArg}
 use Rattle.sa_flat.specs.declared.program.BindEntry.{BindEntry}
 use Rattle.sa_flat.specs.declared.program.FlatProgram.{FlatProgram}
 use Rattle.sa_meaning.specs.Value as value
-use Rattle.sa_meaning.specs.Value.{Value, Void, is_nothing, as_bound}
+use Rattle.sa_meaning.specs.Value.{Value, Void, is_nothing, as_bound, unwrapped}
 use Rattle.sa_meaning.specs.Program.{void_of}
 use Rattle.sa_meaning.specs.State.{Object}
 use Rattle.sa_meaning.specs.Steps.{object_at, void, too_deep, charge, object_size, add_object}
@@ -212,23 +212,25 @@ read_all (var ∷ more) = do
   vs ← read_all more
   pure (v ∷ vs)
 
--- A void receiver is a fault where the call would be dispatched.
-abbrev pub bindable : Callee → Value → Eval (Unit {0})
-bindable (Dispatch k) v = if is_nothing v then stop (Faulted void) else pure tt
-bindable callee v = pure tt
+-- The class is the one whose feature is called. The receiver is kept as that class has it.
+abbrev pub bound_object : BindEntry → Target → ℕ → Value → List Value → Object
+bound_object e t class receiver kept = record { ty = e.ty; fields = unwrapped receiver ∷ kept; elements = []; binding = Some (record { target = t; class = class; is_open = e.open }) }
 
-abbrev pub bound_object : BindEntry → Target → Value → List Value → Object
-bound_object e t receiver kept = record { ty = e.ty; fields = receiver ∷ kept; elements = []; binding = Some (record { target = t; class = e.class; is_open = e.open }) }
+module _ (p : FlatProgram) (rows : List (List ℕ)) where
+  -- For a signature the receiver chooses what the bound value calls. The call of a bound value isn't bound.
+  abbrev pub chosen : Callee → ℕ → Value → Eval Reached
+  chosen Bound class v = stop Stuck
+  chosen callee class v = reached p rows callee class v
 
--- The entry says what is kept and called.
-abbrev pub bind : FlatProgram → CallPlan → ℕ → Eval Way
-bind p plan entry = do
-  v ← read plan.recv
-  kept ← read_all (filter_map kept_by plan.args)
-  e ← at_place p.binds entry
-  bindable plan.callee v
-  t ← or_stuck (target_of e.callee)
-  within (charge nowhere (object_size (1 + length kept) 0))
-  number ← within (add_object (bound_object e t v kept))
-  put plan.value (value.Bound number)
-  pure Onward
+  -- The entry says what is kept and called.
+  abbrev pub bind : CallPlan → ℕ → Eval Way
+  bind plan entry = do
+    v ← read plan.recv
+    kept ← read_all (filter_map kept_by plan.args)
+    e ← at_place p.binds entry
+    r ← chosen e.callee e.class v
+    t ← or_stuck (target_of r.callee)
+    within (charge nowhere (object_size (1 + length kept) 0))
+    number ← within (add_object (bound_object e t r.class v kept))
+    put plan.value (value.Bound number)
+    pure Onward

@@ -6,7 +6,7 @@ use Rattle.sa_flat.specs.declared.call.Callee.TheVariants.{Body}
 use Rattle.sa_flat.specs.declared.call.CallPlan.{CallPlan}
 use Rattle.sa_flat.specs.declared.call.FlatArg.{FlatArg}
 use Rattle.sa_flat.specs.declared.program.FlatProgram.{FlatProgram}
-use Rattle.sa_meaning.specs.Value.{Value, Truth, unwrapped}
+use Rattle.sa_meaning.specs.Value.{Value, Truth}
 use Rattle.sa_meaning.specs.State as language
 use Rattle.sa_meaning.specs.Steps.{frames}
 use Rattle.sa_meaning.specs.Calls.{filled}
@@ -239,18 +239,18 @@ module _ (p : FlatProgram) (go : ℕ → ℕ → Eval Ending) where
   after_enter args value quit (Raised v place kind, variables) = pure (Leaving (Raised v place kind))
   after_enter args value quit _ = stop Stuck
 
-  -- a start where no frame is there yet
-  abbrev pub run_entered : ℕ → Activation → Station → List (Option Value) → Option ℕ → Eval (Ending × List Value)
-  run_entered k here at given None = turn (begin at here.body k (unwrapped here.self) given)
-  run_entered k here at given (Some number) = turn (continue at k number given)
+  -- A start where no frame is there yet. The receiver is read at a start alone.
+  abbrev pub run_entered : ℕ → Activation → Station → ℕ → List (Option Value) → Option ℕ → Eval (Ending × List Value)
+  run_entered k here at recv given None = read recv >>= (λ self. turn (begin at here.body k self given))
+  run_entered k here at recv given (Some number) = turn (continue at k number given)
 
-  abbrev pub entered_for : ℕ → List FlatArg → Option ℕ → ℕ → Eval Way
-  entered_for k args value quit = do
+  abbrev pub entered_for : ℕ → ℕ → List FlatArg → Option ℕ → ℕ → Eval Way
+  entered_for k recv args value quit = do
     here ← this
     at ← or_stuck here.station
     given ← given_by_all args
-    ended ← run_entered k here at given here.frame
+    ended ← run_entered k here at recv given here.frame
     after_enter args value quit ended
 
-  abbrev pub enter_iter : ℕ → List FlatArg → Option ℕ → ℕ → Eval Way
-  enter_iter k args value quit = resolve (entered_for k args value quit) pure handed_on
+  abbrev pub enter_iter : ℕ → ℕ → List FlatArg → Option ℕ → ℕ → Eval Way
+  enter_iter k recv args value quit = resolve (entered_for k recv args value quit) pure handed_on

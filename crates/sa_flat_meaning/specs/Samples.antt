@@ -21,7 +21,7 @@ use Rattle.sa_flat.specs.declared.step.FlatConst.TheVariants as const
 use Rattle.sa_flat.specs.declared.step.FlatExit.{FlatExit}
 use Rattle.sa_flat.specs.declared.step.FlatExit.TheVariants.{Jump, Branch, Return, Suspend, Quit, Raise}
 use Rattle.sa_flat.specs.declared.step.FlatStep.{FlatStep}
-use Rattle.sa_flat.specs.declared.step.FlatStep.TheVariants.{Const, Move, Me, Turn, New, Widen, Unwrap, TypeIs, Call, Bind, HasEntry, Start, Resume, Enter, Release}
+use Rattle.sa_flat.specs.declared.step.FlatStep.TheVariants.{Const, Move, Me, Turn, New, Widen, WidenFor, Unwrap, TypeIs, Call, Bind, HasEntry, Start, Resume, HasFrame, Enter, Release}
 use Rattle.sa_meaning.specs.Program.{int_type, fault_type}
 
 -- ---- words for flat programs, all of whose faults stand at one place
@@ -184,6 +184,42 @@ binding = program (
     body (Some 1) (formal In int_type ∷ []) 1 (blocks (block (plus 203 0 0 ∷ []) (Return (Some 203))) []) ∷ [])
     [] (record { ty = own_type; callee = Body 1; class = main_type; «open» = true ∷ [] } ∷ [])
 
+-- The bind chooses the implementation.
+-- main is a:$A := #B; r ::= bind(a.twice(_)); #OUT + r.call(21); end
+-- twice(n:INT):INT is return n + n; end, in a class B < $A
+abbrev pub choosing_of : FlatStep → FlatProgram
+choosing_of first = program (
+    body (Some 0) [] 2 (blocks (block (
+    first ∷ Move 0 203 ∷ Bind (plan (Dispatch 0) 0 0 (record { mode = In; var = None } ∷ []) (Some 203)) 0 ∷ Move 1 203 ∷
+    of_type 203 out_type ∷ int 204 21 ∷ Call (plan Bound 0 1 (args In (204 ∷ [])) (Some 205)) ∷ put_int 203 205 ∷ []) (Return None)) []) ∷
+    body (Some 1) (formal In int_type ∷ []) 1 (blocks (block (plus 203 0 0 ∷ []) (Return (Some 203))) []) ∷ [])
+    (1 ∷ []) (record { ty = own_type; callee = Dispatch 0; class = 0; «open» = true ∷ [] } ∷ [])
+
+abbrev pub choosing : FlatProgram
+choosing = choosing_of (New 203 own_type fails)
+
+-- the same with `a` void
+abbrev pub choosing_void : FlatProgram
+choosing_void = choosing_of (of_type 203 0)
+
+-- The implementation takes a $OB where the signature has an INT, so that it has a body of its own, and the bind widens what
+-- it keeps.
+-- main is a:$A := #B; r ::= bind(a.f(7)); #OUT + r.call; #OUT + r.call; end
+-- f(x:$OB):INT is typecase x when INT then return x; end; return 0; end, in a class B < $A
+abbrev pub keeping : FlatProgram
+keeping = program (
+    body (Some 0) [] 2 (blocks (block (
+    New 203 own_type fails ∷ Move 0 203 ∷ int 203 7 ∷ WidenFor 204 203 int_type 0 (own_type ∷ []) fails ∷
+    Bind (plan (Dispatch 0) 0 0 (args In (204 ∷ [])) (Some 205)) 0 ∷ Move 1 205 ∷
+    of_type 203 out_type ∷ Call (plan Bound 0 1 [] (Some 204)) ∷ put_int 203 204 ∷
+    of_type 203 out_type ∷ Call (plan Bound 0 1 [] (Some 204)) ∷ put_int 203 204 ∷ []) (Return None)) []) ∷
+    body (Some 1) (formal In 0 ∷ []) 2 (blocks (block (TypeIs 203 0 int_type ∷ []) (Branch 203 2 3)) (
+    block (Unwrap 1 0 int_type ∷ []) (Return (Some 1)) ∷
+    block (int 203 0 ∷ []) (Return (Some 203)) ∷ [])) ∷
+    body None (formal In int_type ∷ []) 1 (blocks (block (
+    Me 203 ∷ Widen 204 0 int_type fails ∷ Call (plan (Body 1) own_type 203 (args In (204 ∷ [])) (Some 205)) ∷ []) (Return (Some 205))) []) ∷ [])
+    (2 ∷ []) (record { ty = own_type; callee = Dispatch 0; class = 0; «open» = false ∷ [] } ∷ [])
+
 -- ---- iters
 
 abbrev pub iter_body : Option ℕ → List FlatFormal → ℕ → List FlatBlock → FlatBody
@@ -236,9 +272,26 @@ breaking = program (looping (Me 206) (Body 1) (put_int 203 208 ∷ []) (Jump 9) 
 abbrev pub widening_iter : FlatProgram
 widening_iter = program (
     looping (New 206 own_type fails) (Dispatch 0) (Unwrap 0 208 int_type ∷ put_int 203 0 ∷ []) (Jump 2) ∷ upto ∷
-    iter_body None (formal Once int_type ∷ []) 1 (blocks (block (Enter 1 (args Once (0 ∷ [])) (Some 203) 204 ∷ []) (Branch 204 2 3)) (
+    iter_body None (formal Once int_type ∷ []) 1 (blocks (block (HasFrame 203 ∷ []) (Branch 203 3 2)) (
+    block (Me 204 ∷ []) (Jump 3) ∷
+    block (Enter 1 204 (args Once (0 ∷ [])) (Some 205) 206 ∷ []) (Branch 206 4 5) ∷
     block [] Quit ∷
-    block (Widen 205 203 int_type fails ∷ []) (Suspend (Some 205) None) ∷ [])) ∷ []) (2 ∷ []) []
+    block (Widen 207 205 int_type fails ∷ []) (Suspend (Some 207) None) ∷ [])) ∷ []) (2 ∷ []) []
+
+-- The iter takes a $OB where the signature has an INT, which is widened at the start.
+-- main is a:$A := #B; loop #OUT + a.two!(3); end; end
+-- two!(once x:$OB):INT is yield 1; yield 2; end, in a class B < $A
+abbrev pub widening_once : FlatProgram
+widening_once = program (
+    looping (New 206 own_type fails) (Dispatch 0) (put_int 203 208 ∷ []) (Jump 2) ∷
+    iter_body (Some 1) (formal Once 0 ∷ []) 1 (blocks (block (int 203 1 ∷ []) (Suspend (Some 203) (Some 2))) (
+    block (int 203 2 ∷ []) (Suspend (Some 203) (Some 3)) ∷
+    block [] Quit ∷ [])) ∷
+    iter_body None (formal Once int_type ∷ []) 1 (blocks (block (HasFrame 203 ∷ []) (Branch 203 3 2)) (
+    block (Me 204 ∷ Widen 205 0 int_type fails ∷ []) (Jump 3) ∷
+    block (Enter 1 204 (args Once (205 ∷ [])) (Some 206) 207 ∷ []) (Branch 207 4 5) ∷
+    block [] Quit ∷
+    block [] (Suspend (Some 206) None) ∷ [])) ∷ []) (2 ∷ []) []
 
 -- main is loop upto!(3); x ::= 2147483647; x := x + 1; end; end
 -- The raise releases the instance that is suspended.

@@ -1,15 +1,16 @@
 -- What each step does.
-use Rattle.std.specs.Prelude.{ℕ, if◌then◌else◌, List, length, set, is_some}
+use Rattle.std.specs.Prelude.{ℕ, false, ◌==◌, if◌then◌else◌, List, length, set, find, is_some}
+use Rattle.std.specs.Option.{option_map_or}
 use Rattle.sa_flat.specs.declared.step.FlatConst.{FlatConst}
 use Rattle.sa_flat.specs.declared.step.FlatConst.TheVariants as const
 use Rattle.sa_flat.specs.declared.step.FlatStep.{FlatStep}
-use Rattle.sa_flat.specs.declared.step.FlatStep.TheVariants.{Const, Move, Me, IsVoid, Turn, New, NewArray, PutItem, Widen, Unwrap, TypeIs, NotVoid, InitShared, Call, Bind, HasEntry, Start, Resume, Enter, Release, Raising}
+use Rattle.sa_flat.specs.declared.step.FlatStep.TheVariants.{Const, Move, Me, IsVoid, Turn, New, NewArray, PutItem, Widen, WidenFor, Unwrap, TypeIs, NotVoid, InitShared, Call, Bind, HasEntry, Start, Resume, HasFrame, Enter, Release, Raising}
 use Rattle.sa_flat.specs.declared.program.FlatProgram.{FlatProgram}
 use Rattle.sa_meaning.specs.Value.{Value, Int, Truth, Char, Text, is_void, is_nothing, as_int, as_object, unwrapped}
 use Rattle.sa_meaning.specs.Program.{void_of}
 use Rattle.sa_meaning.specs.Steps.{uncaught, void, object_at, set_object}
 use Rattle.sa_meaning.specs.Builtin.{new_array, place_of, is_place}
-use Rattle.sa_meaning.specs.Calls.{dynamic_type, widened, set_shared}
+use Rattle.sa_meaning.specs.Calls.{dynamic_type, widened, widened_if, set_shared}
 use Rattle.sa_meaning.specs.Evaluation.{new_object}
 use Rattle.sa_meaning.specs.Statements.{takes}
 use Rattle.sa_flat_meaning.specs.Frames.{Ending, Way, Onward, Faulted, Stuck}
@@ -46,6 +47,14 @@ module _ (p : FlatProgram) where
     dynamic ← within (dynamic_type v)
     pure (Truth (takes (types_of p) ty dynamic))
 
+  -- what a bind keeps of a value: it is widened where the class of the receiver is one of the types
+  abbrev pub kept_for : ℕ → ℕ → List ℕ → Eval Value
+  kept_for from recv types = do
+    v ← read from
+    receiver ← read recv
+    dynamic ← within (dynamic_type receiver)
+    within (widened_if (types_of p) nowhere (option_map_or (λ class. is_some (find (λ ty. ty == class) types)) dynamic false) v)
+
 -- an element of an array gets its value
 abbrev pub put_item : ℕ → ℕ → ℕ → Eval (Unit {0})
 put_item array at value = do
@@ -72,16 +81,18 @@ module _ (p : FlatProgram) (rows : List (List ℕ)) (go : ℕ → ℕ → Eval E
   step (NewArray to ty count fail) = guarded p fail (give to (array p ty count))
   step (PutItem array ty at value) = put_item array at value >> pure Onward
   step (Widen to from ty fail) = guarded p fail (give to (read from >>= (λ v. within (widened (types_of p) nowhere v))))
+  step (WidenFor to from ty recv types fail) = guarded p fail (give to (kept_for p from recv types))
   step (Unwrap to from ty) = give_of to from unwrapped
   step (TypeIs to from ty) = give to (has_type p from ty)
   step (NotVoid from fail) = guarded p fail (read from >>= not_void)
   step (InitShared shared from) = read from >>= (λ v. within (set_shared shared v)) >> pure Onward
   step (Call plan) = guarded p plan.fail (call p go rows plan)
-  step (Bind plan entry) = guarded p plan.fail (bind p plan entry)
+  step (Bind plan entry) = guarded p plan.fail (bind p rows plan entry)
   step (HasEntry to site) = give to (entry_at site >>= (λ entry. pure (Truth (is_some entry))))
   step (Start site plan quit) = guarded p plan.fail (start p go rows site plan quit)
   step (Resume site plan quit) = guarded p plan.fail (resume p go site plan quit)
-  step (Enter body args value quit) = enter_iter p go body args value quit
+  step (HasFrame to) = give to (this >>= (λ here. pure (Truth (is_some here.frame))))
+  step (Enter body recv args value quit) = enter_iter p go body recv args value quit
   step (Release sites) = release_all p sites >> pure Onward
   step (Raising value place to) = do
     v ← read value

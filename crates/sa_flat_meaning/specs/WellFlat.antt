@@ -31,7 +31,7 @@ module _ (p : FlatProgram) where
   EntersFeatures (Call plan) = ReachesFeature plan.callee
   EntersFeatures (Start site plan quit) = ReachesFeature plan.callee
   EntersFeatures (Resume site plan quit) = ReachesFeature plan.callee
-  EntersFeatures (Enter body args value quit) = IsTrue (has_feature body)
+  EntersFeatures (Enter body recv args value quit) = IsTrue (has_feature body)
   EntersFeatures _ = Unit {0}
 
   abbrev pub IsMade : FlatBody → Type 0
