@@ -22,7 +22,7 @@ import programs
 from reader import Reader
 
 IMPORTS = 3
-FIRST_BODY = 42
+FIRST_BODY = 48
 MOST = {'functions of no body': 50, 'their instructions': 10_000, 'nested blocks': 1000, 'locals of a function': 1_000_000,
         'table entries of no body': 0}
 

@@ -16,7 +16,7 @@ use std::fs::{self, Files};
 use std::process::ExitCode;
 
 /// The files of the table, one for each subject.
-const TABLES: [&str; 27] = [
+const TABLES: [&str; 33] = [
     "hello.json",
     "commands.json",
     "tokens.json",
@@ -37,6 +37,12 @@ const TABLES: [&str; 27] = [
     "run_objects.json",
     "run_immutables.json",
     "run_dispatch.json",
+    "run_iters.json",
+    "run_instances.json",
+    "run_bound.json",
+    "run_bound_iters.json",
+    "run_protect.json",
+    "run_faults.json",
     "run_room.json",
     "run_input.json",
     "run_forms.json",
