@@ -57,9 +57,8 @@ def best(words, rounds, folder=None):
     return shortest, ended.stdout
 
 
-def ways(name, program, folder):
-    """The words of each way of running a program whose tool is there."""
-    source = os.path.join(FOLDER, name)
+def ways(source, program, folder):
+    """The words of each way of running a program, a file without its ending, whose tool is there."""
     node = shutil.which('node')
     if program:
         yield 'sather', [program, 'run', source + '.sa']
@@ -71,10 +70,11 @@ def ways(name, program, folder):
     yield 'python', [sys.executable, source + '.py']
 
 
-def measure(name, program, folder, rounds):
+def measure(source, program, folder, rounds):
     """Prints the row of a program. Gives whether all ways print the same."""
+    name = os.path.basename(source)
     times, outputs = {}, {}
-    for way, words in ways(name, program, folder):
+    for way, words in ways(source, program, folder):
         times[way], outputs[way] = best(words, rounds)
 
     def ratio(slow, fast):
@@ -145,27 +145,34 @@ def measure_compiling(program, folder, rounds):
     return under('run of %d bytes' % len(large), seconds, 's', LARGEST_SECONDS) and well
 
 
-def steps_of(program, folder, rounds):
-    """The steps of a run of the loop with so many rounds."""
+def steps_of(program, folder, text, wanted):
+    """The steps of a run of a source that prints what is wanted."""
     with open(os.path.join(folder, 'f.sa'), 'w') as file:
-        file.write(LOOP.format(rounds))
+        file.write(text)
     ended = subprocess.run([program, 'run', '--stats', 'f.sa'], cwd=folder, stdin=subprocess.DEVNULL, capture_output=True,
                            timeout=RUN_SECONDS)
     stats = STATS.search(ended.stderr)
-    if ended.returncode != 0 or ended.stdout != b'%d' % (rounds * (rounds - 1) // 2) or not stats:
-        raise Failure('the loop left %r, %r and status %d' % (ended.stdout, ended.stderr, ended.returncode))
+    if ended.returncode != 0 or ended.stdout != wanted or not stats:
+        raise Failure('the source left %r, %r and status %d' % (ended.stdout, ended.stderr, ended.returncode))
     return int(stats.group(1))
+
+
+def steps_a_round(program, folder, text, wanted):
+    """The steps of a round of a loop, where `text` and `wanted` give a source with so many rounds and its output."""
+    few, many = 10_000, 60_000
+    more = steps_of(program, folder, text(many), wanted(many)) - steps_of(program, folder, text(few), wanted(few))
+    return more / (many - few)
 
 
 def measure_steps(program, folder):
     """The steps of a round of a loop. Gives whether they are under their bar."""
-    few, many = 10_000, 60_000
-    steps = (steps_of(program, folder, many) - steps_of(program, folder, few)) / (many - few)
+    steps = steps_a_round(program, folder, LOOP.format, lambda rounds: b'%d' % (rounds * (rounds - 1) // 2))
     return under('a round of the loop', steps, 'steps', STEPS)
 
 
-def main():
-    words = argparse.ArgumentParser(description=__doc__, formatter_class=argparse.RawDescriptionHelpFormatter)
+def run(tasks_of, description):
+    """Does the tasks that the words of the command ask for. Gives the status."""
+    words = argparse.ArgumentParser(description=description, formatter_class=argparse.RawDescriptionHelpFormatter)
     words.add_argument('--program', default=os.path.join(os.path.dirname(HERE), 'sather'))
     words.add_argument('--rounds', type=int, default=3)
     words.add_argument('--only', default='')
@@ -177,14 +184,10 @@ def main():
         print('%s: no such program, so only JavaScript and Python are measured' % given.program)
     if shutil.which('node') is None:
         print('node is missing: nothing is run in V8')
-    tasks = [(name, lambda folder, name=name: measure(name, program, folder, given.rounds)) for name in PROGRAMS]
-    if program:
-        tasks.append(('compiling', lambda folder: measure_compiling(program, folder, given.rounds)))
-        tasks.append(('steps', lambda folder: measure_steps(program, folder)))
     well = True
     print('%-10s %10s %10s %10s %10s %14s %14s' % ('program', 'sather s', 'module s', 'js s', 'python s', 'python/sather',
                                                   'module/js'))
-    for name, task in tasks:
+    for name, task in tasks_of(program, given.rounds):
         if given.only not in name:
             continue
         with tempfile.TemporaryDirectory() as folder:
@@ -196,5 +199,14 @@ def main():
     return 0 if well else 1
 
 
+def tasks_of_routines(program, rounds):
+    """The measurements by their names."""
+    for name in PROGRAMS:
+        yield name, lambda folder, name=name: measure(os.path.join(FOLDER, name), program, folder, rounds)
+    if program:
+        yield 'compiling', lambda folder: measure_compiling(program, folder, rounds)
+        yield 'steps', lambda folder: measure_steps(program, folder)
+
+
 if __name__ == '__main__':
-    sys.exit(main())
+    sys.exit(run(tasks_of_routines, __doc__))
