@@ -1,2 +1,6 @@
-pub mod Extending
+pub mod Adding
 pub mod Joining
+pub mod LongestRuns
+pub mod Numbers
+pub mod Productions
+pub mod Weights

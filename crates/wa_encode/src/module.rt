@@ -1,13 +1,15 @@
 //! Modules (section 5.5).
 
-ghost use Rattle.std.specs.Prelude.{◌≡◌, ◌++◌, OnOk, IfOk};
-ghost use Rattle.wa_encode.specs.Spelling.{Extends};
+ghost use Rattle.std.specs.Prelude.{OnOk, IfOk};
+ghost use Rattle.wa_syntax.specs.Formats.{u32};
+ghost use Rattle.wa_syntax.specs.Binary as binary;
+ghost use Rattle.wa_encode.specs.Spelling.{Extends, IsLeast, Adds, sections};
 
 use crate::instruction::{constant_expression, expression};
 use crate::locals::locals;
 use crate::section::{section, vector_section};
 use crate::types::{function_type, global_type, limits, table_type};
-use crate::value::{bytes, name, number, vector};
+use crate::value::{byte, bytes, name, number, vector};
 use std::alloc::Global;
 use wa_syntax::{
     Elem, Export, ExportKind, Func, GlobalDef, Import, ImportKind, Module, NoMemory, Segment,
@@ -45,7 +47,9 @@ const DATA: u8 = 11;
 ///
 /// `NoMemory` comes where memory runs out, and where a count or a length doesn't fit 32 bits, that of the whole among them.
 pub fn encode(alloc: Global, m: &Module) -> Result<Vec<u8>, NoMemory>
-    ensures { IfOk result (λ bytes. Extends PREAMBLE bytes.items) }
+    ensures begins { IfOk result (λ bytes. Extends PREAMBLE bytes.items) }
+    // If any bytes spell the module, these do, and none that do are fewer.
+    ensures shortest { IfOk result (λ bytes. IsLeast (λ spelling. binary.SpellsModule spelling m.now) bytes.items) }
 {
     let mut out = Vec::from_slice(alloc, &PREAMBLE)?;
     sections(alloc, &mut out, m)?;
@@ -57,7 +61,7 @@ pub fn encode(alloc: Global, m: &Module) -> Result<Vec<u8>, NoMemory>
 
 /// The sections of a module (5.5.15), in the order of their ids.
 fn sections(alloc: Global, out: &mut Vec<u8>, m: &Module) -> Result<(), NoMemory>
-    ensures { OnOk result (Extends out.old.items out.new.items) }
+    ensures { OnOk result (Adds (sections m.now) out.old.items out.new.items) }
 {
     vector_section(alloc, out, TYPE, m.types.as_slice(), function_type)?;
     vector_section(alloc, out, IMPORT, m.imports.as_slice(), import)?;
@@ -68,15 +72,21 @@ fn sections(alloc: Global, out: &mut Vec<u8>, m: &Module) -> Result<(), NoMemory
     vector_section(alloc, out, EXPORT, m.exports.as_slice(), export)?;
     start(alloc, out, m.start)?;
     vector_section(alloc, out, ELEMENT, m.elems.as_slice(), element_segment)?;
-    vector_section(alloc, out, CODE, m.funcs.as_slice(), |out, func| {
-        code(alloc, out, func)
-    })?;
+    vector_section(
+        alloc,
+        out,
+        CODE,
+        m.funcs.as_slice(),
+        |out, func|
+            ensures { OnOk result (Adds (binary.code func.now) out.old.items out.new.items) }
+        { code(alloc, out, func) },
+    )?;
     vector_section(alloc, out, DATA, m.segments.as_slice(), data_segment)
 }
 
 /// An import (5.5.5).
 fn import(out: &mut Vec<u8>, import: &Import) -> Result<(), NoMemory>
-    ensures { OnOk result (Extends out.old.items out.new.items) }
+    ensures { OnOk result (Adds (binary.import import.now) out.old.items out.new.items) }
 {
     name(out, &import.module)?;
     name(out, &import.name)?;
@@ -85,23 +95,23 @@ fn import(out: &mut Vec<u8>, import: &Import) -> Result<(), NoMemory>
 
 /// What an import asks for (5.5.5).
 fn import_kind(out: &mut Vec<u8>, kind: &ImportKind) -> Result<(), NoMemory>
-    ensures { OnOk result (Extends out.old.items out.new.items) }
+    ensures { OnOk result (Adds (binary.importdesc kind.now) out.old.items out.new.items) }
 {
     match kind {
         ImportKind::Func(ty) => {
-            out.push(0x00)?;
+            byte(out, 0x00)?;
             number(out, ty)
         }
         ImportKind::Table(ty) => {
-            out.push(0x01)?;
+            byte(out, 0x01)?;
             table_type(out, ty)
         }
         ImportKind::Memory(ty) => {
-            out.push(0x02)?;
+            byte(out, 0x02)?;
             limits(out, ty)
         }
         ImportKind::Global(ty) => {
-            out.push(0x03)?;
+            byte(out, 0x03)?;
             global_type(out, *ty)
         }
     }
@@ -109,14 +119,14 @@ fn import_kind(out: &mut Vec<u8>, kind: &ImportKind) -> Result<(), NoMemory>
 
 /// An entry of the function section (5.5.6): the number of a function's type.
 fn function(out: &mut Vec<u8>, func: &Func) -> Result<(), NoMemory>
-    ensures { OnOk result (Extends out.old.items out.new.items) }
+    ensures { OnOk result (Adds (u32 func.now.ty) out.old.items out.new.items) }
 {
     number(out, &func.ty)
 }
 
 /// A global (5.5.9).
 fn global(out: &mut Vec<u8>, global: &GlobalDef) -> Result<(), NoMemory>
-    ensures { OnOk result (Extends out.old.items out.new.items) }
+    ensures { OnOk result (Adds (binary.global global.now) out.old.items out.new.items) }
 {
     global_type(out, global.ty)?;
     constant_expression(out, global.init)
@@ -124,22 +134,39 @@ fn global(out: &mut Vec<u8>, global: &GlobalDef) -> Result<(), NoMemory>
 
 /// An export (5.5.10).
 fn export(out: &mut Vec<u8>, export: &Export) -> Result<(), NoMemory>
-    ensures { OnOk result (Extends out.old.items out.new.items) }
+    ensures { OnOk result (Adds (binary.export export.now) out.old.items out.new.items) }
 {
     name(out, &export.name)?;
-    let (kind, index) = match export.kind {
-        ExportKind::Func(index) => (0x00, index),
-        ExportKind::Table(index) => (0x01, index),
-        ExportKind::Memory(index) => (0x02, index),
-        ExportKind::Global(index) => (0x03, index),
-    };
-    out.push(kind)?;
-    number(out, &index)
+    export_kind(out, &export.kind)
+}
+
+/// What is exported (5.5.10).
+fn export_kind(out: &mut Vec<u8>, kind: &ExportKind) -> Result<(), NoMemory>
+    ensures { OnOk result (Adds (binary.exportdesc kind.now) out.old.items out.new.items) }
+{
+    match kind {
+        ExportKind::Func(index) => {
+            byte(out, 0x00)?;
+            number(out, index)
+        }
+        ExportKind::Table(index) => {
+            byte(out, 0x01)?;
+            number(out, index)
+        }
+        ExportKind::Memory(index) => {
+            byte(out, 0x02)?;
+            number(out, index)
+        }
+        ExportKind::Global(index) => {
+            byte(out, 0x03)?;
+            number(out, index)
+        }
+    }
 }
 
 /// The start section (5.5.11), where there is a start function.
 fn start(alloc: Global, out: &mut Vec<u8>, func: Option<u32>) -> Result<(), NoMemory>
-    ensures { OnOk result (Extends out.old.items out.new.items) }
+    ensures { OnOk result (Adds (binary.startsec func) out.old.items out.new.items) }
 {
     let Some(func) = func else {
         return Ok(());
@@ -151,7 +178,7 @@ fn start(alloc: Global, out: &mut Vec<u8>, func: Option<u32>) -> Result<(), NoMe
 
 /// An element segment (5.5.12).
 fn element_segment(out: &mut Vec<u8>, elem: &Elem) -> Result<(), NoMemory>
-    ensures { OnOk result (Extends out.old.items out.new.items) }
+    ensures { OnOk result (Adds (binary.elem elem.now) out.old.items out.new.items) }
 {
     number(out, &elem.table)?;
     constant_expression(out, elem.offset)?;
@@ -160,7 +187,7 @@ fn element_segment(out: &mut Vec<u8>, elem: &Elem) -> Result<(), NoMemory>
 
 /// An entry of the code section (5.5.13): the size of a function's locals and body, and these.
 fn code(alloc: Global, out: &mut Vec<u8>, func: &Func) -> Result<(), NoMemory>
-    ensures { OnOk result (Extends out.old.items out.new.items) }
+    ensures { OnOk result (Adds (binary.code func.now) out.old.items out.new.items) }
 {
     let mut content = Vec::new(alloc);
     locals(alloc, &mut content, &func.locals)?;
@@ -170,7 +197,7 @@ fn code(alloc: Global, out: &mut Vec<u8>, func: &Func) -> Result<(), NoMemory>
 
 /// A data segment (5.5.14).
 fn data_segment(out: &mut Vec<u8>, segment: &Segment) -> Result<(), NoMemory>
-    ensures { OnOk result (Extends out.old.items out.new.items) }
+    ensures { OnOk result (Adds (binary.segment segment.now) out.old.items out.new.items) }
 {
     number(out, &segment.memory)?;
     constant_expression(out, segment.offset)?;

@@ -1,8 +1,8 @@
 //! Sections (section 5.5.2).
 
-ghost use Rattle.std.specs.Prelude.{◌≡◌, ◌++◌, OnOk};
+ghost use Rattle.std.specs.Prelude.{OnOk};
 ghost use Rattle.wa_syntax.specs.Leb128.{Appends};
-ghost use Rattle.wa_encode.specs.Spelling.{Extends, IsSection};
+ghost use Rattle.wa_encode.specs.Spelling.{IsSection, AddsVectorSection, Leaves};
 
 use crate::value::{bytes, vector};
 use std::alloc::Global;
@@ -27,8 +27,7 @@ pub fn vector_section<T, F>(
 where
     F: Fn(&mut Vec<u8>, &T) -> Result<(), NoMemory>,
     requires callable { F.IsAlwaysCallable entry }
-    requires extends { (old : _) (x : _) (r : _) (new : _) → F.post entry old x r new → OnOk r (Extends old.now.items new.now.items) }
-    ensures { OnOk result (Extends out.old.items out.new.items) }
+    ensures { OnOk result (AddsVectorSection (Leaves (F.post entry)) id out.old.items out.new.items entries.now) }
 {
     if entries.is_empty() {
         return Ok(());

@@ -1,14 +1,23 @@
 //! Values (section 5.2) and vectors (section 5.1.3).
 
-ghost use Rattle.std.specs.Prelude.{◌≡◌, ◌++◌, length, OnOk};
+ghost use Rattle.std.specs.Prelude.{OnOk};
+ghost use Rattle.wa_syntax.specs.Formats.{byte, u32};
 ghost use Rattle.wa_syntax.specs.Leb128.{Appends};
-ghost use Rattle.wa_encode.specs.Spelling.{IsNumber, IsCounted, Begins, Extends};
+ghost use Rattle.wa_encode.specs.Spelling.{IsNumber, IsCounted, Adds, AddsVector, Leaves};
 
 use wa_syntax::{Name, NoMemory, write_u32};
 
+/// A byte (5.2.1), as an opcode (5.4).
+pub fn byte(out: &mut Vec<u8>, value: u8) -> Result<(), NoMemory>
+    ensures { OnOk result (Adds (byte value) out.old.items out.new.items) }
+{
+    out.push(value)?;
+    Ok(())
+}
+
 /// A number without a sign (5.2.2), as the index of a type, a function or a label (5.4.1, 5.5.1).
 pub fn number(out: &mut Vec<u8>, n: &u32) -> Result<(), NoMemory>
-    ensures { OnOk result (Appends IsNumber out.old.items out.new.items n.now) }
+    ensures { OnOk result (Adds (u32 n.now) out.old.items out.new.items) }
 {
     write_u32(out, *n)
 }
@@ -26,8 +35,7 @@ pub fn vector<T, F>(out: &mut Vec<u8>, entries: &[T], entry: F) -> Result<(), No
 where
     F: Fn(&mut Vec<u8>, &T) -> Result<(), NoMemory>,
     requires callable { F.IsAlwaysCallable entry }
-    requires extends { (old : _) (x : _) (r : _) (new : _) → F.post entry old x r new → OnOk r (Extends old.now.items new.now.items) }
-    ensures { OnOk result (Begins IsNumber out.old.items out.new.items (length entries.now)) }
+    ensures { OnOk result (AddsVector (Leaves (F.post entry)) out.old.items out.new.items entries.now) }
 {
     count(out, entries.len())?;
     for value in entries {
