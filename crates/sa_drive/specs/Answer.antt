@@ -1,12 +1,14 @@
 -- What an outcome says of the words and the outside.
-use Rattle.std.specs.Prelude.{◌≡◌, ◌⊎◌, ◌&&◌, ⊤, ℕ, Bool, true, false, List, [], Option, None, Some, is_some}
+use Rattle.std.specs.Prelude.{codes, ◌≡◌, ◌⊎◌, ◌&&◌, ⊤, ℕ, Bool, true, false, List, [], Option, None, Some, is_some}
 use Rattle.sa_tree.specs.declared.pos.Sources.{Sources}
+use Rattle.sa_gen.specs.Generated.{generated}
 use Rattle.sa_outside.specs.Files.{Files, Lacks, Writes, WritesFront}
+use Rattle.sa_outside.specs.Output.{Took}
 use Rattle.sa_read.specs.Read.{HasFile, HasLonger}
-use Rattle.sa_words.specs.Line.{Build, Check, Exec, Line, Run, line_in}
-use Rattle.sa_drive.specs.Ends.{BuildEnds, CheckEnds, ProgramEnds, RunEnds}
-use Rattle.sa_drive.specs.Files.{ComesOfFiles, IsTakenProgram}
-use Rattle.sa_drive.specs.Lines.{lines_of}
+use Rattle.sa_words.specs.Line.{Build, Check, Exec, Gen, Line, Run, Selftest, line_in}
+use Rattle.sa_drive.specs.Ends.{BuildEnds, PrintEnds, ProgramEnds, RunEnds, SelftestEnds}
+use Rattle.sa_drive.specs.Files.{ComesOfFiles, ComesOfGenerated, IsTakenGenerated, IsTakenProgram}
+use Rattle.sa_drive.specs.Lines.{lines_of, selftest_line}
 use Rattle.sa_drive.specs.Seen.{Failed, Seen}
 use Rattle.sa_drive.specs.declared.cause.Cause.{Cause}
 use Rattle.sa_drive.specs.declared.cause.Cause.TheVariants as cause
@@ -28,12 +30,18 @@ IsUnread seen file _ = ⊥
 abbrev pub ComesOfModule : Seen → List ℕ → ℕ → Cause → Type 0
 ComesOfModule seen file fuel cause = IsUnread seen file cause ⊎ ((bytes : List ℕ) × HasFile seen.files file bytes × RunEnds seen fuel cause)
 
+-- the generated program gives no module, or it gives one and the selftest ends so
+abbrev pub ComesOfSelftest : Seen → ℕ → Sources → Cause → Type 0
+ComesOfSelftest seen classes sources cause = ComesOfGenerated classes sources cause ⊎ (IsTakenGenerated classes sources × SelftestEnds seen cause)
+
 -- where the cause of a command comes from
 abbrev pub ComesOfLine : Seen → Line → Sources → Cause → Type 0
 ComesOfLine seen (Run fuel room stats names) sources cause = ComesOfProgram seen names (ProgramEnds seen fuel) sources cause
 ComesOfLine seen (Build room out names) sources cause = ComesOfProgram seen names (BuildEnds seen) sources cause
-ComesOfLine seen (Check names) sources cause = ComesOfProgram seen names (CheckEnds seen) sources cause
+ComesOfLine seen (Check names) sources cause = ComesOfProgram seen names (PrintEnds seen) sources cause
 ComesOfLine seen (Exec fuel stats file) sources cause = ComesOfModule seen file fuel cause
+ComesOfLine seen (Gen classes) sources cause = PrintEnds seen cause
+ComesOfLine seen (Selftest classes) sources cause = ComesOfSelftest seen classes sources cause
 
 -- where the cause of a call comes from: the words are a command and it is one of that, or they are none
 abbrev pub ComesOf : Seen → List (List ℕ) → Sources → Cause → Type 0
@@ -70,6 +78,14 @@ TakesNoInput _ = ⊤
 abbrev pub LeavesFiles : Option Line → Cause → List ℕ → Option Files → Option Files → Type 0
 LeavesFiles (Some (Build room out names)) ends bytes old new = WritesFront old new out bytes × (ends ≡ cause.Done → Writes old new out bytes)
 LeavesFiles _ ends bytes old new = new ≡ old
+
+-- what out takes of a command that has done what it is for, where no module of a file is run
+abbrev pub Prints : Option Line → Option (List ℕ) → Option (List ℕ) → Type 0
+Prints (Some (Build room out names)) old new = new ≡ old
+Prints (Some (Check names)) old new = Took old new (codes "accepted\n")
+Prints (Some (Gen classes)) old new = Took old new (generated classes)
+Prints (Some (Selftest classes)) old new = (bytes : ℕ) × (status : ℕ) × Took old new (selftest_line classes bytes status)
+Prints _ old new = ⊤
 
 -- err was told the lines of the outcome with this cause. They name the module's file of `exec`, and the steps exactly where they are asked for and may be told
 abbrev pub IsTold : Option Line → Outcome → Cause → (List ℕ → Type 0) → Type 0

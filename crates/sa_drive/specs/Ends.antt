@@ -1,5 +1,5 @@
 -- What a cause says of the outside, once there is a module.
-use Rattle.std.specs.Prelude.{◌≡◌, ⊤, ℕ}
+use Rattle.std.specs.Prelude.{◌≡◌, ◌^◌, ◌-◌, ⊤, ℕ}
 use Rattle.wa_run.specs.declared.answer.Answer.{Answer}
 use Rattle.wa_run.specs.declared.answer.Answer.TheVariants as answer
 use Rattle.sa_drive.specs.Seen.{Failed, Seen}
@@ -23,6 +23,11 @@ abbrev pub ProgramEnds : Seen → ℕ → Cause → Type 0
 ProgramEnds seen fuel (cause.Fault kind pos) = ⊤
 ProgramEnds seen fuel ends = RunEnds seen fuel ends
 
+-- the end of a generated program that is run with the greatest fuel, an empty input and an output of its own, and told of on out
+abbrev pub SelftestEnds : Seen → Cause → Type 0
+SelftestEnds seen cause.InFault = ⊥
+SelftestEnds seen ends = ProgramEnds seen (2 ^ 64 - 1) ends
+
 -- the end of a module that is written
 abbrev pub BuildEnds : Seen → Cause → Type 0
 BuildEnds seen cause.Done = ⊤
@@ -30,12 +35,12 @@ BuildEnds seen cause.StoreFault = Failed seen.store
 BuildEnds seen cause.NoMemory = ⊤
 BuildEnds seen _ = ⊥
 
--- the end of a program that is accepted
-abbrev pub CheckEnds : Seen → Cause → Type 0
-CheckEnds seen cause.Done = ⊤
-CheckEnds seen cause.OutFault = Failed seen.out
-CheckEnds seen cause.NoMemory = ⊤
-CheckEnds seen _ = ⊥
+-- the end of a command that puts a text on out
+abbrev pub PrintEnds : Seen → Cause → Type 0
+PrintEnds seen cause.Done = ⊤
+PrintEnds seen cause.OutFault = Failed seen.out
+PrintEnds seen cause.NoMemory = ⊤
+PrintEnds seen _ = ⊥
 
 -- a cause that stands before anything is put on out
 abbrev pub ComesBeforeOutput : Cause → Type 0

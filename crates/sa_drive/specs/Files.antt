@@ -1,10 +1,12 @@
 -- What a cause says of the files of a program.
-use Rattle.std.specs.Prelude.{◌≡◌, ◌<◌, ◌⊎◌, ⊤, ℕ, List, length, Option, None, Some}
+use Rattle.std.specs.Prelude.{◌≡◌, ◌<◌, ◌⊎◌, ⊤, ℕ, List, [], ◌∷◌, codes, length, Option, None, Some}
+use Rattle.sa_gen.specs.Generated.{generated}
 use Rattle.sa_tree.specs.declared.pos.Sources.{Sources}
 use Rattle.sa_tree.specs.declared.refusal.FrontFault.{FrontFault}
 use Rattle.sa_tree.specs.declared.refusal.FrontFault.TheVariants.{NoMemory, Refused}
 use Rattle.sa_tree.specs.declared.refusal.Refusal.{Refusal}
 use Rattle.sa_outside.specs.Files.{Files}
+use Rattle.sa_prelude.specs.PreludeText.{prelude_text}
 use Rattle.sa_read.specs.Front.{IsRefusalOf, IsTakenUpTo}
 use Rattle.sa_read.specs.Program.{IsReadAs, LacksOneOf}
 use Rattle.sa_read.specs.declared.program.Program.{Program}
@@ -53,3 +55,19 @@ ComesOfFiles files store_failed names sources (cause.Refused refusal) = IsRefuse
 ComesOfFiles files store_failed names sources cause.StoreFault = store_failed ⊎ LacksOneOf files names
 ComesOfFiles files store_failed names sources cause.NoMemory = ⊤
 ComesOfFiles files store_failed names sources _ = ⊥
+
+-- the texts of the generated program of so many classes
+abbrev pub generated_sources : ℕ → Sources
+generated_sources classes = record {
+  names = codes "prelude" ∷ codes "generated" ∷ [];
+  texts = prelude_text ∷ generated classes ∷ [];
+}
+
+-- these are the texts of the generated program, and a parser may go over the tokens of each
+abbrev pub IsTakenGenerated : ℕ → Sources → Type 0
+IsTakenGenerated classes sources = (sources ≡ generated_sources classes) × IsTakenUpTo sources.texts (length sources.texts)
+
+-- why the generated program gives no module
+abbrev pub ComesOfGenerated : ℕ → Sources → Cause → Type 0
+ComesOfGenerated classes sources cause.NoMemory = ⊤
+ComesOfGenerated classes sources ends = (sources ≡ generated_sources classes) × Explains sources.texts ends

@@ -71,3 +71,10 @@ told_statistics (Some steps) bytes = statistics steps bytes
 -- the lines of an outcome with this cause
 abbrev pub lines_of : Outcome → Cause → List ℕ
 lines_of outcome cause = line_of_cause outcome.sources outcome.file.now cause ++ told_statistics outcome.steps (length outcome.«module».items)
+
+-- `selftest N: B bytes, status S`, which out takes
+abbrev pub selftest_line : ℕ → ℕ → ℕ → List ℕ
+selftest_line classes bytes status =
+    (codes "selftest " ++ decimal classes ++ codes ": ")
+    ++ (decimal bytes ++ codes " bytes, status ")
+    ++ (decimal status ++ codes "\n")

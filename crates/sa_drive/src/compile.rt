@@ -3,16 +3,18 @@
 ghost use Rattle.std.specs.Prelude.{◌≡◌, ◌≤◌, ◌<◌, All, length, map, None, IfErr, IfOk, IfSome, MatchResult};
 ghost use Rattle.sa_outside.specs.Faults.{Rose};
 ghost use Rattle.sa_read.specs.Front.{IsTakenUpTo};
-ghost use Rattle.sa_drive.specs.Files.{ComesOfFiles, Explains, ExplainsProgram, IsAmong, IsTakenProgram, IsWantOfMemory};
+ghost use Rattle.sa_drive.specs.Files.{ComesOfFiles, ComesOfGenerated, Explains, ExplainsProgram, IsAmong, IsTakenGenerated, IsTakenProgram, IsWantOfMemory, generated_sources};
 ghost use Rattle.sa_drive.specs.Lines.{IsPlaced};
 
 use crate::cause::Cause;
 use sa_check::check;
 use sa_compile::{Built, module_of};
 use sa_core::Core;
+use sa_gen::generate;
 use sa_outside::Store;
+use sa_prelude::text;
 use sa_read::{Program, ReadFault, classes, read_program};
-use sa_tree::{Class, FrontFault, NoMemory, Sources};
+use sa_tree::{Class, FrontFault, Name, NoMemory, Sources};
 use sqlite_items::Items;
 use std::alloc::Global;
 
@@ -24,6 +26,9 @@ pub enum Goal {
     /// Its module, with so many KiB of room for objects.
     Module(u32),
 }
+
+/// The room in KiB where none is given.
+const ROOM: u32 = 65_536;
 
 /// The texts of a program, and its module or the cause why there is none. Where only a check was asked for, the module is
 /// empty.
@@ -69,6 +74,39 @@ fn compile_program(alloc: Global, program: Program, goal: Goal) -> Compiled
             module: Err(Cause::Refused(refusal)),
         },
     }
+}
+
+/// Compiles the generated program of so many classes, with the room of a run for which none is given.
+pub fn compile_generated(alloc: Global, classes: u32) -> Compiled
+    ensures module { MatchResult result.«module» (λ _. IsTakenGenerated classes result.sources) (ComesOfGenerated classes result.sources) }
+    ensures size { IfOk result.«module» (λ built. length built.bytes.items < 4294967295) }
+    ensures placed { IfErr result.«module» (IsPlaced result.sources) }
+{
+    match generated_sources(alloc, classes) {
+        Ok(sources) => compile_program(alloc, Program { sources, cut: None }, Goal::Module(ROOM)),
+        Err(NoMemory) => Compiled {
+            sources: no_sources(alloc),
+            module: Err(Cause::NoMemory),
+        },
+    }
+}
+
+/// The texts of the generated program of so many classes.
+fn generated_sources(alloc: Global, classes: u32) -> Result<Sources, NoMemory>
+    ensures value { IfOk result (λ sources. sources ≡ generated_sources classes) }
+    ensures short { IfOk result (λ sources. All (λ text. length text < 4294967295) sources.texts) }
+{
+    let generated = match generate(alloc, classes) {
+        Ok(generated) if generated.len() < u32::MAX as usize => generated,
+        _ => return Err(NoMemory),
+    };
+    let mut names = Items::new(alloc);
+    names.push(Name::from_slice(alloc, b"prelude")?)?;
+    names.push(Name::from_slice(alloc, b"generated")?)?;
+    let mut texts = Items::new(alloc);
+    texts.push(Items::from_slice(alloc, text())?)?;
+    texts.push(Items::from_vec(generated))?;
+    Ok(Sources { names, texts })
 }
 
 /// The texts of a call that has read none.

@@ -8,8 +8,10 @@ mod compile;
 mod exec;
 mod lines;
 mod outcome;
+mod print;
 mod report;
 mod run;
+mod selftest;
 mod texts;
 mod top;
 

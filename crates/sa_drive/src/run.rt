@@ -1,11 +1,12 @@
 //! The command `run`: a program is compiled, and its module's bytes are run.
 
-ghost use Rattle.std.specs.Prelude.{◌≡◌, ◌&&◌, ℕ, [], is_some, map, IsTrue};
+ghost use Rattle.std.specs.Prelude.{◌≡◌, ◌<◌, ◌&&◌, ℕ, [], Option, is_some, length, map, IsTrue};
+ghost use Rattle.sa_outside.specs.Files.{Files};
 ghost use Rattle.sa_outside.specs.Output.{Grew};
 ghost use Rattle.sa_drive.specs.Answer.{ComesOfProgram, has_steps};
 ghost use Rattle.sa_drive.specs.Ends.{ComesBeforeOutput, ProgramEnds, RunEnds};
 ghost use Rattle.sa_drive.specs.Lines.{IsInside, IsPlaced};
-ghost use Rattle.sa_drive.specs.Seen.{Seen, count, seen};
+ghost use Rattle.sa_drive.specs.Seen.{Count, Seen, count, seen};
 
 use crate::cause::Cause;
 use crate::compile::{Compiled, Goal, compile_files};
@@ -36,13 +37,34 @@ pub fn run<'a, S: Store, I: Source, O: Sink>(
     let goal = Goal::Module(line.room);
     let Compiled { sources, module } = compile_files(alloc, store, line.files.as_slice(), goal);
     match module {
-        Ok(Built { bytes, sites }) => {
-            let ended = run_module(alloc, bytes.as_slice(), line.fuel, input, out);
-            let cause = at_place(ended.cause, sites.as_slice(), &sources);
-            Ended { cause, ..ended }.outcome(sources, "", bytes, line.stats)
-        }
+        Ok(built) => run_built(alloc, sources, built, line.fuel, line.stats, input, out),
         Err(cause) => Outcome::without_run(cause, sources, Vec::new(alloc)),
     }
+}
+
+/// Runs the module of the program of these texts.
+pub fn run_built<'a, I: Source, O: Sink>(
+    alloc: Global,
+    sources: Sources,
+    built: Built,
+    fuel: u64,
+    stats: bool,
+    input: &mut I,
+    out: &mut O,
+) -> Outcome<'a>
+    requires { length built.bytes.items < 4294967295 }
+    ensures ends { (files : Option Files) (store : Count) → ProgramEnds (seen files store (count (I.faults input.old) (I.faults input.new)) (count (O.faults out.old) (O.faults out.new))) fuel result.cause }
+    ensures sources { result.sources ≡ sources }
+    ensures placed { IsPlaced result.sources result.cause }
+    ensures told { is_some result.steps ≡ (stats && has_steps result.cause) }
+    ensures file { result.file.now ≡ [] }
+    ensures output { Grew (O.output out.old) (O.output out.new) }
+    ensures untouched { ComesBeforeOutput result.cause → out.new ≡ out.old }
+{
+    let Built { bytes, sites } = built;
+    let ended = run_module(alloc, bytes.as_slice(), fuel, input, out);
+    let cause = at_place(ended.cause, sites.as_slice(), &sources);
+    Ended { cause, ..ended }.outcome(sources, "", bytes, stats)
 }
 
 /// The cause of a program whose module ended with this one: where the module stopped, the fault at the position whose number

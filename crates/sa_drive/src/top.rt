@@ -3,7 +3,7 @@
 ghost use Rattle.std.specs.Prelude.{◌≡◌, ◌≢◌, ◌⊎◌, ◌&&◌, [], None, Some, is_some, map, string_bytes};
 ghost use Rattle.sa_outside.specs.Output.{Grew, TookFront};
 ghost use Rattle.sa_words.specs.Line.{line_in, line_of};
-ghost use Rattle.sa_drive.specs.Answer.{ComesOf, ComesOfLine, IsTold, LeavesFiles, TakesNoInput, asks_stats, has_steps, module_file};
+ghost use Rattle.sa_drive.specs.Answer.{ComesOf, ComesOfLine, IsTold, LeavesFiles, Prints, TakesNoInput, asks_stats, has_steps, module_file};
 ghost use Rattle.sa_drive.specs.Ends.{ComesBeforeOutput};
 ghost use Rattle.sa_drive.specs.Lines.{IsPlaced, lines_of};
 ghost use Rattle.sa_drive.specs.Report.{Tells};
@@ -18,8 +18,10 @@ use crate::check::check;
 use crate::compile::no_sources;
 use crate::exec::exec;
 use crate::outcome::Outcome;
+use crate::print::print_generated;
 use crate::report::report;
 use crate::run::run;
+use crate::selftest::selftest;
 use sa_outside::{Sink, Source, Store};
 use sa_words::{Command, WordsFault, command_of};
 use sqlite_items::Items;
@@ -47,7 +49,9 @@ pub fn sather<S: Store, I: Source, O: Sink, E: Sink>(
     ensures input { TakesNoInput (line_in (map string_bytes words.now)) → input.new ≡ input.old }
     ensures files { LeavesFiles (line_in (map string_bytes words.now)) result.cause result.«module» (S.files store.old) (S.files store.new) }
 
-    // What out has is behind what it had, and nothing where the cause stands before any output.
+    // What out has is behind what it had, and nothing where the cause stands before any output. Where a command that runs no
+    // module of a file has done what it is for, out took its text.
+    ensures prints { result.cause ≡ Cause.Done → Prints (line_in (map string_bytes words.now)) (O.output out.old) (O.output out.new) }
     ensures output { Grew (O.output out.old) (O.output out.new) }
     ensures untouched { ComesBeforeOutput result.cause → out.new ≡ out.old }
 {
@@ -78,6 +82,7 @@ fn obey<'a, S: Store, I: Source, O: Sink>(
     ensures told { is_some result.steps ≡ (asks_stats (line_in (map string_bytes words.now)) && has_steps result.cause) }
     ensures input { TakesNoInput (line_in (map string_bytes words.now)) → input.new ≡ input.old }
     ensures files { LeavesFiles (line_in (map string_bytes words.now)) result.cause result.«module».items (S.files store.old) (S.files store.new) }
+    ensures prints { result.cause ≡ Cause.Done → Prints (line_in (map string_bytes words.now)) (O.output out.old) (O.output out.new) }
     ensures placed { IsPlaced result.sources result.cause }
     ensures output { Grew (O.output out.old) (O.output out.new) }
     ensures untouched { ComesBeforeOutput result.cause → out.new ≡ out.old }
@@ -103,6 +108,7 @@ fn do_command<'a, S: Store, I: Source, O: Sink>(
     ensures told { is_some result.steps ≡ (asks_stats (Some (line_of command.entry)) && has_steps result.cause) }
     ensures input { TakesNoInput (Some (line_of command.entry)) → input.new ≡ input.old }
     ensures files { LeavesFiles (Some (line_of command.entry)) result.cause result.«module».items (S.files store.old) (S.files store.new) }
+    ensures prints { result.cause ≡ Cause.Done → Prints (Some (line_of command.entry)) (O.output out.old) (O.output out.new) }
     ensures placed { IsPlaced result.sources result.cause }
     ensures output { Grew (O.output out.old) (O.output out.new) }
     ensures untouched { ComesBeforeOutput result.cause → out.new ≡ out.old }
@@ -112,6 +118,8 @@ fn do_command<'a, S: Store, I: Source, O: Sink>(
         Command::Build(line) => build(alloc, &line, store),
         Command::Check(line) => check(alloc, &line, store, out),
         Command::Exec(line) => exec(alloc, &line, store, input, out),
+        Command::Gen(classes) => print_generated(alloc, classes, out),
+        Command::Selftest(classes) => selftest(alloc, classes, out),
     }
 }
 

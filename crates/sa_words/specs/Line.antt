@@ -5,7 +5,7 @@ use Rattle.std.specs.Str.{bytes_eq}
 use Rattle.clap.specs.Words.{Row, Text, all_of, first_of, subcommand_of}
 use Rattle.clap.specs.Faults.{fault_of}
 use Rattle.clap.specs.Walk.{is_empty}
-use Rattle.sa_words.specs.Numbers.{number_or}
+use Rattle.sa_words.specs.Numbers.{number_in, number_or}
 use Rattle.sa_words.specs.Program.{program}
 use Rattle.sa_words.specs.declared.command.Command.{Command}
 use Rattle.sa_words.specs.declared.command.Command.TheVariants as command
@@ -16,6 +16,8 @@ pub data Line : Type 0 where
   Build : (room : ℕ) → (out : Text) → (files : List Text) → Line
   Check : (files : List Text) → Line
   Exec : (fuel : ℕ) → (stats : Bool) → (file : Text) → Line
+  Gen : (classes : ℕ) → Line
+  Selftest : (classes : ℕ) → Line
 
 -- what a command says
 abbrev pub line_of : Command → Line
@@ -23,6 +25,8 @@ line_of (command.Run run) = Run run.fuel run.room run.stats (map (λ file. file.
 line_of (command.Build build) = Build build.room build.out.now (map (λ file. file.now) build.files.items)
 line_of (command.Check check) = Check (map (λ file. file.now) check.files.items)
 line_of (command.Exec exec) = Exec exec.fuel exec.stats exec.«module».now
+line_of (command.Gen classes) = Gen classes
+line_of (command.Selftest classes) = Selftest classes
 
 -- the fuel, which has no limit but that of its type, and else that limit
 abbrev pub fuel_in : List Row → Option ℕ
@@ -47,13 +51,19 @@ build_in rows = option_and_then (λ room. option_map (λ out. Build room out (fi
 abbrev pub exec_in : List Row → Option Line
 exec_in rows = option_and_then (λ fuel. option_map (λ file. Exec fuel (stats_in rows) file) (first_of (codes "module") rows)) (fuel_in rows)
 
+-- how many classes the generated program is to have
+abbrev pub classes_in : List Row → Option ℕ
+classes_in rows = option_and_then (number_in 1 500) (first_of (codes "classes") rows)
+
 -- the command of this name with these matches
 abbrev pub named_line : Text → List Row → Option Line
 named_line name rows =
     if bytes_eq name (codes "run") then run_in rows
     else (if bytes_eq name (codes "build") then build_in rows
     else (if bytes_eq name (codes "check") then Some (Check (files_in rows))
-    else (if bytes_eq name (codes "exec") then exec_in rows else None)))
+    else (if bytes_eq name (codes "exec") then exec_in rows
+    else (if bytes_eq name (codes "gen") then option_map Gen (classes_in rows)
+    else (if bytes_eq name (codes "selftest") then option_map Selftest (classes_in rows) else None)))))
 
 -- there are at most 65,535 words, and `clap` finds no fault in them
 abbrev pub are_taken : List Text → Bool

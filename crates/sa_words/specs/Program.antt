@@ -23,6 +23,10 @@ files = record (new_rule (codes "file")) { action = Some Append; required = true
 abbrev pub module_file : Rule
 module_file = record (new_rule (codes "module")) { required = true }
 
+-- how many classes a generated program has
+abbrev pub classes : Rule
+classes = record (new_rule (codes "classes")) { required = true }
+
 abbrev pub run : App
 run = with_rule (with_rule (with_rule (with_rule (new_app (codes "run")) (option (codes "fuel"))) (option (codes "room"))) (flag (codes "stats"))) files
 
@@ -34,6 +38,12 @@ check = with_rule (new_app (codes "check")) files
 
 abbrev pub exec : App
 exec = with_rule (with_rule (with_rule (new_app (codes "exec")) (option (codes "fuel"))) (flag (codes "stats"))) module_file
+
+abbrev pub gen : App
+gen = with_rule (new_app (codes "gen")) classes
+
+abbrev pub selftest : App
+selftest = with_rule (new_app (codes "selftest")) classes
 
 -- a command without arguments of its own: a subcommand is needed, and `help` is none
 abbrev pub sather : App
@@ -48,4 +58,6 @@ sather =
     }
 
 abbrev pub program : App
-program = with_subcommand (with_subcommand (with_subcommand (with_subcommand sather run.top) build.top) check.top) exec.top
+program =
+    let compiling = with_subcommand (with_subcommand (with_subcommand sather run.top) build.top) check.top in
+    with_subcommand (with_subcommand (with_subcommand compiling exec.top) gen.top) selftest.top

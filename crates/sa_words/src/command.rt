@@ -7,6 +7,10 @@ pub enum Command<'a> {
     Build(Build<'a>),
     Check(Check<'a>),
     Exec(Exec<'a>),
+    /// The text of the generated program of so many classes, from 1 to 500, is asked for.
+    Gen(u32),
+    /// The generated program of so many classes, from 1 to 500, is to be compiled and run.
+    Selftest(u32),
 }
 
 /// The program in the files is to be compiled and run.

@@ -6,7 +6,7 @@ ghost use Rattle.sa_words.specs.Numbers.{is_numeral, number_in, number_or};
 use std::str::FromStr;
 
 /// The number that the text spells, if it is one from `least` to `most`.
-fn number_in(text: &str, least: u64, most: u64) -> Option<u64>
+pub(crate) fn number_in(text: &str, least: u64, most: u64) -> Option<u64>
     ensures { result ≡ number_in least most text.now }
 {
     if !is_numeral(text) {

@@ -50,6 +50,14 @@ fn module_file<'a>(alloc: Global) -> Arg<'a>
     Arg::new(alloc, "module").required(true)
 }
 
+/// How many classes a generated program has.
+fn classes<'a>(alloc: Global) -> Arg<'a>
+    ensures rule { rule_of result ≡ line.classes }
+    ensures own { result.global ≡ false }
+{
+    Arg::new(alloc, "classes").required(true)
+}
+
 /// `run [--fuel N] [--room KIB] [--stats] FILE..`
 fn run<'a>(alloc: Global) -> Result<Command<'a>, AllocError>
     ensures { IfOk result (λ c. (app_of c ≡ line.run) × ((out-Command c).has_globals ≡ false)) }
@@ -88,6 +96,20 @@ fn exec<'a>(alloc: Global) -> Result<Command<'a>, AllocError>
         .arg(module_file(alloc))
 }
 
+/// `gen N`
+fn generate<'a>(alloc: Global) -> Result<Command<'a>, AllocError>
+    ensures { IfOk result (λ c. (app_of c ≡ line.gen) × ((out-Command c).has_globals ≡ false)) }
+{
+    Command::new(alloc, "gen").arg(classes(alloc))
+}
+
+/// `selftest N`
+fn selftest<'a>(alloc: Global) -> Result<Command<'a>, AllocError>
+    ensures { IfOk result (λ c. (app_of c ≡ line.selftest) × ((out-Command c).has_globals ≡ false)) }
+{
+    Command::new(alloc, "selftest").arg(classes(alloc))
+}
+
 /// A command of the program's name without arguments of its own, of which a subcommand is needed.
 fn sather<'a>(alloc: Global) -> Command<'a>
     ensures app { app_of result ≡ line.sather }
@@ -107,5 +129,7 @@ pub(crate) fn program<'a>(alloc: Global) -> Result<Command<'a>, AllocError>
         .subcommand(run(alloc)?)?
         .subcommand(build(alloc)?)?
         .subcommand(check(alloc)?)?
-        .subcommand(exec(alloc)?)
+        .subcommand(exec(alloc)?)?
+        .subcommand(generate(alloc)?)?
+        .subcommand(selftest(alloc)?)
 }

@@ -2,10 +2,10 @@
 
 ghost use Rattle.std.specs.Prelude.{◌≡◌, IfOk, map, option_map};
 ghost use Rattle.clap.specs.Words.{all_of, first_of, found_of, rows_of};
-ghost use Rattle.sa_words.specs.Line.{build_in, exec_in, files_in, fuel_in, line_of, named_line, room_in, run_in, stats_in};
+ghost use Rattle.sa_words.specs.Line.{build_in, classes_in, exec_in, files_in, fuel_in, line_of, named_line, room_in, run_in, stats_in, Gen, Selftest};
 
 use crate::command::{Build, Check, Command, Exec, Run};
-use crate::number::number_or;
+use crate::number::{number_in, number_or};
 use clap::ArgMatches;
 use std::alloc::{AllocError, Global};
 
@@ -17,6 +17,9 @@ const ROOM: u64 = 65_536;
 const LEAST_ROOM: u64 = 64;
 
 const MOST_ROOM: u64 = 1_048_576;
+
+/// How many classes a generated program has at most.
+const MOST_CLASSES: u64 = 500;
 
 /// The value of the argument with this name, or its first one.
 fn value<'a>(matches: &ArgMatches<'a>, name: &str) -> Option<&'a str>
@@ -103,6 +106,26 @@ fn exec<'a>(matches: &ArgMatches<'a>) -> Option<Command<'a>>
     }))
 }
 
+/// How many classes the generated program is to have, if the number is in its range.
+fn classes(matches: &ArgMatches<'_>) -> Option<u32>
+    ensures { result ≡ classes_in (rows_of (found_of matches.now)) }
+{
+    let classes = number_in(value(matches, "classes")?, 1, MOST_CLASSES)?;
+    Some(classes as u32)
+}
+
+fn generate<'a>(matches: &ArgMatches<'_>) -> Option<Command<'a>>
+    ensures { option_map line_of result ≡ option_map Gen (classes_in (rows_of (found_of matches.now))) }
+{
+    Some(Command::Gen(classes(matches)?))
+}
+
+fn selftest<'a>(matches: &ArgMatches<'_>) -> Option<Command<'a>>
+    ensures { option_map line_of result ≡ option_map Selftest (classes_in (rows_of (found_of matches.now))) }
+{
+    Some(Command::Selftest(classes(matches)?))
+}
+
 /// The command of this name with these matches, or none where a number is out of its range.
 pub(crate) fn named<'a>(
     alloc: Global,
@@ -119,6 +142,8 @@ pub(crate) fn named<'a>(
             Ok(Some(Command::Check(Check { files })))
         }
         "exec" => Ok(exec(matches)),
+        "gen" => Ok(generate(matches)),
+        "selftest" => Ok(selftest(matches)),
         _ => Ok(None),
     }
 }

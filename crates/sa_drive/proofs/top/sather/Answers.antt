@@ -1,4 +1,4 @@
-use Rattle.std.proofs.Common.{◌∙◌, inl, inr}
+use Rattle.std.proofs.Common.{◌∙◌, inl, inr, sym}
 use Rattle.sa_drive.proofs.EndLemmas.{reported}
 use Rattle.sa_drive.proofs.top.sather.Goals as goal
 
@@ -16,3 +16,9 @@ pub returns-clause-told_part : goal.returns-clause-told_part
 returns-clause-told_part g c = λ memory.
     let told = c.report-cause.ensures.told_part memory in
     (c.obey-outcome.result, told.0, told.1)
+
+pub returns-clause-prints : goal.returns-clause-prints
+returns-clause-prints g c = λ done. elim c.report-cause.ensures.stands [
+  | inl memory ↦ cc
+  | inr same ↦ c.obey-outcome.ensures.prints (sym same ∙ done)
+]

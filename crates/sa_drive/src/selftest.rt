@@ -1,0 +1,116 @@
+//! The command `selftest`: a generated program is compiled and run, and it is told what came of it.
+
+ghost use Rattle.std.specs.Prelude.{◌≡◌, ◌<◌, ◌++◌, ℕ, [], Option, IfOk, OnOk, decimal, false, is_some, length};
+ghost use Rattle.sa_outside.specs.Files.{Files};
+ghost use Rattle.sa_outside.specs.Output.{Grew, Took};
+ghost use Rattle.sa_drive.specs.Answer.{ComesOfSelftest};
+ghost use Rattle.sa_drive.specs.Ends.{ComesBeforeOutput, PrintEnds, SelftestEnds};
+ghost use Rattle.sa_drive.specs.Lines.{IsPlaced, selftest_line};
+ghost use Rattle.sa_drive.specs.Seen.{Count, count, seen};
+
+use crate::cause::Cause;
+use crate::compile::{Compiled, compile_generated};
+use crate::outcome::Outcome;
+use crate::print::print;
+use crate::run::run_built;
+use itoa::Buffer;
+use sa_compile::Built;
+use sa_outside::{Sink, SureSink, SureSource};
+use sa_tree::Sources;
+use std::alloc::{AllocError, Global};
+
+/// Compiles and runs the generated program of so many classes. Where it ends, the number of bytes that it put out and its
+/// status are told on out; what it put out isn't.
+pub fn selftest<'a, O: Sink>(alloc: Global, classes: u32, out: &mut O) -> Outcome<'a>
+    ensures comes { (files : Option Files) (store input : Count) → ComesOfSelftest (seen files store input (count (O.faults out.old) (O.faults out.new))) classes result.sources result.cause }
+    ensures placed { IsPlaced result.sources result.cause }
+    ensures told { is_some result.steps ≡ false }
+    ensures file { result.file.now ≡ [] }
+    ensures prints { result.cause ≡ Cause.Done → (bytes status : ℕ) × Took (O.output out.old) (O.output out.new) (selftest_line classes bytes status) }
+    ensures output { Grew (O.output out.old) (O.output out.new) }
+    ensures untouched { ComesBeforeOutput result.cause → out.new ≡ out.old }
+{
+    let Compiled { sources, module } = compile_generated(alloc, classes);
+    match module {
+        Ok(built) => run_apart(alloc, classes, sources, built, out),
+        Err(cause) => Outcome::without_run(cause, sources, Vec::new(alloc)),
+    }
+}
+
+/// Runs the module of the generated program with an empty input and an output of its own, and tells on out what came of it.
+fn run_apart<'a, O: Sink>(
+    alloc: Global,
+    classes: u32,
+    sources: Sources,
+    built: Built,
+    out: &mut O,
+) -> Outcome<'a>
+    requires { length built.bytes.items < 4294967295 }
+    ensures ends { (files : Option Files) (store input : Count) → SelftestEnds (seen files store input (count (O.faults out.old) (O.faults out.new))) result.cause }
+    ensures sources { result.sources ≡ sources }
+    ensures placed { IsPlaced result.sources result.cause }
+    ensures told { is_some result.steps ≡ false }
+    ensures file { result.file.now ≡ [] }
+    ensures prints { result.cause ≡ Cause.Done → (bytes status : ℕ) × Took (O.output out.old) (O.output out.new) (selftest_line classes bytes status) }
+    ensures output { Grew (O.output out.old) (O.output out.new) }
+    ensures untouched { ComesBeforeOutput result.cause → out.new ≡ out.old }
+{
+    let mut input = SureSource::new(Vec::new(alloc));
+    let mut output = SureSink::new(alloc);
+    let ran = run_built(
+        alloc,
+        sources,
+        built,
+        u64::MAX,
+        false,
+        &mut input,
+        &mut output,
+    );
+    match ran.cause {
+        Cause::Done => {
+            let bytes = output.taken().len() as u64;
+            let cause = tell(alloc, classes, bytes, ran.done, out);
+            Outcome::without_run(cause, ran.sources, ran.module)
+        }
+        _ => ran,
+    }
+}
+
+/// The cause after the line of a selftest was put on out, or wasn't.
+fn tell<O: Sink>(alloc: Global, classes: u32, bytes: u64, status: u8, out: &mut O) -> Cause
+    ensures ends { (files : Option Files) (store input : Count) → PrintEnds (seen files store input (count (O.faults out.old) (O.faults out.new))) result }
+    ensures prints { result ≡ Cause.Done → Took (O.output out.old) (O.output out.new) (selftest_line classes bytes status) }
+    ensures output { Grew (O.output out.old) (O.output out.new) }
+    ensures later { ComesBeforeOutput result → ⊥ }
+{
+    match line(alloc, classes, bytes, status) {
+        Ok(line) => print(line.as_slice(), out),
+        Err(AllocError) => Cause::NoMemory,
+    }
+}
+
+/// `selftest N: B bytes, status S`, ended by a line feed.
+fn line(alloc: Global, classes: u32, bytes: u64, status: u8) -> Result<Vec<u8>, AllocError>
+    ensures { IfOk result (λ line. line.items ≡ selftest_line classes bytes status) }
+{
+    let mut line = Vec::new(alloc);
+    add_numbered(&mut line, b"selftest ", classes as u64, b": ")?;
+    add_numbered(&mut line, b"", bytes, b" bytes, status ")?;
+    add_numbered(&mut line, b"", status as u64, b"\n")?;
+    Ok(line)
+}
+
+/// Adds the digits of a number between two pieces.
+fn add_numbered(
+    line: &mut Vec<u8>,
+    front: &[u8],
+    number: u64,
+    back: &[u8],
+) -> Result<(), AllocError>
+    ensures { OnOk result (line.new.items ≡ line.old.items ++ (front.now ++ decimal number ++ back.now)) }
+{
+    line.extend_from_slice(front)?;
+    line.extend_from_slice(Buffer::new().format(number).as_bytes())?;
+    line.extend_from_slice(back)?;
+    Ok(())
+}

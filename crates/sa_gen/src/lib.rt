@@ -1,0 +1,8 @@
+//! The text of a generated program: classes in a row, each with an iter that calls the one before.
+#![tactic(auto)]
+
+mod lines;
+mod no_memory;
+
+pub use lines::generate;
+pub use no_memory::NoMemory;
