@@ -1,6 +1,6 @@
 -- What is written behind what, by the grammar of formats.
-use Rattle.std.proofs.Common.{◌≡◌, ℕ, ◌+◌, List, [], ◌∷◌, ◌++◌, length, map, Result, Ok, OnOk, refl, sym, ap, subst, ◌∙◌, append_assoc, arith}
-use Rattle.std.proofs.lemmas.List.{append-nil, length-append, length-map}
+use Rattle.std.proofs.Common.{◌≡◌, ℕ, List, [], ◌∷◌, ◌++◌, length, map, Result, Ok, OnOk, refl, sym, ap, subst, ◌∙◌, append_assoc, inl}
+use Rattle.std.proofs.lemmas.List.{append-nil, length-map}
 use Rattle.std.proofs.lemmas.Result.{on_ok_weaker}
 use Rattle.std.specs.Global.{Vec}
 use Rattle.std.specs.List.{FoldsTo}
@@ -8,6 +8,7 @@ use denote.Ref.{Bor, MutBor}
 use Rattle.wa_syntax.specs.declared.no_memory.NoMemory.{NoMemory}
 use Rattle.wa_syntax.specs.Leb128.{Appends}
 use Rattle.wa_syntax.specs.Formats.{Format, ◌then◌, exactly, each, vec, byte, u32}
+use Rattle.wa_encode.proofs.Orders.{of_parts, unsigned_is}
 use Rattle.wa_encode.specs.Spelling.{Extends, IsLeast, Adds, IsNumber, Leaves, AddsVector}
 
 -- another format of the same bytes
@@ -32,9 +33,7 @@ Adds-never {A} {old} {new} B never h = record {
 pub Adds-exactly : (wanted old new : List ℕ) → new ≡ old ++ wanted → Adds (exactly wanted) old new
 Adds-exactly wanted old new is = record {
   bytes = wanted;
-  least = λ other same.
-      let count : length other ≡ length wanted = ap length same in
-      (refl, omega arith);
+  least = λ other same. (refl, inl same);
   is = is;
 }
 
@@ -51,10 +50,7 @@ Adds-then {A} {B} {old} {middle} {new} a b = record {
   least = λ other h.
       let front = a.least h.0 h.3 in
       let back = b.least h.1 h.4 in
-      let sum : length other ≡ length h.0 + length h.1 = ap length h.2 ∙ length-append h.0 h.1 in (
-        (a.bytes, b.bytes, refl, front.0, back.0),
-        omega (arith, sum, length-append a.bytes b.bytes, front.1, back.1),
-      );
+      ((a.bytes, b.bytes, refl, front.0, back.0), of_parts a.bytes b.bytes h.0 h.1 other h.2 front.1 back.1);
   is = b.is ∙ ap (λ (list : List ℕ). list ++ b.bytes) a.is ∙ append_assoc old a.bytes b.bytes;
 }
 
@@ -74,7 +70,7 @@ Adds-last r B new a = on_ok_weaker r (λ b. Adds-then a b)
 pub Adds-u32 : (n : ℕ) (old new : List ℕ) → Appends IsNumber old new n → Adds (u32 n) old new
 Adds-u32 n old new h = record {
   bytes = h.0;
-  least = λ other spelled. (h.1.spelling, h.1.least other spelled);
+  least = λ other spelled. (h.1.spelling, unsigned_is 32 h.0 other n h.1 spelled);
   is = h.2;
 }
 

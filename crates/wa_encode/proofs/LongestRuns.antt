@@ -4,6 +4,7 @@ use Rattle.std.specs.Prelude.{⊤}
 use Rattle.std.proofs.lemmas.Bool.{cases_lt}
 use Rattle.std.proofs.lemmas.List.{length-append, length-replicate}
 use Rattle.wa_syntax.specs.declared.module.ValTy.{ValTy}
+use Rattle.wa_syntax.specs.declared.module.ValTy.TheVariants.{I32, I64}
 use Rattle.wa_syntax.specs.declared.locals.Run.{Run}
 use Rattle.wa_syntax.specs.Locals.{types_of_runs}
 use Rattle.wa_syntax.specs.Formats.{◌then◌, each, vec, u32}
@@ -11,6 +12,7 @@ use Rattle.wa_syntax.specs.BinaryInstructions.{valtype}
 use Rattle.wa_syntax.specs.Binary.{run, locals}
 use Rattle.wa_encode.specs.Spelling.{Adds, AreApart, AreLongest, AreLongestTo, IsJoined}
 use Rattle.wa_encode.proofs.Numbers.{shorter, summed}
+use Rattle.wa_encode.proofs.Orders.{no_more as or_fewer}
 
 -- no run is empty, and no two neighbours are of one type
 abbrev AreOfTwo : List Run → Type 0
@@ -94,8 +96,12 @@ same_run first other runs front most counts types spelled h =
       few = omega (arith, length-append front h.bytes, h.few);
     }
 
+one_byte : (t : ValTy) (bytes : List ℕ) → valtype t bytes → length bytes ≡ 1
+one_byte I32 bytes h = ap length h
+one_byte I64 bytes h = ap length h
+
 -- a run whose front is spelled, and its rest in front of the others
-joined_run : (first other : Run) (runs : List Run) (front : List ℕ) (most : ℕ) → first.count < other.count → other.count < 2 ^ 32 → run first front → Few (record { count = other.count - first.count; ty = other.ty } ∷ runs) most → Few (other ∷ runs) (length front + most)
+joined_run : (first other : Run) (runs : List Run) (front : List ℕ) (most : ℕ) → first.count < other.count → other.count < 2 ^ 32 → run first front → Few (record { count = other.count - first.count; ty = other.ty } ∷ runs) most → Few (other ∷ runs) (length front + most - 1)
 joined_run first other runs front most less fits spelled h =
     let behind = h.spelled.3 in
     let sum = summed 32 spelled.0 behind.0 first.count (other.count - first.count) other.count spelled.3 behind.3 (omega arith) fits in
@@ -105,20 +111,39 @@ joined_run first other runs front most less fits spelled h =
     record {
       bytes = (sum.bytes ++ behind.1) ++ h.spelled.1;
       spelled = (sum.bytes ++ behind.1, h.spelled.1, refl, (sum.bytes, behind.1, refl, sum.spelled, behind.4), h.spelled.4);
-      few = omega (arith, length-append (sum.bytes ++ behind.1) h.spelled.1, length-append sum.bytes behind.1, sum.few, h.few, front_is, bytes_are, run_is);
+      few = omega (arith, length-append (sum.bytes ++ behind.1) h.spelled.1, length-append sum.bytes behind.1, sum.few, h.few, front_is, bytes_are, run_is, one_byte first.ty spelled.1 spelled.4);
     }
 
-fewest : (others runs : List Run) (bytes : List ℕ) → AreOfTwo runs → length (types_of_runs runs) < 2 ^ 32 → types_of_runs others ≡ types_of_runs runs → each run others bytes → (length runs ≤ length others) × Few runs (length bytes)
-fewest [] [] bytes longest fits same spelled = (omega arith, record { bytes = []; spelled = refl; few = omega arith })
+some_bytes : (r : Run) (bytes : List ℕ) → run r bytes → 0 < length bytes
+some_bytes r bytes h =
+    let all : length bytes ≡ length h.0 + length h.1 = ap length h.2 ∙ length-append h.0 h.1 in
+    omega (arith, all, one_byte r.ty h.1 h.4)
+
+one_run : (a b : Run) → a.count ≡ b.count → a.ty ≡ b.ty → a ≡ b
+one_run a b counts types =
+    let same_count : a ≡ record { count = b.count; ty = a.ty } = ap (λ (n : ℕ). record { count = n; ty = a.ty }) counts in
+    same_count ∙ ap (λ (t : ValTy). record { count = b.count; ty = t }) types
+
+-- the same runs, or more of them in more bytes
+abbrev AreOrMore : List Run → List Run → List ℕ → Type 0
+AreOrMore runs others bytes = (others ≡ runs) ⊎ ((most : ℕ) × (most < length bytes) × (length runs ≤ length others) × Few runs most)
+
+at_most : (runs others : List Run) (bytes : List ℕ) → each run others bytes → AreOrMore runs others bytes → (length runs ≤ length others) × Few runs (length bytes)
+at_most runs others bytes spelled h = elim h [
+  | inl same ↦
+      (omega (arith, ap length same), record { bytes = bytes; spelled = subst (λ (list : List Run). each run list bytes) same spelled; few = omega arith })
+  | inr more ↦ (more.2, record { bytes = more.3.bytes; spelled = more.3.spelled; few = omega (arith, more.1, more.3.few) })
+]
+
+fewest : (others runs : List Run) (bytes : List ℕ) → AreOfTwo runs → length (types_of_runs runs) < 2 ^ 32 → types_of_runs others ≡ types_of_runs runs → each run others bytes → AreOrMore runs others bytes
+fewest [] [] bytes longest fits same spelled = inl refl
 fewest [] (first ∷ runs) bytes longest fits same spelled =
     absurd (none first.count first.ty (types_of_runs runs) (AreOfTwo-some first runs longest) same)
 fewest (other ∷ others) [] bytes longest fits same spelled = elim (cases_lt 0 other.count) [
   | inl some ↦ absurd (none other.count other.ty (types_of_runs others) some (sym same))
   | inr empty ↦
-      let zero_count : other.count ≡ 0 = omega arith in
-      let rest : types_of_runs others ≡ [] = subst (λ (n : ℕ). replicate n other.ty ++ types_of_runs others ≡ []) zero_count same in
-      let found = fewest others [] spelled.1 longest fits rest spelled.4 in
-      (omega (arith, found.0), record { bytes = []; spelled = refl; few = omega arith })
+      let bytes_are : length bytes ≡ length spelled.0 + length spelled.1 = ap length spelled.2 ∙ length-append spelled.0 spelled.1 in
+      inr (0, omega (arith, bytes_are, some_bytes other spelled.0 spelled.3), omega arith, record { bytes = []; spelled = refl; few = omega arith })
 ]
 fewest (other ∷ others) (first ∷ runs) bytes longest fits same spelled =
     let bytes_are : length bytes ≡ length spelled.0 + length spelled.1 = ap length spelled.2 ∙ length-append spelled.0 spelled.1 in
@@ -127,8 +152,8 @@ fewest (other ∷ others) (first ∷ runs) bytes longest fits same spelled =
       | inr empty ↦
           let zero_count : other.count ≡ 0 = omega arith in
           let rest : types_of_runs others ≡ types_of_runs (first ∷ runs) = subst (λ (n : ℕ). replicate n other.ty ++ types_of_runs others ≡ types_of_runs (first ∷ runs)) zero_count same in
-          let found = fewest others (first ∷ runs) spelled.1 longest fits rest spelled.4 in
-          (omega (arith, found.0), record { bytes = found.1.bytes; spelled = found.1.spelled; few = omega (arith, found.1.few, bytes_are) })
+          let found = at_most (first ∷ runs) others spelled.1 spelled.4 (fewest others (first ∷ runs) spelled.1 longest fits rest spelled.4) in
+          inr (length spelled.1, omega (arith, bytes_are, some_bytes other spelled.0 spelled.3), omega (arith, found.0), found.1)
       | inl some ↦
           let types : other.ty ≡ first.ty = heads other.count first.count other.ty first.ty (types_of_runs others) (types_of_runs runs) some some_first same in
           let one_type : replicate other.count first.ty ++ types_of_runs others ≡ replicate first.count first.ty ++ types_of_runs runs = subst (λ (t : ValTy). replicate other.count t ++ types_of_runs others ≡ replicate first.count first.ty ++ types_of_runs runs) types same in
@@ -140,16 +165,21 @@ fewest (other ∷ others) (first ∷ runs) bytes longest fits same spelled =
                 let rest : types_of_runs others ≡ replicate (first.count - other.count) first.ty ++ types_of_runs runs = tails other.count first.count first.ty (types_of_runs others) (types_of_runs runs) most one_type in
                 elim (cases_lt other.count first.count) [
                   | inl less ↦
-                      let found = fewest others (record { count = first.count - other.count; ty = first.ty } ∷ runs) spelled.1 (AreOfTwo-shorter first (first.count - other.count) runs (omega arith) longest) (omega (arith, fits, length-types first runs, length-types (record { count = first.count - other.count; ty = first.ty }) runs)) rest spelled.4 in
+                      let found = at_most (record { count = first.count - other.count; ty = first.ty } ∷ runs) others spelled.1 spelled.4 (fewest others (record { count = first.count - other.count; ty = first.ty } ∷ runs) spelled.1 (AreOfTwo-shorter first (first.count - other.count) runs (omega arith) longest) (omega (arith, fits, length-types first runs, length-types (record { count = first.count - other.count; ty = first.ty }) runs)) rest spelled.4) in
                       let whole = joined_run other first runs spelled.0 (length spelled.1) less (omega (arith, fits, length-types first runs)) spelled.3 found.1 in
-                      (omega (arith, found.0), record { bytes = whole.bytes; spelled = whole.spelled; few = omega (arith, whole.few, bytes_are) })
+                      inr (length spelled.0 + length spelled.1 - 1, omega (arith, bytes_are, some_bytes other spelled.0 spelled.3), omega (arith, found.0), whole)
                   | inr all ↦
                       let counts : other.count ≡ first.count = omega arith in
                       let none_left : first.count - other.count ≡ 0 = omega arith in
                       let after : types_of_runs others ≡ types_of_runs runs = subst (λ (n : ℕ). types_of_runs others ≡ replicate n first.ty ++ types_of_runs runs) none_left rest in
-                      let found = fewest others runs spelled.1 (AreOfTwo-rest first runs longest) (omega (arith, fits, length-types first runs)) after spelled.4 in
-                      let whole = same_run other first runs spelled.0 (length spelled.1) counts types spelled.3 found.1 in
-                      (omega (arith, found.0), record { bytes = whole.bytes; spelled = whole.spelled; few = omega (arith, whole.few, bytes_are) })
+                      elim (fewest others runs spelled.1 (AreOfTwo-rest first runs longest) (omega (arith, fits, length-types first runs)) after spelled.4) [
+                        | inl equal ↦
+                            let firsts = one_run other first counts types in
+                            inl cc
+                        | inr more ↦
+                            let whole = same_run other first runs spelled.0 more.0 counts types spelled.3 more.3 in
+                            inr (length spelled.0 + more.0, omega (arith, bytes_are, more.1), omega (arith, more.2), whole)
+                      ]
                 ]
           ]
     ]
@@ -160,13 +190,18 @@ Adds-locals types runs old new same longest h = record {
   least = λ other spelled.
       let many : length (types_of_runs runs) ≡ length types = ap length same in
       let few : length (types_of_runs runs) < 2 ^ 32 = omega (arith, many, spelled.0) in
-      let least = fewest spelled.1 runs spelled.3.1 (AreOfTwo-from_longest runs few longest) few (spelled.2 ∙ sym same) spelled.3.4 in
-      let count = shorter 32 spelled.3.0 (length spelled.1) (length runs) spelled.3.3 least.0 in
-      let found = h.least (count.bytes ++ least.1.bytes) (count.bytes, least.1.bytes, refl, count.spelled, least.1.spelled) in
-      let other_is : length other ≡ length spelled.3.0 + length spelled.3.1 = ap length spelled.3.2 ∙ length-append spelled.3.0 spelled.3.1 in (
-        (spelled.0, runs, same, found.0),
-        omega (arith, found.1, length-append count.bytes least.1.bytes, count.few, least.1.few, other_is),
-      );
+      let other_is : length other ≡ length spelled.3.0 + length spelled.3.1 = ap length spelled.3.2 ∙ length-append spelled.3.0 spelled.3.1 in
+      elim (fewest spelled.1 runs spelled.3.1 (AreOfTwo-from_longest runs few longest) few (spelled.2 ∙ sym same) spelled.3.4) [
+        | inl equal ↦
+            let found = h.least other (subst (λ (list : List Run). vec run list other) equal spelled.3) in
+            ((spelled.0, runs, same, found.0), found.1)
+        | inr more ↦
+            let count = shorter 32 spelled.3.0 (length spelled.1) (length runs) spelled.3.3 more.2 in
+            let found = h.least (count.bytes ++ more.3.bytes) (count.bytes, more.3.bytes, refl, count.spelled, more.3.spelled) in (
+              (spelled.0, runs, same, found.0),
+              inr (omega (arith, or_fewer h.bytes (count.bytes ++ more.3.bytes) found.1, length-append count.bytes more.3.bytes, count.few, more.1, more.3.few, other_is)),
+            )
+      ];
   is = h.is;
 }
 

@@ -9,6 +9,7 @@ use Rattle.wa_syntax.specs.Formats.{i32, i64}
 use Rattle.wa_syntax.proofs.Places.{pow-seven}
 use Rattle.wa_syntax.proofs.Signed.{IsSigned-within, IsSigned-fits}
 use Rattle.wa_syntax.proofs.Unsigned.{IsUnsigned-more}
+use Rattle.wa_encode.proofs.Orders.{signed_is}
 use Rattle.wa_encode.specs.Spelling.{Adds}
 
 IsSigned-fits64 : (bytes : List ℕ) (z : ℤ) → IsSigned 64 bytes z → FitsSigned w64 z
@@ -24,7 +25,7 @@ Adds-i32 n z old new is below h = record {
       let round : cast_signed w32 (cast_unsigned w32 z) ≡ cast_signed w32 n = ap (cast_signed w32) bits in
       let same : spelled.0 ≡ cast_signed w32 (cast_unsigned w32 z) = sym (to_z-of_z w32 spelled.0 (IsSigned-fits other spelled.0 spelled.1)) ∙ ap (cast_signed w32) (sym spelled.2) ∙ sym round in
       let found : IsSigned 32 other (cast_signed w32 (cast_unsigned w32 z)) = subst (IsSigned 32 other) same spelled.1 in
-      ((cast_signed w32 n, subst (IsSigned 32 h.0) round h.1.spelling, sym (of_z-to_z w32 n below)), h.1.least other found);
+      ((cast_signed w32 n, subst (IsSigned 32 h.0) round h.1.spelling, sym (of_z-to_z w32 n below)), signed_is 32 h.0 other (cast_signed w32 (cast_unsigned w32 z)) h.1 found);
   is = h.2;
 }
 
@@ -36,7 +37,7 @@ Adds-i64 n z old new is below h = record {
       let round : cast_signed w64 (cast_unsigned w64 z) ≡ cast_signed w64 n = ap (cast_signed w64) bits in
       let same : spelled.0 ≡ cast_signed w64 (cast_unsigned w64 z) = sym (to_z-of_z w64 spelled.0 (IsSigned-fits64 other spelled.0 spelled.1)) ∙ ap (cast_signed w64) (sym spelled.2) ∙ sym round in
       let found : IsSigned 64 other (cast_signed w64 (cast_unsigned w64 z)) = subst (IsSigned 64 other) same spelled.1 in
-      ((cast_signed w64 n, subst (IsSigned 64 h.0) round h.1.spelling, sym (of_z-to_z w64 n below)), h.1.least other found);
+      ((cast_signed w64 n, subst (IsSigned 64 h.0) round h.1.spelling, sym (of_z-to_z w64 n below)), signed_is 64 h.0 other (cast_signed w64 (cast_unsigned w64 z)) h.1 found);
   is = h.2;
 }
 

@@ -12,13 +12,14 @@ use Rattle.wa_syntax.specs.declared.instr.Instr.{Instr, out-Instr}
 use Rattle.wa_syntax.specs.declared.instr.Instr.TheOpen.{Instr-F}
 use Rattle.wa_syntax.specs.declared.instr.Instr.TheVariants as variant
 use Rattle.wa_syntax.specs.declared.instr.Instr.TheViews.{roll-Instr, out-roll-Instr}
-use Rattle.wa_syntax.specs.Leb128.{Appends}
+use Rattle.wa_syntax.specs.Leb128.{IsUnsigned, Appends}
 use Rattle.wa_syntax.specs.Formats.{Format, ◌then◌, each, vec, byte, name, sized}
 use Rattle.wa_syntax.specs.BinaryInstructions.{IsBare, plain, conditional, instr_over, instr, blocktype}
 use Rattle.wa_syntax.specs.Binary.{section, vecsec, customs, magic, version, SpellsModule}
 use Rattle.wa_encode.specs.Spelling.{IsLeast, Adds, IsNumber, IsCounted, IsSection, Leaves, AddsVector, AddsVectorSection, else_end, sections}
 use Rattle.wa_encode.proofs.Adding.{Adds-as, Adds-never, Adds-exactly, Adds-byte, Adds-then, Adds-behind, Adds-u32, Adds-called, Adds-vec-called, Adds-vec-map, IsLeast-from_Adds}
 use Rattle.wa_encode.proofs.Numbers.{shorter}
+use Rattle.wa_encode.proofs.Orders.{IsOrFewer, no_more, of_none, of_parts, unsigned_is}
 
 -- what is true of the value beside what is written
 pub Adds-given : {B : Format} {old new : List ℕ} (P : Type 0) → Adds B old new → Adds (λ bytes. P × B bytes) old new
@@ -56,13 +57,19 @@ Adds-sized B content old new written h = record {
   bytes = h.0;
   least = λ other spelled.
       let found = IsLeast-from_Adds B content written spelled.0 spelled.1 in
-      let count = shorter 32 spelled.2.0 (length spelled.0) (length content) spelled.2.3 found.1 in
+      let count = shorter 32 spelled.2.0 (length spelled.0) (length content) spelled.2.3 (no_more content spelled.0 found.1) in
       let bytes_are : length h.0 ≡ length h.1.0 + length content = ap length h.1.2 ∙ length-append h.1.0 content in
       let other_is : length other ≡ length spelled.2.0 + length spelled.2.1 = ap length spelled.2.2 ∙ length-append spelled.2.0 spelled.2.1 in
-      let content_is : length spelled.2.1 ≡ length spelled.0 = ap length spelled.2.4 in (
-        (content, found.0, (h.1.0, content, h.1.2, h.1.1.spelling, refl)),
-        omega (arith, bytes_are, other_is, content_is, found.1, count.few, h.1.1.least count.bytes count.spelled),
-      );
+      let content_is : length spelled.2.1 ≡ length spelled.0 = ap length spelled.2.4 in
+      let order : IsOrFewer h.0 other = elim (found.1) [
+        | inl same ↦
+            let counted = subst (λ (n : ℕ). IsUnsigned 32 spelled.2.0 n) (ap length same) spelled.2.3 in
+            let front = unsigned_is 32 h.1.0 spelled.2.0 (length content) h.1.1 counted in
+            subst (λ (bytes : List ℕ). IsOrFewer bytes other) (sym h.1.2) (of_parts h.1.0 content spelled.2.0 spelled.2.1 other spelled.2.2 front (inl (spelled.2.4 ∙ same)))
+        | inr less ↦
+            inr (omega (arith, bytes_are, other_is, content_is, less, count.few, h.1.1.least count.bytes count.spelled))
+      ] in
+      ((content, found.0, (h.1.0, content, h.1.2, h.1.1.spelling, refl)), order);
   is = h.2;
 }
 
@@ -83,7 +90,7 @@ Adds-vecsec id B Step ws vs old new many written h = elim h [
       let empty : length vs ≡ 0 = ap length none.0 in
       record {
         bytes = [];
-        least = λ other spelled. (inl (nothing ws (many ∙ empty), refl), omega arith);
+        least = λ other spelled. (inl (nothing ws (many ∙ empty), refl), of_none other);
         is = none.1 ∙ sym (append-nil old);
       }
   | inr some ↦
@@ -114,7 +121,7 @@ Adds-vecsec-map {V} {W} id B f post given vs old new same adds h =
 pub Adds-customs : (old : List ℕ) → Adds customs old old
 Adds-customs old = record {
   bytes = [];
-  least = λ other spelled. (([], refl), omega arith);
+  least = λ other spelled. (([], refl), of_none other);
   is = sym (append-nil old);
 }
 
@@ -173,8 +180,9 @@ Adds-no_else Body branch old new empty h = record {
     | inr some ↦
         let found = h.least some.4.1 some.4.4 in
         let other_is : length other ≡ length some.0 + length some.1 = ap length some.2 ∙ length-append some.0 some.1 in
+        let one : length some.0 ≡ 1 = ap length some.3 in
         let rest_is : length some.1 ≡ length some.4.0 + length some.4.1 = ap length some.4.2 ∙ length-append some.4.0 some.4.1 in
-        (inl (empty, found.0), omega (arith, found.1, other_is, rest_is))
+        (inl (empty, found.0), inr (omega (arith, no_more h.bytes some.4.1 found.1, one, other_is, rest_is)))
   ];
   is = h.is;
 }

@@ -15,9 +15,9 @@ use Rattle.wa_syntax.specs.Binary.{functype, tabletype, memtype, customs, vecsec
 abbrev pub Extends : List ℕ → List ℕ → Type 0
 Extends old new = (more : List ℕ) × (new ≡ old ++ more)
 
--- if any bytes are of the format, these are, and none that are of it are fewer
+-- if any bytes are of the format, these are, and any others that are of it are more
 abbrev pub IsLeast : Format → List ℕ → Type 0
-IsLeast B bytes = (other : List ℕ) → B other → B bytes × (length bytes ≤ length other)
+IsLeast B bytes = (other : List ℕ) → B other → B bytes × ((other ≡ bytes) ⊎ (length bytes < length other))
 
 -- the new list is the old one with such bytes at its end
 pub record Adds (B : Format) (old new : List ℕ) : Type 0 where

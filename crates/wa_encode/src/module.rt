@@ -48,7 +48,7 @@ const DATA: u8 = 11;
 /// `NoMemory` comes where memory runs out, and where a count or a length doesn't fit 32 bits, that of the whole among them.
 pub fn encode(alloc: Global, m: &Module) -> Result<Vec<u8>, NoMemory>
     ensures begins { IfOk result (λ bytes. Extends PREAMBLE bytes.items) }
-    // If any bytes spell the module, these do, and none that do are fewer.
+    // If any bytes spell the module, these do, and any others that do are more.
     ensures shortest { IfOk result (λ bytes. IsLeast (λ spelling. binary.SpellsModule spelling m.now) bytes.items) }
 {
     let mut out = Vec::from_slice(alloc, &PREAMBLE)?;
