@@ -1,0 +1,10 @@
+pub mod Apart
+pub mod Contexts
+pub mod Elements
+pub mod Ends
+pub mod ExportNames
+pub mod FilterMaps
+pub mod Functions
+pub mod Sequences
+pub mod Steps
+pub mod Typed

@@ -1,26 +1,35 @@
 //! Control instructions (section 3.3.5) that hold no others.
 
+ghost use Rattle.std.specs.Prelude.{◌≡◌, ◌<◌, All, map, reverse, slice_get, Some, None, IfOk, IfErr, option_to_list, List};
+ghost use Rattle.wa_syntax.specs.Instructions.{Br, BrIf, BrTable, Return, Call, CallIndirect};
+ghost use Rattle.wa_syntax.specs.Validity.{IsTyped, Gives};
+ghost use Rattle.wa_syntax.specs.Validity as validity;
+ghost use Rattle.wa_valid.specs.Operands.{stack, Answers};
+ghost use Rattle.wa_valid.specs.Rules.{Says};
+
 use crate::context::Context;
 use crate::fault::{Fault, Rule, require};
 use crate::operands::Operands;
 use wa_syntax::{FuncTy, ValTy};
 
-/// The labels that a place in a body may branch to, the outermost first: for each the type of what it wants, if
-/// anything.
-pub type Labels = Vec<Option<ValTy>>;
-
-/// What the label with a number, counted outwards, wants, if there is one.
-fn label_type(labels: &[Option<ValTy>], label: u32) -> Result<Option<ValTy>, Fault> {
-    let at = labels
-        .len()
-        .checked_sub(1)
-        .and_then(|last| last.checked_sub(label as usize))
-        .ok_or(Fault::Invalid)?;
-    labels.get(at).copied().ok_or(Fault::Invalid)
+/// What the label with a number, counted outwards, wants, if there is one. The labels are those that a place in a body may
+/// branch to, the outermost first: for each the type of what it wants, if anything.
+fn label_type(labels: &[Option<ValTy>], label: u32) -> Result<Option<ValTy>, Fault>
+    ensures ok { IfOk result (λ wanted. slice_get (reverse labels.now) label ≡ Some wanted) }
+    ensures err { IfErr result (λ fault. (fault ≡ Fault.Invalid) × (slice_get (reverse labels.now) label ≡ None)) }
+{
+    let label = label as usize;
+    if label < labels.len() {
+        Ok(labels[labels.len() - 1 - label])
+    } else {
+        Err(Fault::Invalid)
+    }
 }
 
 /// `br`: [t1* t?] → [t2*].
-pub fn br(labels: &[Option<ValTy>], operands: &mut Operands, label: u32) -> Rule {
+pub fn br(labels: &[Option<ValTy>], operands: &mut Operands, label: u32) -> Rule
+    ensures { (c : validity.Context) → c.labels ≡ map option_to_list (reverse labels.now) → Answers (IsTyped c (Br label)) (stack operands.old) (stack operands.new) result }
+{
     let wanted = label_type(labels, label)?;
     operands.pop_result(wanted)?;
     operands.set_unreachable();
@@ -28,12 +37,11 @@ pub fn br(labels: &[Option<ValTy>], operands: &mut Operands, label: u32) -> Rule
 }
 
 /// `br_if`: [t? i32] → [t?].
-pub fn br_if(labels: &[Option<ValTy>], operands: &mut Operands, label: u32) -> Rule {
+pub fn br_if(labels: &[Option<ValTy>], operands: &mut Operands, label: u32) -> Rule
+    ensures { (c : validity.Context) → c.labels ≡ map option_to_list (reverse labels.now) → Answers (IsTyped c (BrIf label)) (stack operands.old) (stack operands.new) result }
+{
     let wanted = label_type(labels, label)?;
-    operands.pop(ValTy::I32)?;
-    operands.pop_result(wanted)?;
-    operands.push_result(wanted)?;
-    Ok(())
+    operands.apply(wanted, Some(ValTy::I32), wanted)
 }
 
 /// `br_table`: [t1* t? i32] → [t2*]. All its labels want what the default one does, also where it can't be reached.
@@ -42,35 +50,66 @@ pub fn br_table(
     operands: &mut Operands,
     table: &[u32],
     default: u32,
-) -> Rule {
+) -> Rule
+    ensures { (c : validity.Context) → c.labels ≡ map option_to_list (reverse labels.now) → Answers (IsTyped c (BrTable table.now default)) (stack operands.old) (stack operands.new) result }
+{
     let wanted = label_type(labels, default)?;
-    for label in table {
-        require(label_type(labels, *label)? == wanted)?;
-    }
-    operands.pop(ValTy::I32)?;
-    operands.pop_result(wanted)?;
+    all_want(labels, table, wanted)?;
+    operands.apply(wanted, Some(ValTy::I32), None)?;
     operands.set_unreachable();
     Ok(())
 }
 
+/// The labels with these numbers all want this.
+fn all_want(labels: &[Option<ValTy>], table: &[u32], wanted: Option<ValTy>) -> Rule
+    ensures { Says (All (λ label. slice_get (reverse labels.now) label ≡ Some wanted) table.now) result }
+{
+    for label in table {
+        wants(labels, *label, wanted)?;
+    }
+    Ok(())
+}
+
+/// The label with this number wants this.
+fn wants(labels: &[Option<ValTy>], label: u32, wanted: Option<ValTy>) -> Rule
+    ensures { Says (slice_get (reverse labels.now) label ≡ Some wanted) result }
+{
+    let found = label_type(labels, label)?;
+    require(found == wanted)
+}
+
 /// `return`: [t1* t?] → [t2*], where the function gives t?.
-pub fn return_(operands: &mut Operands, func: &FuncTy) -> Rule {
+pub fn return_(operands: &mut Operands, func: &FuncTy) -> Rule
+    ensures { (c : validity.Context) → c.results ≡ func.now.results → Answers (IsTyped c Return) (stack operands.old) (stack operands.new) result }
+{
     operands.pop_all(func.results.as_slice())?;
     operands.set_unreachable();
     Ok(())
 }
 
-/// `call`, by the type of the function.
-pub fn call(operands: &mut Operands, func: &FuncTy) -> Rule {
+/// A call of a function of this type.
+fn call_of(operands: &mut Operands, func: &FuncTy) -> Rule
+    ensures { Answers (Gives func.now.params func.now.results) (stack operands.old) (stack operands.new) result }
+{
     operands.pop_all(func.params.as_slice())?;
-    operands.push_all(func.results.as_slice())?;
-    Ok(())
+    operands.push_all(func.results.as_slice())
+}
+
+/// `call`, by the type of the function.
+pub fn call(context: &Context, operands: &mut Operands, func: u32) -> Rule
+    ensures { (c : validity.Context) → c.funcs ≡ context.now.funcs → c.types ≡ context.now.types.now → Answers (IsTyped c (Call func)) (stack operands.old) (stack operands.new) result }
+{
+    let number = context.func_type_number(func)?;
+    let ty = context.type_at(number)?;
+    call_of(operands, ty)
 }
 
 /// `call_indirect`, of a function in the table with the type of a number: as a call, with the place in the table on top.
-pub fn call_indirect(context: &Context, operands: &mut Operands, ty: u32) -> Rule {
-    require(context.tables > 0)?;
-    let ty = context.type_at(ty)?;
-    operands.pop(ValTy::I32)?;
-    call(operands, ty)
+pub fn call_indirect(context: &Context, operands: &mut Operands, number: u32) -> Rule
+    ensures { (c : validity.Context) → c.tables ≡ context.now.tables → c.types ≡ context.now.types.now → Answers (IsTyped c (CallIndirect number)) (stack operands.old) (stack operands.new) result }
+{
+    require(0 < context.tables)?;
+    let ty = context.type_at(number)?;
+    operands.pop_result(Some(ValTy::I32))?;
+    call_of(operands, ty)
 }

@@ -1,8 +1,9 @@
 //! Why a module is not known to be valid.
 
-ghost use Rattle.std.specs.Prelude.{◌≡◌, ℕ, ◌<◌, ◌↔◌, IsTrue, IsOk, IfErr};
+ghost use Rattle.std.specs.Prelude.{◌≡◌, IsTrue};
 ghost use Rattle.wa_valid.specs.declared.fault.Fault.TheVariants.{NoMemory};
-ghost use Rattle.wa_valid.specs.Fault.{NamesNone, NamesOwn};
+ghost use Rattle.wa_valid.specs.Rules.{Says};
+ghost use Rattle.wa_valid.specs.Verdict.{IsInBody, outside_bodies};
 
 use std::alloc::{AllocError, AllocFailed};
 use thiserror::Error;
@@ -29,22 +30,34 @@ pub enum Fault {
 }
 
 impl Fault {
-    /// The fault of a module where the body of the own function at this place has this one.
+    /// The fault of a module where the body of the own function at this place has this one. A place that no `u32` numbers
+    /// is taken as want of memory.
     pub fn in_body(self, at: usize) -> ValidFault
-        ensures { (funcs : ℕ) → at < funcs → NamesOwn funcs result }
+        ensures { IsInBody self at result }
     {
         match self {
-            Fault::Invalid => ValidFault::Invalid {
-                func: u32::try_from(at).ok(),
-            },
+            Fault::Invalid => invalid_at(at),
             Fault::NoMemory => ValidFault::NoMemory,
         }
     }
 }
 
+/// The fault of a module where the body of the own function at this place is ill typed.
+fn invalid_at(at: usize) -> ValidFault
+    ensures { IsInBody Fault.Invalid at result }
+{
+    if at <= u32::MAX as usize {
+        ValidFault::Invalid {
+            func: Some(at as u32),
+        }
+    } else {
+        ValidFault::NoMemory
+    }
+}
+
 /// The fault of a module where a rule outside bodies has this one.
 impl From<Fault> for ValidFault {
-    ghost from_gives = { λ _ fault. NamesNone fault };
+    ghost from_gives = { λ fault f. f ≡ outside_bodies fault };
 
     fn from(fault: Fault) -> ValidFault {
         match fault {
@@ -75,8 +88,7 @@ pub type Rule = Result<(), Fault>;
 
 /// A rule that holds exactly where the condition does.
 pub fn require(condition: bool) -> Rule
-    ensures holds { IsOk result ↔ IsTrue condition }
-    ensures broken { IfErr result (λ fault. fault ≡ Fault.Invalid) }
+    ensures { Says (IsTrue condition) result }
 {
     if condition {
         Ok(())

@@ -1,56 +1,110 @@
 //! The types of a function's locals by number. The parameters stay where the function's type has them, and the runs of
 //! declared locals are summed once, so that a look-up is a search among the sums.
 
+ghost use Rattle.std.specs.Prelude.{◌≡◌, ◌+◌, ◌++◌, slice_get, Some, None, IfOk, IfErr};
+ghost use Rattle.std.specs.List.Sorted.{IsNonDecreasingBy};
+ghost use Rattle.wa_syntax.specs.Locals.{types_of_runs};
+ghost use Rattle.wa_valid.specs.Ends.{types_of_ends};
+
 use crate::fault::Fault;
-use std::alloc::{AllocError, Global};
-use wa_syntax::{FuncTy, Locals, ValTy};
+use std::alloc::Global;
+use std::marker::Model;
+use wa_syntax::{FuncTy, Locals, Run, ValTy};
 
 /// A run of declared locals, with the number of those up to its end.
 #[derive(Clone, Copy)]
-struct RunEnd {
+pub struct RunEnd {
     end: u64,
     ty: ValTy,
 }
 
-/// The declared locals of a function.
+/// The declared locals of a function. Contracts see their types.
 #[derive(Drop)]
 pub struct Declared {
     ends: Vec<RunEnd>,
 }
 
-impl Declared {
-    /// No locals. Takes no memory.
-    pub fn new(alloc: Global) -> Declared {
-        Declared {
-            ends: Vec::new(alloc),
-        }
-    }
+impl Model for Declared {
+    ghost use Rattle.std.specs.Prelude.{List};
+    ghost use Rattle.std.specs.List.Sorted.{IsNonDecreasingBy};
+    ghost use Rattle.wa_syntax.specs.declared.module.ValTy.{ValTy};
+    ghost use Rattle.wa_valid.specs.Ends.{types_of_ends};
 
-    /// Takes these locals in place of those before. After an `Err` the locals are not known.
-    pub fn set(&mut self, locals: &Locals) -> Result<(), AllocError> {
-        self.ends.clear();
-        let mut end: u64 = 0;
-        for run in locals.runs() {
-            end = end.saturating_add(u64::from(run.count));
-            self.ends.push(RunEnd { end, ty: run.ty })?;
-        }
-        Ok(())
+    ghost Value = { List ValTy };
+
+    ghost view = { λ d. types_of_ends 0 d.ends.items };
+
+    ghost invariant = { λ d. IsNonDecreasingBy (λ run. run.end) d.ends.items };
+}
+
+impl Declared {
+    /// These locals. Fails where memory runs out.
+    pub fn new(alloc: Global, locals: &Locals) -> Result<Declared, Fault>
+        ensures ok { IfOk result (λ declared. declared ≡ locals.now) }
+        ensures err { IfErr result (λ fault. fault ≡ Fault.NoMemory) }
+    {
+        let ends = ends_of(alloc, locals.runs())?;
+        Ok(Declared { ends })
     }
 
     /// The type of the declared local with a number, if there is one. Takes as many steps as halvings of the runs.
-    fn get(&self, at: u64) -> Option<ValTy> {
-        let ends = self.ends.as_slice();
-        let run = ends.partition_point(|run| run.end <= at);
-        Some(ends.get(run)?.ty)
+    fn get(&self, at: u64) -> Option<ValTy>
+        ensures { result ≡ slice_get self.now at }
+    {
+        type_at(&self.ends, at)
     }
 
     /// The type of a function's local with a number, the parameters counted first, if there is one.
-    pub fn type_at(&self, ty: &FuncTy, local: u32) -> Result<ValTy, Fault> {
+    pub fn type_at(&self, ty: &FuncTy, local: u32) -> Result<ValTy, Fault>
+        ensures ok { IfOk result (λ found. slice_get (ty.now.params ++ self.now) local ≡ Some found) }
+        ensures err { IfErr result (λ fault. (fault ≡ Fault.Invalid) × (slice_get (ty.now.params ++ self.now) local ≡ None)) }
+    {
         let params = ty.params.as_slice();
-        if let Some(&param) = params.get(local as usize) {
-            return Ok(param);
+        let local = local as usize;
+        if local < params.len() {
+            return Ok(params[local]);
         }
-        let declared = (local as usize).saturating_sub(params.len());
-        self.get(declared as u64).ok_or(Fault::Invalid)
+        match self.get((local - params.len()) as u64) {
+            Some(found) => Ok(found),
+            None => Err(Fault::Invalid),
+        }
+    }
+}
+
+/// The runs with the number of locals up to the end of each. A count that no memory holds is taken as want of memory.
+fn ends_of(alloc: Global, runs: &[Run]) -> Result<Vec<RunEnd>, Fault>
+    ensures sorted { IfOk result (λ ends. IsNonDecreasingBy (λ run. run.end) ends.items) }
+    ensures types { IfOk result (λ ends. types_of_ends 0 ends.items ≡ types_of_runs runs.now) }
+    ensures err { IfErr result (λ fault. fault ≡ Fault.NoMemory) }
+{
+    let mut ends = Vec::new(alloc);
+    let mut end: u64 = 0;
+    for run in runs {
+        end = end_after(end, run.count)?;
+        ends.push(RunEnd { end, ty: run.ty })?;
+    }
+    Ok(ends)
+}
+
+/// The number of locals up to the end of a run of so many behind the others.
+fn end_after(end: u64, count: u32) -> Result<u64, Fault>
+    ensures ok { IfOk result (λ sum. sum ≡ end + count) }
+    ensures err { IfErr result (λ fault. fault ≡ Fault.NoMemory) }
+{
+    match end.checked_add(u64::from(count)) {
+        Some(sum) => Ok(sum),
+        None => Err(Fault::NoMemory),
+    }
+}
+
+/// The type of the local with a number, if there is one, by the ends of the runs.
+fn type_at(ends: &[RunEnd], at: u64) -> Option<ValTy>
+    requires { IsNonDecreasingBy (λ run. run.end) ends.now }
+    ensures { result ≡ slice_get (types_of_ends 0 ends.now) at }
+{
+    let run = ends.partition_point(|run| run.end <= at);
+    match sqlite_items::at(ends, run) {
+        Some(found) => Some(found.ty),
+        None => None,
     }
 }

@@ -1,8 +1,14 @@
 //! The parts of a module outside the bodies of functions (section 3.4).
 
-use crate::context::Context;
+ghost use Rattle.std.specs.Prelude.{◌≤◌, ◌<◌, ◌≢◌, All, AllPairs, IfSome, length, map};
+ghost use Rattle.wa_syntax.specs.ValidModule.{IsValidOutside, IsConstant, IsElem, IsExport, IsImport, IsMemory, IsSegment, IsStart, IsTable, imported, imported_global};
+ghost use Rattle.wa_valid.specs.Names.{names};
+ghost use Rattle.wa_valid.specs.Rules.{Says};
+
+use crate::context::{Context, imported_globals};
 use crate::fault::{Fault, Rule, require};
 use crate::types::{external_type, function_type, memory_type, table_type};
+use indexmap::IndexSet;
 use std::alloc::Global;
 use wa_syntax::{
     Elem, Export, ExportKind, Func, FuncTy, GlobalDef, GlobalTy, Import, Init, Limits, Module,
@@ -10,23 +16,28 @@ use wa_syntax::{
 };
 
 /// All rules of a module outside the bodies (3.4.10).
-pub fn outside_bodies(alloc: Global, context: &Context, m: &Module) -> Rule {
-    require(context.tables <= 1 && context.memories <= 1)?;
+pub fn outside_bodies(alloc: Global, context: &Context, m: &Module) -> Rule
+    ensures { Says (IsValidOutside m.now (names context.now)) result }
+{
+    require(context.tables <= 1)?;
+    require(context.memories <= 1)?;
     function_types(m.types.as_slice())?;
-    functions(context, m.funcs.as_slice())?;
+    functions(m.types.as_slice(), m.funcs.as_slice())?;
     tables(m.tables.as_slice())?;
     memories(m.memories.as_slice())?;
-    globals(context, m.globals.as_slice())?;
+    globals(alloc, m)?;
     element_segments(context, m.elems.as_slice())?;
     data_segments(context, m.segments.as_slice())?;
     start(context, m.start)?;
     exports(context, m.exports.as_slice())?;
     export_names(alloc, m.exports.as_slice())?;
-    imports(m.imports.as_slice(), m.types.len())
+    imports(context, m.imports.as_slice())
 }
 
 /// The types of functions (3.2.3).
-fn function_types(types: &[FuncTy]) -> Rule {
+fn function_types(types: &[FuncTy]) -> Rule
+    ensures { Says (All (λ ty. length ty.results ≤ 1) types.now) result }
+{
     for ty in types {
         function_type(ty)?;
     }
@@ -34,15 +45,26 @@ fn function_types(types: &[FuncTy]) -> Rule {
 }
 
 /// Functions without their bodies (3.4.1): the type of each exists.
-fn functions(context: &Context, funcs: &[Func]) -> Rule {
+fn functions(types: &[FuncTy], funcs: &[Func]) -> Rule
+    ensures { Says (All (λ func. func.ty < length types.now) funcs.now) result }
+{
     for func in funcs {
-        context.type_at(func.ty)?;
+        type_exists(types, func.ty)?;
     }
     Ok(())
 }
 
+/// There is a type with this number.
+fn type_exists(types: &[FuncTy], ty: u32) -> Rule
+    ensures { Says (ty < length types.now) result }
+{
+    require((ty as usize) < types.len())
+}
+
 /// Tables (3.4.2).
-fn tables(tables: &[Limits]) -> Rule {
+fn tables(tables: &[Limits]) -> Rule
+    ensures { Says (All IsTable tables.now) result }
+{
     for table in tables {
         table_type(*table)?;
     }
@@ -50,7 +72,9 @@ fn tables(tables: &[Limits]) -> Rule {
 }
 
 /// Memories (3.4.3).
-fn memories(memories: &[Limits]) -> Rule {
+fn memories(memories: &[Limits]) -> Rule
+    ensures { Says (All IsMemory memories.now) result }
+{
     for memory in memories {
         memory_type(*memory)?;
     }
@@ -58,67 +82,114 @@ fn memories(memories: &[Limits]) -> Rule {
 }
 
 /// Globals (3.4.4): the initial value of each has its type, and reads imported globals alone.
-fn globals(context: &Context, globals: &[GlobalDef]) -> Rule {
-    let known = context.globals.as_slice();
-    let imported = context.imported_globals.min(known.len());
+fn globals(alloc: Global, m: &Module) -> Rule
+    ensures { Says (All (λ global. IsConstant (imported imported_global m.now) global.ty.val global.init) m.now.globals) result }
+{
+    let known = imported_globals(alloc, m.imports.as_slice())?;
+    initial_values(known.as_slice(), m.globals.as_slice())
+}
+
+/// The initial values of globals, which may read the constant ones of the known globals.
+fn initial_values(known: &[GlobalTy], globals: &[GlobalDef]) -> Rule
+    ensures { Says (All (λ global. IsConstant known.now global.ty.val global.init) globals.now) result }
+{
     for global in globals {
-        constant_expression(&known[..imported], global.init, global.ty.val)?;
+        constant_expression(known, global.init, global.ty.val)?;
     }
     Ok(())
 }
 
 /// A constant expression of a type (3.3.7), which may read the constant ones of these globals.
-fn constant_expression(globals: &[GlobalTy], init: Init, ty: ValTy) -> Rule {
+fn constant_expression(globals: &[GlobalTy], init: Init, ty: ValTy) -> Rule
+    ensures { Says (IsConstant globals.now ty init) result }
+{
     match init {
         Init::Const32(_) => require(ty == ValTy::I32),
         Init::Const64(_) => require(ty == ValTy::I64),
-        Init::Global(global) => {
-            let global = globals.get(global as usize).ok_or(Fault::Invalid)?;
-            require(!global.mutable && global.val == ty)
-        }
+        Init::Global(global) => match globals.get(global as usize) {
+            Some(global) => require(!global.mutable && global.val == ty),
+            None => Err(Fault::Invalid),
+        },
     }
 }
 
-/// Element segments (3.4.5): the table and the functions exist, and the offset is an i32.
-fn element_segments(context: &Context, elems: &[Elem]) -> Rule {
+/// Element segments (3.4.5).
+fn element_segments(context: &Context, elems: &[Elem]) -> Rule
+    ensures { Says (All (IsElem (names context.now)) elems.now) result }
+{
     for elem in elems {
-        require((elem.table as usize) < context.tables)?;
-        constant_expression(context.globals.as_slice(), elem.offset, ValTy::I32)?;
-        functions_exist(context, elem.funcs.as_slice())?;
+        element_segment(context, elem)?;
     }
     Ok(())
+}
+
+/// An element segment (3.4.5): the table and the functions exist, and the offset is an i32.
+fn element_segment(context: &Context, elem: &Elem) -> Rule
+    ensures { Says (IsElem (names context.now) elem.now) result }
+{
+    require((elem.table as usize) < context.tables)?;
+    constant_expression(context.globals.as_slice(), elem.offset, ValTy::I32)?;
+    functions_exist(context, elem.funcs.as_slice())
 }
 
 /// The functions of an element segment exist.
-fn functions_exist(context: &Context, funcs: &[u32]) -> Rule {
+fn functions_exist(context: &Context, funcs: &[u32]) -> Rule
+    ensures { Says (All (λ func. func < length context.now.funcs) funcs.now) result }
+{
     for func in funcs {
-        require((*func as usize) < context.funcs.len())?;
+        function_exists(context, *func)?;
     }
     Ok(())
 }
 
-/// Data segments (3.4.6): the memory exists, and the offset is an i32.
-fn data_segments(context: &Context, segments: &[Segment]) -> Rule {
+/// There is a function with this number.
+fn function_exists(context: &Context, func: u32) -> Rule
+    ensures { Says (func < length context.now.funcs) result }
+{
+    require((func as usize) < context.funcs.len())
+}
+
+/// Data segments (3.4.6).
+fn data_segments(context: &Context, segments: &[Segment]) -> Rule
+    ensures { Says (All (IsSegment (names context.now)) segments.now) result }
+{
     for segment in segments {
-        require((segment.memory as usize) < context.memories)?;
-        constant_expression(context.globals.as_slice(), segment.offset, ValTy::I32)?;
+        data_segment(context, segment)?;
     }
     Ok(())
+}
+
+/// A data segment (3.4.6): the memory exists, and the offset is an i32.
+fn data_segment(context: &Context, segment: &Segment) -> Rule
+    ensures { Says (IsSegment (names context.now) segment.now) result }
+{
+    require((segment.memory as usize) < context.memories)?;
+    constant_expression(context.globals.as_slice(), segment.offset, ValTy::I32)
 }
 
 /// The start function (3.4.7): it exists, and has no argument and no result.
-fn start(context: &Context, start: Option<u32>) -> Rule {
+fn start(context: &Context, start: Option<u32>) -> Rule
+    ensures { Says (IfSome start (IsStart (names context.now))) result }
+{
     match start {
-        Some(func) => {
-            let ty = context.func_type(func)?;
-            require(ty.params.is_empty() && ty.results.is_empty())
-        }
+        Some(func) => start_function(context, func),
         None => Ok(()),
     }
 }
 
+/// The function with this number exists, and has no argument and no result.
+fn start_function(context: &Context, func: u32) -> Rule
+    ensures { Says (IsStart (names context.now) func) result }
+{
+    let number = context.func_type_number(func)?;
+    let ty = context.type_at(number)?;
+    require(ty.params.is_empty() && ty.results.is_empty())
+}
+
 /// Exports (3.4.8): what each names exists.
-fn exports(context: &Context, exports: &[Export]) -> Rule {
+fn exports(context: &Context, exports: &[Export]) -> Rule
+    ensures { Says (All (λ export. IsExport (names context.now) export.kind) exports.now) result }
+{
     for export in exports {
         export_kind(context, export.kind)?;
     }
@@ -126,7 +197,9 @@ fn exports(context: &Context, exports: &[Export]) -> Rule {
 }
 
 /// What is exported exists (3.4.8).
-fn export_kind(context: &Context, kind: ExportKind) -> Rule {
+fn export_kind(context: &Context, kind: ExportKind) -> Rule
+    ensures { Says (IsExport (names context.now) kind) result }
+{
     match kind {
         ExportKind::Func(func) => require((func as usize) < context.funcs.len()),
         ExportKind::Table(table) => require((table as usize) < context.tables),
@@ -135,23 +208,24 @@ fn export_kind(context: &Context, kind: ExportKind) -> Rule {
     }
 }
 
-/// The names of exports differ (3.4.10). They are sorted, so that equal ones are neighbours.
-fn export_names(alloc: Global, exports: &[Export]) -> Rule {
-    let mut names: Vec<&[u8]> = Vec::new(alloc);
+/// The names of exports differ (3.4.10).
+fn export_names(alloc: Global, exports: &[Export]) -> Rule
+    ensures { Says (AllPairs ◌≢◌ (map (λ export. export.name) exports.now)) result }
+{
+    let mut names: IndexSet<&[u8]> = IndexSet::new(alloc);
     for export in exports {
-        names.push(export.name.as_slice())?;
-    }
-    names.sort()?;
-    for pair in names.as_slice().windows(2) {
-        require(pair.first() != pair.last())?;
+        let added = names.insert(export.name.as_slice())?;
+        require(added)?;
     }
     Ok(())
 }
 
 /// Imports (3.4.9): the type of each is valid.
-fn imports(imports: &[Import], types: usize) -> Rule {
+fn imports(context: &Context, imports: &[Import]) -> Rule
+    ensures { Says (All (λ import. IsImport (names context.now) import.kind) imports.now) result }
+{
     for import in imports {
-        external_type(import.kind, types)?;
+        external_type(context, import.kind)?;
     }
     Ok(())
 }

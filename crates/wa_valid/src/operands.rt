@@ -1,104 +1,105 @@
 //! The types of the operands that an instruction finds, by the validation algorithm of the standard (appendix A.3).
 
+ghost use Rattle.std.specs.Prelude.{◌≡◌, [], ◌∷◌, ◌++◌, Decides, OnOk, IfErr, IfSome, IsNone, option_to_list};
+ghost use Rattle.wa_syntax.specs.Instructions.{Drop as DropInstruction, Select};
+ghost use Rattle.wa_syntax.specs.Validity.{Context, Gives, Takes, IsTyped};
+ghost use Rattle.wa_valid.specs.Operands.{stack, no_operands, any_operands, with_operand, IsOf, IsBoth, AreApart, Fits, Answers, TakesOff};
+ghost use Rattle.wa_valid.specs.Rules.{Says};
+
 use crate::fault::{Fault, Rule, require};
-use std::alloc::{AllocError, Global};
+use std::alloc::Global;
 use wa_syntax::ValTy;
 
 /// What is known of an operand's type.
-#[derive(Clone, Copy, PartialEq, Eq)]
+#[derive(Clone, Copy)]
 pub enum Operand {
     Known(ValTy),
     /// Any type fits, since the place can't be reached.
     Unknown,
 }
 
-/// The operands at a place in a body, the latest last.
+/// Whether the operand may have this type.
+fn is_of(operand: Operand, ty: ValTy) -> bool
+    ensures { Decides result (IsOf operand ty) }
+{
+    match operand {
+        Operand::Known(known) => ty == known,
+        Operand::Unknown => true,
+    }
+}
+
+/// The operand that may have just the types that both may have, if there are any.
+fn both(one: Operand, other: Operand) -> Option<Operand>
+    ensures some { IfSome result (IsBoth one other) }
+    ensures none { IsNone result → AreApart one other }
+{
+    match one {
+        Operand::Known(ty) => { if is_of(other, ty) { Some(one) } else { None } }
+        Operand::Unknown => Some(other),
+    }
+}
+
+/// The operands of a block at a place in it, the latest last. Contracts see them as a `Stack`.
 #[derive(Drop)]
 pub struct Operands {
     types: Vec<Operand>,
-    block: Block,
-}
-
-/// What a block finds.
-#[derive(Clone, Copy)]
-pub struct Block {
-    /// How many operands belong to the blocks around it.
-    outer: usize,
-    /// Whether the place in it can't be reached. Then operands of any types lie below its own ones.
+    /// Whether the place can't be reached. Then operands of any types lie below these.
     unreachable: bool,
 }
 
 impl Operands {
-    /// No operands. Takes no memory.
-    pub fn new(alloc: Global) -> Operands {
+    /// What a block finds: nothing. Takes no memory.
+    pub fn new(alloc: Global) -> Operands
+        ensures { stack result ≡ no_operands }
+    {
         Operands {
             types: Vec::new(alloc),
-            block: Block {
-                outer: 0,
-                unreachable: false,
-            },
-        }
-    }
-
-    /// Forgets all operands and blocks.
-    pub fn clear(&mut self) {
-        self.types.clear();
-        self.block = Block {
-            outer: 0,
             unreachable: false,
-        };
-    }
-
-    /// Whether the block has no operands of its own.
-    fn is_empty(&self) -> bool {
-        self.types.len() <= self.block.outer
+        }
     }
 
     /// Adds an operand.
-    pub fn push(&mut self, ty: ValTy) -> Result<(), AllocError> {
-        self.types.push(Operand::Known(ty))?;
-        Ok(())
-    }
-
-    /// Adds the results of a function or a block.
-    pub fn push_all(&mut self, types: &[ValTy]) -> Result<(), AllocError> {
-        for ty in types {
-            self.push(*ty)?;
-        }
+    fn add(&mut self, operand: Operand) -> Rule
+        ensures ok { OnOk result (stack self.new ≡ with_operand operand (stack self.old)) }
+        ensures err { IfErr result (λ fault. fault ≡ Fault.NoMemory) }
+    {
+        self.types.push(operand)?;
         Ok(())
     }
 
     /// Takes the last operand off, whatever its type.
-    pub fn pop_any(&mut self) -> Result<Operand, Fault> {
-        if self.is_empty() {
-            require(self.block.unreachable)?;
+    fn take(&mut self) -> Result<Operand, Fault>
+        ensures { TakesOff (stack self.old) (stack self.new) result }
+    {
+        if let Some(operand) = self.types.pop() {
+            return Ok(operand);
+        }
+        if self.unreachable {
             return Ok(Operand::Unknown);
         }
-        self.types.pop().ok_or(Fault::Invalid)
+        Err(Fault::Invalid)
+    }
+
+    /// Adds an operand of a type.
+    fn push(&mut self, ty: ValTy) -> Rule
+        ensures answers { Answers (Gives [] (ty ∷ [])) (stack self.old) (stack self.new) result }
+        ensures err { IfErr result (λ fault. fault ≡ Fault.NoMemory) }
+    {
+        self.add(Operand::Known(ty))
     }
 
     /// Takes the last operand off, which has to be of a type.
-    pub fn pop(&mut self, ty: ValTy) -> Rule {
-        match self.pop_any()? {
-            Operand::Known(found) => require(found == ty),
-            Operand::Unknown => Ok(()),
-        }
-    }
-
-    /// Takes operands of these types off, the last one first. Where the place can't be reached and no operand is left,
-    /// the others are not gone through, so that a call takes no longer than its operands took.
-    pub fn pop_all(&mut self, types: &[ValTy]) -> Rule {
-        for ty in types.iter().rev() {
-            if self.block.unreachable && self.is_empty() {
-                return Ok(());
-            }
-            self.pop(*ty)?;
-        }
-        Ok(())
+    fn pop(&mut self, ty: ValTy) -> Rule
+        ensures { Answers (Gives (ty ∷ []) []) (stack self.old) (stack self.new) result }
+    {
+        let operand = self.take()?;
+        require(is_of(operand, ty))
     }
 
     /// Adds what a block or a label gives, if anything.
-    pub fn push_result(&mut self, ty: Option<ValTy>) -> Result<(), AllocError> {
+    pub fn push_result(&mut self, ty: Option<ValTy>) -> Rule
+        ensures { Answers (Gives [] (option_to_list ty)) (stack self.old) (stack self.new) result }
+    {
         match ty {
             Some(ty) => self.push(ty),
             None => Ok(()),
@@ -106,50 +107,103 @@ impl Operands {
     }
 
     /// Takes off what a block or a label wants, if anything.
-    pub fn pop_result(&mut self, ty: Option<ValTy>) -> Rule {
+    pub fn pop_result(&mut self, ty: Option<ValTy>) -> Rule
+        ensures { Answers (Gives (option_to_list ty) []) (stack self.old) (stack self.new) result }
+    {
         match ty {
             Some(ty) => self.pop(ty),
             None => Ok(()),
         }
     }
 
-    /// The operands of `select` (3.3.2): two of one type below an i32, of which one stays.
-    pub fn select(&mut self) -> Rule {
-        self.pop(ValTy::I32)?;
-        match self.pop_any()? {
-            Operand::Known(ty) => {
-                self.pop(ty)?;
-                self.types.push(Operand::Known(ty))?;
-            }
-            Operand::Unknown => {
-                let kept = self.pop_any()?;
-                self.types.push(kept)?;
-            }
+    /// Adds the results of a function.
+    pub fn push_all(&mut self, types: &[ValTy]) -> Rule
+        ensures { Answers (Gives [] types.now) (stack self.old) (stack self.new) result }
+    {
+        for ty in types {
+            self.push(*ty)?;
         }
         Ok(())
     }
 
-    /// The place after an instruction that control doesn't pass.
-    pub fn set_unreachable(&mut self) {
-        self.types.truncate(self.block.outer);
-        self.block.unreachable = true;
-    }
-
-    /// Begins a block, which finds no operands. Gives the block around it, for `leave`.
-    pub fn enter(&mut self) -> Block {
-        let around = self.block;
-        self.block = Block {
-            outer: self.types.len(),
-            unreachable: false,
-        };
-        around
-    }
-
-    /// Ends a block that has to give a result of this type, if any, and no more, and goes on in the block around it.
-    pub fn leave(&mut self, around: Block, ty: Option<ValTy>) -> Rule {
-        self.pop_result(ty)?;
-        require(self.is_empty())?;
-        self.block = around;
+    /// Takes operands of these types off, the last one first. Where the place can't be reached and no operand is left,
+    /// the others are not gone through, so that a call takes no longer than its operands took.
+    pub fn pop_all(&mut self, types: &[ValTy]) -> Rule
+        ensures { Answers (Gives types.now []) (stack self.old) (stack self.new) result }
+    {
+        let mut rest = types;
+        while let Some((last, front)) = rest.split_last() {
+            if self.is_any() {
+                return Ok(());
+            }
+            self.pop(*last)?;
+            rest = front;
+        }
         Ok(())
+    }
+
+    /// Whether no operand is known here.
+    fn is_empty(&self) -> bool
+        ensures { Decides result ((stack self.now).own ≡ []) }
+    {
+        self.types.is_empty()
+    }
+
+    /// Whether operands of any types may stand here.
+    fn is_any(&self) -> bool
+        ensures { Decides result (stack self.now ≡ any_operands) }
+    {
+        self.unreachable && self.types.is_empty()
+    }
+
+    /// Takes at most two operands off, the second one on top, and adds at most one.
+    pub fn apply(
+        &mut self,
+        first: Option<ValTy>,
+        second: Option<ValTy>,
+        given: Option<ValTy>,
+    ) -> Rule
+        ensures { Answers (Gives (option_to_list first ++ option_to_list second) (option_to_list given)) (stack self.old) (stack self.new) result }
+    {
+        self.pop_result(second)?;
+        self.pop_result(first)?;
+        self.push_result(given)
+    }
+
+    /// `drop` (3.3.2): [t] → [].
+    pub fn drop_one(&mut self) -> Rule
+        ensures { (c : Context) → Answers (IsTyped c DropInstruction) (stack self.old) (stack self.new) result }
+    {
+        self.take()?;
+        Ok(())
+    }
+
+    /// The operands of `select` (3.3.2): two of one type below an i32, of which one stays.
+    pub fn select(&mut self) -> Rule
+        ensures { (c : Context) → Answers (IsTyped c Select) (stack self.old) (stack self.new) result }
+    {
+        self.pop(ValTy::I32)?;
+        let one = self.take()?;
+        let other = self.take()?;
+        match both(one, other) {
+            Some(kept) => self.add(kept),
+            None => Err(Fault::Invalid),
+        }
+    }
+
+    /// The place after an instruction that control doesn't pass.
+    pub fn set_unreachable(&mut self)
+        ensures { stack self.new ≡ any_operands }
+    {
+        self.types.clear();
+        self.unreachable = true;
+    }
+
+    /// Ends a block that has to give a result of this type, if any, and no more.
+    pub fn finish(&mut self, ty: Option<ValTy>) -> Rule
+        ensures { Says (Fits (stack self.old) (option_to_list ty)) result }
+    {
+        self.pop_result(ty)?;
+        require(self.is_empty())
     }
 }

@@ -1,5 +1,11 @@
 //! Which types are valid (section 3.2).
 
+ghost use Rattle.std.specs.Prelude.{◌≤◌, length};
+ghost use Rattle.wa_syntax.specs.ValidModule.{AreLimits, IsTable, IsMemory, IsImport};
+ghost use Rattle.wa_valid.specs.Names.{names};
+ghost use Rattle.wa_valid.specs.Rules.{Says};
+
+use crate::context::Context;
 use crate::fault::{Rule, require};
 use wa_syntax::{FuncTy, ImportKind, Limits};
 
@@ -7,33 +13,42 @@ use wa_syntax::{FuncTy, ImportKind, Limits};
 const MAX_PAGES: u32 = 65_536;
 
 /// Limits within a range (3.2.1): the least is in the range, and so is the greatest, which isn't below the least.
-fn limits(limits: Limits, range: u32) -> Rule {
-    require(limits.min <= range)?;
+fn limits(limits: Limits, range: u32) -> Rule
+    ensures { Says (AreLimits range limits) result }
+{
     match limits.max {
-        Some(max) => require(limits.min <= max && max <= range),
-        None => Ok(()),
+        Some(max) => require(limits.min <= range && limits.min <= max && max <= range),
+        None => require(limits.min <= range),
     }
 }
 
 /// The type of a function (3.2.3): it has at most one result.
-pub fn function_type(ty: &FuncTy) -> Rule {
+pub fn function_type(ty: &FuncTy) -> Rule
+    ensures { Says (length ty.now.results ≤ 1) result }
+{
     require(ty.results.len() <= 1)
 }
 
 /// The type of a table (3.2.4): its limits are in the range of `u32`.
-pub fn table_type(ty: Limits) -> Rule {
+pub fn table_type(ty: Limits) -> Rule
+    ensures { Says (IsTable ty) result }
+{
     limits(ty, u32::MAX)
 }
 
 /// The type of a memory (3.2.5): it has at most 65,536 pages.
-pub fn memory_type(ty: Limits) -> Rule {
+pub fn memory_type(ty: Limits) -> Rule
+    ensures { Says (IsMemory ty) result }
+{
     limits(ty, MAX_PAGES)
 }
 
-/// What an import asks for (3.2.7), where there are so many types of functions. Every type of a global is valid (3.2.6).
-pub fn external_type(kind: ImportKind, types: usize) -> Rule {
+/// What an import asks for (3.2.7). Every type of a global is valid (3.2.6).
+pub fn external_type(context: &Context, kind: ImportKind) -> Rule
+    ensures { Says (IsImport (names context.now) kind) result }
+{
     match kind {
-        ImportKind::Func(ty) => require((ty as usize) < types),
+        ImportKind::Func(ty) => require((ty as usize) < context.types.len()),
         ImportKind::Table(ty) => table_type(ty),
         ImportKind::Memory(ty) => memory_type(ty),
         ImportKind::Global(_) => Ok(()),
