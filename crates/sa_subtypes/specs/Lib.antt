@@ -1,0 +1,2 @@
+pub mod Subtypes
+pub mod Words

@@ -62,7 +62,7 @@ pub(crate) fn edges_of(
     alloc: Global,
     work: &mut Work,
     classes: &[Class],
-    names: &mut Names,
+    names: &Names,
     pairs: &mut Pairs,
 ) -> Result<Declared, NoMemory> {
     let mut declared = Declared {
@@ -78,15 +78,16 @@ pub(crate) fn edges_of(
         let Some(own) = names.class_at(class.name.name.as_slice(), place) else {
             continue;
         };
-        let mut header = Header {
+        let header = Header {
             alloc,
             class: own,
+            name: &class.name.name,
             arity: word(class.params.len())?,
             params: param_places(alloc, class.params.as_slice())?,
             names,
         };
-        declared.add_below(work, &mut header, class.below.as_slice(), pairs)?;
-        declared.add_above(work, &mut header, class.above.as_slice(), pairs)?;
+        declared.add_below(work, &header, class.below.as_slice(), pairs)?;
+        declared.add_above(work, &header, class.above.as_slice(), pairs)?;
     }
     Ok(declared)
 }
@@ -96,7 +97,7 @@ impl Declared {
     fn add_below(
         &mut self,
         work: &mut Work,
-        header: &mut Header<'_>,
+        header: &Header<'_>,
         types: &[Ty],
         pairs: &mut Pairs,
     ) -> Result<(), NoMemory> {
@@ -118,7 +119,7 @@ impl Declared {
     fn add_above(
         &mut self,
         work: &mut Work,
-        header: &mut Header<'_>,
+        header: &Header<'_>,
         types: &[Ty],
         pairs: &mut Pairs,
     ) -> Result<(), NoMemory> {
@@ -141,7 +142,7 @@ impl Declared {
         nodes: Vec<Node>,
         pairs: &mut Pairs,
     ) -> Result<(), NoMemory> {
-        let pair = pairs.add(header.alloc, work, nodes, header.arity as usize)?;
+        let pair = pairs.add(header.alloc, work, nodes, header.arity as usize, upper)?;
         self.lower.push(lower)?;
         self.upper.push(upper)?;
         self.pairs.push(pair)?;
@@ -168,7 +169,7 @@ fn is_param(name: &Name, header: &Header<'_>) -> bool {
 }
 
 /// Spells the list of the arguments of a type after `>`.
-fn spell_lower(header: &mut Header<'_>, ty: &Ty, out: &mut Vec<Node>) -> Result<(), NoMemory> {
+fn spell_lower(header: &Header<'_>, ty: &Ty, out: &mut Vec<Node>) -> Result<(), NoMemory> {
     match ty {
         Ty::Named(_, args, _) => {
             out.push(Node::List(word(args.len())?))?;

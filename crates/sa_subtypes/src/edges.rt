@@ -38,11 +38,11 @@ impl Edges {
     /// parameters many times over or where thousands of classes in a chain change the arguments.
     pub fn make(alloc: Global, flat: &Flat) -> Result<Edges, FrontFault> {
         let classes = flat.classes.as_slice();
-        let mut names = Names::make(alloc, classes)?;
+        let names = Names::make(alloc, classes)?;
         check_supertypes(classes, &names)?;
         let mut work = Work::new();
         let mut pairs = Pairs::new(alloc);
-        let declared = edges_of(alloc, &mut work, classes, &mut names, &mut pairs)?;
+        let declared = edges_of(alloc, &mut work, classes, &names, &mut pairs)?;
         let by_lower = Grouped::new(alloc, names.classes(), &declared.lower)?;
         let order = order_of(alloc, classes, &names, &declared)?;
         let rank = rank_of(alloc, &order)?;
@@ -234,7 +234,6 @@ impl Edges {
             return false;
         };
         let question = Question {
-            names: &self.names,
             nodes: self.pairs.nodes(pair),
             shape,
             lower,

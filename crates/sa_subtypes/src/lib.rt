@@ -5,6 +5,7 @@
 mod compose;
 mod declared;
 mod edges;
+mod equations;
 mod lineage;
 mod names;
 mod pair;

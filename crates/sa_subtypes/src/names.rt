@@ -15,8 +15,7 @@ pub(crate) struct Row {
     pub arity: usize,
 }
 
-/// The names that stand in the headers of a program's classes, numbered: the classes first, in text order, and then the
-/// names that are no class.
+/// The names of a program's classes, numbered in text order.
 #[derive(Drop)]
 pub(crate) struct Names {
     names: IndexSet<Vec<u8>>,
@@ -76,26 +75,6 @@ impl Names {
             Some(number)
         } else {
             None
-        }
-    }
-
-    /// The number of a name, which gets one where it has none.
-    pub(crate) fn number(&mut self, alloc: Global, name: &[u8]) -> Result<u32, NoMemory> {
-        if let Some(number) = self.names.get_index_of(name) {
-            return word(number);
-        }
-        let (number, _) = self
-            .names
-            .insert_full(Vec::from_slice(alloc, name)?)
-            .map_err(|_| NoMemory)?;
-        word(number)
-    }
-
-    /// Whether this is the name with this number.
-    pub(crate) fn is_named(&self, number: u32, name: &[u8]) -> bool {
-        match self.names.get_index(number as usize) {
-            Some(own) => own.as_slice() == name,
-            None => false,
         }
     }
 

@@ -1,6 +1,7 @@
 //! A type of a class and a type above it, both with variables.
 
-use crate::pattern::{Node, behind};
+use crate::equations::word_end;
+use crate::pattern::Node;
 use crate::work::Work;
 use indexmap::IndexSet;
 use sa_graph::{entry, put, word};
@@ -47,20 +48,22 @@ impl Pairs {
         self.shapes.len()
     }
 
-    /// The number of the pair that is spelled by these nodes, whose variables are numbered in any way below `variables`.
+    /// The number of the pair that is spelled by these nodes, whose variables are numbered in any way below `variables`, and
+    /// whose upper type is of the class `head`.
     pub(crate) fn add(
         &mut self,
         alloc: Global,
         work: &mut Work,
         mut nodes: Vec<Node>,
         variables: usize,
+        head: u32,
     ) -> Result<u32, NoMemory> {
         work.nodes(nodes.len())?;
         let variables = renumber(alloc, &mut nodes, variables)?;
         if let Some(number) = self.spelled.get_index_of(nodes.as_slice()) {
             return word(number);
         }
-        let shape = shape_of(&nodes, variables)?;
+        let shape = shape_of(&nodes, variables, head)?;
         self.shapes.push(shape)?;
         let (number, _) = self.spelled.insert_full(nodes).map_err(|_| NoMemory)?;
         word(number)
@@ -98,13 +101,13 @@ fn renumber(alloc: Global, nodes: &mut [Node], variables: usize) -> Result<usize
     Ok(count as usize)
 }
 
-fn shape_of(nodes: &[Node], variables: usize) -> Result<Shape, NoMemory> {
-    let below = entry(nodes, 0)?.holds();
-    let upper = behind(nodes, 0);
-    let Node::Class(head, above) = entry(nodes, upper)? else {
+fn shape_of(nodes: &[Node], variables: usize, head: u32) -> Result<Shape, NoMemory> {
+    let below = nodes.first().ok_or(NoMemory)?.holds();
+    let upper = word_end(nodes, 0).ok_or(NoMemory)?;
+    let Some(Node::Class(_, above)) = nodes.get(upper) else {
         return Err(NoMemory);
     };
-    let above = above as usize;
+    let above = *above as usize;
     let plain = counts_up(nodes, 1, below);
     let kept = plain && above == below && counts_up(nodes, upper.saturating_add(1), below);
     Ok(Shape {

@@ -1,19 +1,22 @@
 //! Types with variables, spelled as a list of nodes: a node comes before those that it holds.
 
+ghost use Rattle.std.specs.Prelude.{◌≡◌, IfOk};
+ghost use Rattle.sa_subtypes.specs.Words.{held};
+
 use crate::names::Names;
 use sa_graph::word;
-use sa_tree::{Mode, ModeTy, NoMemory, Param, Ty};
+use sa_tree::{Mode, ModeTy, Name, NoMemory, Param, Ty};
 use sqlite_items::Boxed;
 use std::alloc::Global;
 use std::collections::HashMap;
 
 /// A node of a type.
-#[derive(Clone, Copy, PartialEq, Eq, Hash)]
+#[derive(Drop, PartialEq, Eq, Hash)]
 pub(crate) enum Node {
     /// A variable by its number. It stands for any type, and for the same one wherever it comes.
     Variable(u32),
-    /// A class by its number, with the number of its arguments, which follow.
-    Class(u32, u32),
+    /// A class by its name, with the number of its arguments, which follow.
+    Class(Name, u32),
     /// A bound routine, with the number of nodes that it holds: for each argument its mode and its type, and the type
     /// of the result, if it has one.
     Routine(u32),
@@ -26,27 +29,32 @@ pub(crate) enum Node {
 
 impl Node {
     /// How many nodes it holds at its own level.
-    pub(crate) fn holds(self) -> usize {
+    pub(crate) fn holds(&self) -> usize
+        ensures { result ≡ held self.now }
+    {
         match self {
-            Node::Variable(_) | Node::Passed(_) => 0,
-            Node::Class(_, count) | Node::Routine(count) | Node::Iter(count) | Node::List(count) =>
-                { count as usize }
+            Node::Variable(_) => 0,
+            Node::Class(_, count) => *count as usize,
+            Node::Routine(count) => *count as usize,
+            Node::Iter(count) => *count as usize,
+            Node::Passed(_) => 0,
+            Node::List(count) => *count as usize,
         }
     }
-}
 
-/// The place behind the node at a place and all that it holds.
-pub(crate) fn behind(nodes: &[Node], at: usize) -> usize {
-    let mut missing = 1usize;
-    let mut end = at;
-    for node in nodes.get(at..).unwrap_or(&[]) {
-        if missing == 0 {
-            break;
-        }
-        missing = missing.saturating_add(node.holds()).saturating_sub(1);
-        end = end.saturating_add(1);
+    /// The same node once more. It fails only where memory runs out.
+    pub(crate) fn copy(&self, alloc: Global) -> Result<Node, NoMemory>
+        ensures { IfOk result (λ node. node ≡ self.now) }
+    {
+        Ok(match self {
+            Node::Variable(number) => Node::Variable(*number),
+            Node::Class(name, count) => Node::Class(name.copy(alloc)?, *count),
+            Node::Routine(count) => Node::Routine(*count),
+            Node::Iter(count) => Node::Iter(*count),
+            Node::Passed(mode) => Node::Passed(*mode),
+            Node::List(count) => Node::List(*count),
+        })
     }
-    end
 }
 
 /// The header of a class in which types are spelled as nodes.
@@ -55,11 +63,12 @@ pub(crate) struct Header<'a> {
     pub alloc: Global,
     /// The class's own number.
     pub class: u32,
+    pub name: &'a Name,
     /// How many parameters it has.
     pub arity: u32,
     /// The parameters by their names.
     pub params: HashMap<Vec<u8>, u32>,
-    pub names: &'a mut Names,
+    pub names: &'a Names,
 }
 
 /// The places of parameters by their names. Of two with one name the first counts.
@@ -88,13 +97,13 @@ impl Header<'_> {
 
     /// Spells the class with its parameters.
     pub(crate) fn spell_own(&self, out: &mut Vec<Node>) -> Result<(), NoMemory> {
-        out.push(Node::Class(self.class, self.arity))?;
+        out.push(Node::Class(self.name.copy(self.alloc)?, self.arity))?;
         self.spell_params(out)
     }
 
     /// Spells a type. A parameter is a variable, and SAME is the class with its parameters.
     #[cycle(spell)]
-    pub(crate) fn spell(&mut self, out: &mut Vec<Node>, ty: &Ty) -> Result<(), NoMemory> {
+    pub(crate) fn spell(&self, out: &mut Vec<Node>, ty: &Ty) -> Result<(), NoMemory> {
         match ty {
             Ty::Same(_) => self.spell_own(out),
             Ty::Named(name, args, _) => {
@@ -104,8 +113,7 @@ impl Header<'_> {
                         return Ok(());
                     }
                 }
-                let number = self.names.number(self.alloc, name.as_slice())?;
-                out.push(Node::Class(number, word(args.len())?))?;
+                out.push(Node::Class(name.copy(self.alloc)?, word(args.len())?))?;
                 self.spell_types(out, args.as_slice())
             }
             Ty::Rout(args, result, _) => {
@@ -123,11 +131,7 @@ impl Header<'_> {
 
     /// Spells types one after the other.
     #[cycle(spell)]
-    pub(crate) fn spell_types(
-        &mut self,
-        out: &mut Vec<Node>,
-        types: &[Ty],
-    ) -> Result<(), NoMemory> {
+    pub(crate) fn spell_types(&self, out: &mut Vec<Node>, types: &[Ty]) -> Result<(), NoMemory> {
         for ty in types {
             self.spell(out, ty)?;
         }
@@ -135,7 +139,7 @@ impl Header<'_> {
     }
 
     #[cycle(spell)]
-    fn spell_args(&mut self, out: &mut Vec<Node>, args: &[ModeTy]) -> Result<(), NoMemory> {
+    fn spell_args(&self, out: &mut Vec<Node>, args: &[ModeTy]) -> Result<(), NoMemory> {
         for arg in args {
             out.push(Node::Passed(arg.mode))?;
             self.spell(out, &arg.ty)?;
@@ -144,11 +148,7 @@ impl Header<'_> {
     }
 
     #[cycle(spell)]
-    fn spell_result(
-        &mut self,
-        out: &mut Vec<Node>,
-        of: &Option<Boxed<Ty>>,
-    ) -> Result<(), NoMemory> {
+    fn spell_result(&self, out: &mut Vec<Node>, of: &Option<Boxed<Ty>>) -> Result<(), NoMemory> {
         match of {
             None => Ok(()),
             Some(ty) => self.spell(out, ty.get()),

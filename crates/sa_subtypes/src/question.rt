@@ -1,6 +1,5 @@
 //! Whether two types are an instance of a pair.
 
-use crate::names::Names;
 use crate::pair::Shape;
 use crate::pattern::{Node, held};
 use sa_tree::{ModeTy, Ty};
@@ -9,7 +8,6 @@ use sqlite_items::Boxed;
 /// A pair, with the arguments of two types that may be an instance of it.
 #[derive(Clone, Copy)]
 pub(crate) struct Question<'a> {
-    pub names: &'a Names,
     pub nodes: &'a [Node],
     pub shape: Shape,
     pub lower: &'a [Ty],
@@ -63,8 +61,8 @@ impl<'a> Question<'a> {
         let next = Place { at, ..place };
         match (self.nodes.get(place.at)?, ty) {
             (Node::Variable(number), _) => self.variable_fits(next, *number, ty),
-            (Node::Class(number, count), Ty::Named(name, args, _)) => {
-                if *count as usize != args.len() || !self.names.is_named(*number, name.as_slice()) {
+            (Node::Class(own, count), Ty::Named(name, args, _)) => {
+                if *count as usize != args.len() || *own != *name {
                     return None;
                 }
                 self.types_fit(next, args.as_slice())
