@@ -1,0 +1,15 @@
+//! The laws, each as what a function of an empty body ensures.
+
+ghost use Rattle.wa_sound.specs.Law.{NeverStuck, StaysTyped};
+
+use wa_syntax::Module;
+
+/// No run of a valid module that is linked gets stuck.
+pub fn never_stuck(program: &Module)
+    ensures { NeverStuck program.now }
+{}
+
+/// Each state that such a run reaches is well typed.
+pub fn stays_typed(program: &Module)
+    ensures { StaysTyped program.now }
+{}

@@ -1,0 +1,7 @@
+//! Type soundness of the integer WebAssembly machine: a module that validates never gets stuck. No code runs this; it is a law of
+//! the definitions of `wa_syntax`.
+#![tactic(auto)]
+
+mod law;
+
+pub use law::{never_stuck, stays_typed};
