@@ -1,12 +1,14 @@
 //! Instantiation (section 4.5.4 of the WebAssembly Core Specification 1.0): the globals, the table and the memory as a module
 //! begins with them.
 
-ghost use Rattle.std.specs.Prelude.{◌≡◌, IfOk, length, vec_len};
+ghost use Rattle.std.specs.Prelude.{◌≡◌, ◌+◌, ◌^◌, ◌<◌, ◌≤◌, All, IfOk, IfErr, OnOk, Err, [], length, map, slice_get, vec_len};
+ghost use Rattle.wa_code.specs.declared.instance.InstanceFault.{InstanceFault};
+ghost use Rattle.wa_syntax.specs.Runs.{SegmentsFit, first_globals, init_value, least, memory_size, table_size};
 
 use crate::table::Table;
 use std::alloc::{AllocError, AllocFailed, Global};
 use thiserror::Error;
-use wa_syntax::{Elem, GlobalDef, Init, Limits, Module, Segment};
+use wa_syntax::{Elem, GlobalDef, Init, Limits, Module, NoMemory, Segment};
 use wa_valid::Valid;
 
 /// Bytes in a page of the linear memory.
@@ -36,13 +38,25 @@ pub enum InstanceFault {
 }
 
 impl From<AllocError> for InstanceFault {
+    ghost from_gives = { λ _ e. e ≡ InstanceFault.NoMemory };
+
     fn from(_: AllocError) -> InstanceFault {
         InstanceFault::NoMemory
     }
 }
 
 impl<T: Drop> From<AllocFailed<T>> for InstanceFault {
+    ghost from_gives = { λ _ e. e ≡ InstanceFault.NoMemory };
+
     fn from(_: AllocFailed<T>) -> InstanceFault {
+        InstanceFault::NoMemory
+    }
+}
+
+impl From<NoMemory> for InstanceFault {
+    ghost from_gives = { λ _ e. e ≡ InstanceFault.NoMemory };
+
+    fn from(_: NoMemory) -> InstanceFault {
         InstanceFault::NoMemory
     }
 }
@@ -54,7 +68,9 @@ impl Instance {
     ///
     /// `Segment` where a segment goes past the end of the table or the memory, and `NoMemory`.
     pub fn new(alloc: Global, v: &Valid) -> Result<Instance, InstanceFault>
-        ensures { IfOk result (λ instance. vec_len instance.globals ≡ length v.now.globals) }
+        ensures globals { IfOk result (λ instance. instance.globals.items ≡ first_globals v.now) }
+        ensures fit { IfOk result (λ instance. SegmentsFit v.now) }
+        ensures segment { result ≡ Err InstanceFault.Segment → ¬ SegmentsFit v.now }
     {
         let module = v.module();
         let globals = globals(alloc, module.globals.as_slice())?;
@@ -69,29 +85,36 @@ impl Instance {
     }
 }
 
-/// The value of an initial expression, as the bits of its type.
-fn value(init: Init, globals: &[u64]) -> u64 {
+/// The value of a constant expression, as the bits of its type.
+fn value(init: Init, globals: &[u64]) -> u64
+    ensures { result ≡ init_value globals.now init }
+{
     match init {
         Init::Const32(bits) => u64::from(bits),
         Init::Const64(bits) => bits,
-        Init::Global(at) => globals.get(at as usize).copied().unwrap_or(0),
+        Init::Global(at) => match globals.get(at as usize) {
+            Some(value) => *value,
+            None => 0,
+        },
     }
 }
 
-/// The globals with their initial values.
+/// The globals with their initial values, none of which reads another one: only imported globals may be read there.
 fn globals(alloc: Global, defs: &[GlobalDef]) -> Result<Vec<u64>, AllocError>
-    ensures { IfOk result (λ globals. vec_len globals ≡ length defs.now) }
+    ensures { IfOk result (λ globals. globals.items ≡ map (λ global. init_value [] global.init) defs.now) }
 {
     let mut globals = Vec::new(alloc);
     for def in defs {
-        let word = value(def.init, globals.as_slice());
-        globals.push(word)?;
+        globals.push(value(def.init, &[]))?;
     }
     Ok(globals)
 }
 
 /// The least number of elements or pages, and 0 where there is no table or memory.
-fn least(limits: &[Limits]) -> usize {
+fn least(limits: &[Limits]) -> usize
+    ensures least { result ≡ least (slice_get limits.now 0) }
+    ensures below { result < 2 ^ 32 }
+{
     match limits.first() {
         Some(limits) => limits.min as usize,
         None => 0,
@@ -107,21 +130,41 @@ fn most_pages(module: &Module) -> usize {
     }
 }
 
-/// Where the entries of a segment begin in a row, if they lie in it. An offset is an i32 without its sign.
-fn room(offset: u64, count: usize, len: usize) -> Option<usize> {
-    let from = (offset % (1 << 32)) as usize;
-    let end = from.checked_add(count)?;
-    if end <= len { Some(from) } else { None }
+/// Where a segment of so many entries begins in a row of this length.
+///
+/// # Errors
+///
+/// `Segment` where it goes past the end.
+fn room(offset: u64, count: usize, len: usize) -> Result<usize, InstanceFault>
+    ensures ok { IfOk result (λ from. (from ≡ offset) × (offset + count ≤ len)) }
+    ensures err { IfErr result (λ fault. (fault ≡ InstanceFault.Segment) × ¬ (offset + count ≤ len)) }
+{
+    match (offset as usize).checked_add(count) {
+        Some(end) if end <= len => Ok(offset as usize),
+        _ => Err(InstanceFault::Segment),
+    }
 }
 
 /// Puts the functions of a segment into the table.
-fn fill_table(table: &mut Table, elem: &Elem, globals: &[u64]) -> Result<(), InstanceFault> {
+fn fill_table(table: &mut Table, elem: &Elem, globals: &[u64]) -> Result<(), InstanceFault>
+    ensures size { table.new.size ≡ table.old.size }
+    ensures fits { OnOk result (init_value globals.now elem.now.offset + length elem.now.funcs ≤ table.old.size) }
+    ensures segment { result ≡ Err InstanceFault.Segment → ¬ (init_value globals.now elem.now.offset + length elem.now.funcs ≤ table.old.size) }
+{
     let funcs = elem.funcs.as_slice();
-    let from = room(value(elem.offset, globals), funcs.len(), table.size()).ok_or(
-        InstanceFault::Segment,
-    )?;
+    let from = room(value(elem.offset, globals), funcs.len(), table.size())?;
+    put_all(table, from, funcs)?;
+    Ok(())
+}
+
+/// Puts functions into the table, from a place on. A place that no `u32` numbers is taken as want of memory.
+fn put_all(table: &mut Table, from: usize, funcs: &[u32]) -> Result<(), NoMemory>
+    ensures size { table.new.size ≡ table.old.size }
+{
     for (i, func) in funcs.iter().enumerate() {
-        let at = u32::try_from(from.wrapping_add(i)).map_err(|_| InstanceFault::Segment)?;
+        let Ok(at) = u32::try_from(from.wrapping_add(i)) else {
+            return Err(NoMemory);
+        };
         table.put(at, *func)?;
     }
     Ok(())
@@ -137,9 +180,12 @@ fn filled(elems: &[Elem]) -> usize {
 }
 
 /// The table with the functions of its segments.
-fn table(alloc: Global, module: &Module, globals: &[u64]) -> Result<Table, InstanceFault> {
-    let elems = module.elems.as_slice();
-    let mut table = Table::new(alloc, least(module.tables.as_slice()), filled(elems))?;
+fn table(alloc: Global, m: &Module, globals: &[u64]) -> Result<Table, InstanceFault>
+    ensures fit { OnOk result (All (λ elem. init_value globals.now elem.offset + length elem.funcs ≤ table_size m.now) m.now.elems) }
+    ensures segment { result ≡ Err InstanceFault.Segment → ¬ All (λ elem. init_value globals.now elem.offset + length elem.funcs ≤ table_size m.now) m.now.elems }
+{
+    let elems = m.elems.as_slice();
+    let mut table = Table::new(alloc, least(m.tables.as_slice()), filled(elems))?;
     for elem in elems {
         fill_table(&mut table, elem, globals)?;
     }
@@ -147,25 +193,24 @@ fn table(alloc: Global, module: &Module, globals: &[u64]) -> Result<Table, Insta
 }
 
 /// Puts the bytes of a segment into the memory.
-fn fill_memory(bytes: &mut [u8], segment: &Segment, globals: &[u64]) -> Result<(), InstanceFault> {
+fn fill_memory(bytes: &mut [u8], segment: &Segment, globals: &[u64]) -> Result<(), InstanceFault>
+    ensures fits { OnOk result (init_value globals.now segment.now.offset + length segment.now.bytes ≤ length bytes.old) }
+    ensures segment { result ≡ Err InstanceFault.Segment → ¬ (init_value globals.now segment.now.offset + length segment.now.bytes ≤ length bytes.old) }
+{
     let given = segment.bytes.as_slice();
-    let from = room(value(segment.offset, globals), given.len(), bytes.len()).ok_or(
-        InstanceFault::Segment,
-    )?;
-    for (i, byte) in given.iter().enumerate() {
-        let at = from.wrapping_add(i);
-        if at < bytes.len() {
-            bytes[at] = *byte;
-        }
-    }
+    let from = room(value(segment.offset, globals), given.len(), bytes.len())?;
+    bytes[from..from + given.len()].copy_from_slice(given);
     Ok(())
 }
 
 /// The memory with the bytes of its segments.
-fn memory(alloc: Global, module: &Module, globals: &[u64]) -> Result<Vec<u8>, InstanceFault> {
+fn memory(alloc: Global, m: &Module, globals: &[u64]) -> Result<Vec<u8>, InstanceFault>
+    ensures fit { OnOk result (All (λ segment. init_value globals.now segment.offset + length segment.bytes ≤ memory_size m.now) m.now.segments) }
+    ensures segment { result ≡ Err InstanceFault.Segment → ¬ All (λ segment. init_value globals.now segment.offset + length segment.bytes ≤ memory_size m.now) m.now.segments }
+{
     let mut bytes = Vec::new(alloc);
-    bytes.resize(least(module.memories.as_slice()).saturating_mul(PAGE), 0)?;
-    for segment in module.segments.as_slice() {
+    bytes.resize(least(m.memories.as_slice()) * PAGE, 0)?;
+    for segment in m.segments.as_slice() {
         fill_memory(bytes.as_mut_slice(), segment, globals)?;
     }
     Ok(bytes)

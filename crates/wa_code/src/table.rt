@@ -1,5 +1,7 @@
 //! The table of functions. Its size is free of cost: places that no segment fills take no memory past the first ones.
 
+ghost use Rattle.std.specs.Prelude.{◌≡◌, IfOk};
+
 use indexmap::IndexMap;
 use std::alloc::{AllocError, AllocFailed, Global};
 
@@ -18,7 +20,9 @@ pub struct Table {
 
 impl Table {
     /// A table of so many places without a function, for segments that fill so many of them.
-    pub(crate) fn new(alloc: Global, size: usize, filled: usize) -> Result<Table, AllocError> {
+    pub(crate) fn new(alloc: Global, size: usize, filled: usize) -> Result<Table, AllocError>
+        ensures { IfOk result (λ table. table.size ≡ size) }
+    {
         let mut listed = Vec::new(alloc);
         listed.resize(size.min(filled.saturating_add(LISTED)), None)?;
         Ok(Table {
@@ -29,12 +33,16 @@ impl Table {
     }
 
     /// How many places there are.
-    pub(crate) fn size(&self) -> usize {
+    pub(crate) fn size(&self) -> usize
+        ensures { result ≡ self.now.size }
+    {
         self.size
     }
 
     /// Puts a function at a place.
-    pub(crate) fn put(&mut self, at: u32, func: u32) -> Result<(), AllocFailed<(u32, u32)>> {
+    pub(crate) fn put(&mut self, at: u32, func: u32) -> Result<(), AllocFailed<(u32, u32)>>
+        ensures { self.new.size ≡ self.old.size }
+    {
         let place = at as usize;
         if place < self.listed.len() {
             self.listed.as_mut_slice()[place] = Some(func);

@@ -1,3 +1,4 @@
+pub mod Links
 pub mod Progress
 pub mod Stretch
 pub mod Tells

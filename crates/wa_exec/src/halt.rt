@@ -1,5 +1,9 @@
 //! How a run halts, and why a module can't be started.
 
+ghost use Rattle.std.specs.Prelude.{◌≡◌};
+ghost use Rattle.wa_exec.specs.declared.halt.StartFault.{StartFault};
+ghost use Rattle.wa_exec.specs.Links.{not_instantiated};
+
 use std::alloc::{AllocError, AllocFailed};
 use thiserror::Error;
 use wa_code::InstanceFault;
@@ -42,6 +46,8 @@ pub enum StartFault {
 }
 
 impl From<InstanceFault> for StartFault {
+    ghost from_gives = { λ fault f. f ≡ not_instantiated fault };
+
     fn from(fault: InstanceFault) -> StartFault {
         match fault {
             InstanceFault::Segment => StartFault::Segment,
@@ -51,18 +57,24 @@ impl From<InstanceFault> for StartFault {
 }
 
 impl From<NoMemory> for StartFault {
+    ghost from_gives = { λ _ f. f ≡ StartFault.NoMemory };
+
     fn from(_: NoMemory) -> StartFault {
         StartFault::NoMemory
     }
 }
 
 impl From<AllocError> for StartFault {
+    ghost from_gives = { λ _ f. f ≡ StartFault.NoMemory };
+
     fn from(_: AllocError) -> StartFault {
         StartFault::NoMemory
     }
 }
 
 impl<T: Drop> From<AllocFailed<T>> for StartFault {
+    ghost from_gives = { λ _ f. f ≡ StartFault.NoMemory };
+
     fn from(_: AllocFailed<T>) -> StartFault {
         StartFault::NoMemory
     }

@@ -1,6 +1,12 @@
 //! What a module is linked to (section 4.5.4 of the WebAssembly Core Specification 1.0): the functions of the host, and its
 //! `main`.
 
+ghost use Rattle.std.specs.Prelude.{◌≡◌, ◌≤◌, ◌++◌, ◌||◌, [], ◌∷◌, if◌then◌else◌, bytes_eq, codes, slice_get, IfOk, IfErr, IfSome, IsNone, Some, None, length, map, option_map};
+ghost use Rattle.wa_exec.specs.Links.{Names, function_of, host_called};
+ghost use Rattle.wa_syntax.specs.declared.module.ValTy.TheVariants.{I32};
+ghost use Rattle.wa_syntax.specs.Hosts.{from_to, host_named, host_of, is_type, type_of};
+ghost use Rattle.wa_syntax.specs.Runs.{is_main, main_of, or_main, unlinked};
+
 use crate::halt::StartFault;
 use std::alloc::Global;
 use wa_code::{Body, Code};
@@ -30,7 +36,9 @@ pub(crate) struct Linked {
 
 impl Linked {
     /// The code of a module whose imports are these functions of the host.
-    pub(crate) fn new(code: Code, mut callees: Vec<Callee>) -> Result<Linked, NoMemory> {
+    pub(crate) fn new(code: Code, mut callees: Vec<Callee>) -> Result<Linked, NoMemory>
+        ensures { IfOk result (λ linked. linked.callees.items ≡ callees.items ++ map Callee.Own code.bodies.items) }
+    {
         for body in code.bodies.as_slice() {
             callees.push(Callee::Own(*body))?;
         }
@@ -49,69 +57,127 @@ impl Linked {
     }
 }
 
-/// The number of an import, or of all.
-fn unlinked(at: usize) -> StartFault {
-    StartFault::Unlinked(u32::try_from(at).unwrap_or(u32::MAX))
+/// The fault of the import of this number, or of a missing `main` where the number is that of all imports. A number that no
+/// `u32` holds is taken as want of memory.
+fn unlinked(at: usize) -> StartFault
+    ensures { Names (Some at) result }
+{
+    if at <= u32::MAX as usize {
+        StartFault::Unlinked(at as u32)
+    } else {
+        StartFault::NoMemory
+    }
 }
 
-/// The function of the host that an import asks for, if it is one with its type.
-fn host_call(module: &Module, import: &Import) -> Option<HostCall> {
-    let ImportKind::Func(at) = import.kind else {
-        return None;
-    };
-    if import.module.as_slice() != b"env".as_slice() {
-        return None;
-    }
-    let ty = module.types.get(at as usize)?;
-    named(import.name.as_slice(), ty)
+/// Whether a function has these arguments and these results.
+fn is_type(ty: &FuncTy, params: &[ValTy], results: &[ValTy]) -> bool
+    ensures { result ≡ is_type (from_to params.now results.now) (Some ty.now) }
+{
+    ty.params.as_slice() == params && ty.results.as_slice() == results
 }
 
 /// The function of the host with this name and this type.
-fn named(name: &[u8], ty: &FuncTy) -> Option<HostCall> {
-    match (ty.params.as_slice(), ty.results.as_slice()) {
-        ([ValTy::I32], []) if name == b"put".as_slice() => Some(HostCall::Put),
-        ([], [ValTy::I32]) if name == b"get".as_slice() => Some(HostCall::Get),
-        ([ValTy::I32, ValTy::I32], []) if name == b"stop".as_slice() => Some(HostCall::Stop),
-        _ => None,
+fn named(name: &[u8], ty: &FuncTy) -> Option<HostCall>
+    ensures { option_map function_of result ≡ host_named name.now (Some ty.now) }
+{
+    if name == b"put".as_slice() && is_type(ty, &[ValTy::I32], &[]) {
+        return Some(HostCall::Put);
+    }
+    if name == b"get".as_slice() && is_type(ty, &[], &[ValTy::I32]) {
+        return Some(HostCall::Get);
+    }
+    if name == b"stop".as_slice() && is_type(ty, &[ValTy::I32, ValTy::I32], &[]) {
+        return Some(HostCall::Stop);
+    }
+    None
+}
+
+/// The function of the host that an import asks for, if it is one with its type.
+fn host_call(m: &Module, import: &Import) -> Option<HostCall>
+    ensures { option_map function_of result ≡ host_of m.now import.now }
+{
+    match import.kind {
+        ImportKind::Func(at) => host_function(m, import, at),
+        ImportKind::Table(_) => None,
+        ImportKind::Memory(_) => None,
+        ImportKind::Global(_) => None,
     }
 }
 
-/// The functions of the host that the imports ask for.
+/// The function of the host that an import of a function of this type asks for.
+fn host_function(m: &Module, import: &Import, ty: u32) -> Option<HostCall>
+    ensures { option_map function_of result ≡ (if bytes_eq import.now.module (codes "env") then host_named import.now.name (slice_get m.now.types ty) else None) }
+{
+    if import.module.as_slice() != b"env".as_slice() {
+        return None;
+    }
+    match m.types.get(ty as usize) {
+        Some(ty) => named(import.name.as_slice(), ty),
+        None => None,
+    }
+}
+
+/// The functions of the host that the imports ask for, in order.
 ///
 /// # Errors
 ///
 /// `Unlinked` with the number of the first import that is none of them, and `NoMemory`.
-pub(crate) fn imported(alloc: Global, module: &Module) -> Result<Vec<Callee>, StartFault> {
+pub(crate) fn imported(alloc: Global, m: &Module) -> Result<Vec<Callee>, StartFault>
+    ensures callees { IfOk result (λ callees. map host_called callees.items ≡ map (host_of m.now) m.now.imports) }
+    ensures linked { IfOk result (λ callees. unlinked m.now ≡ or_main m.now None) }
+    ensures unlinked { IfErr result (Names (unlinked m.now)) }
+{
     let mut callees = Vec::new(alloc);
-    for (at, import) in module.imports.as_slice().iter().enumerate() {
-        let call = host_call(module, import).ok_or(unlinked(at))?;
+    for (at, import) in m.imports.as_slice().iter().enumerate() {
+        let Some(call) = host_call(m, import) else {
+            return Err(unlinked(at));
+        };
         callees.push(Callee::Host(call))?;
     }
     Ok(callees)
 }
 
-/// The number of the type of a function of the module's own, by the function's number.
-fn own_type(module: &Module, func: u32) -> Option<&FuncTy> {
-    let at = (func as usize).checked_sub(module.imports.len())?;
-    let own = module.funcs.get(at)?;
-    module.types.get(own.ty as usize)
+/// The type of a function of the module's own, by the function's number.
+fn own_type(m: &Module, func: u32) -> Option<&FuncTy>
+    ensures own { IfSome result (λ ty. length m.now.imports ≤ func) }
+    ensures ty { IfSome result (λ ty. type_of m.now func ≡ Some ty.now) }
+    ensures none { IsNone result → length m.now.imports ≤ func → type_of m.now func ≡ None }
+{
+    let at = (func as usize).checked_sub(m.imports.len())?;
+    let own = m.funcs.get(at)?;
+    m.types.get(own.ty as usize)
 }
 
 /// Whether a function has no argument, and no result or one i32.
-fn is_type_of_main(ty: &FuncTy) -> bool {
-    match (ty.params.as_slice(), ty.results.as_slice()) {
-        ([], []) | ([], [ValTy::I32]) => true,
-        _ => false,
+fn is_type_of_main(ty: &FuncTy) -> bool
+    ensures { result ≡ is_type (from_to [] []) (Some ty.now) || is_type (from_to [] (I32 ∷ [])) (Some ty.now) }
+{
+    is_type(ty, &[], &[]) || is_type(ty, &[], &[ValTy::I32])
+}
+
+/// Whether the function of this number can be `main`: it is one of the module's own, without arguments and with no result or
+/// one i32.
+fn is_main(m: &Module, func: u32) -> bool
+    ensures { result ≡ is_main m.now (Some func) }
+{
+    match own_type(m, func) {
+        Some(ty) => is_type_of_main(ty),
+        None => false,
     }
 }
 
 /// The function that is exported as `main`.
-fn exported_main(exports: &[Export]) -> Option<u32> {
+fn exported_main(exports: &[Export]) -> Option<u32>
+    ensures { result ≡ main_of exports.now }
+{
     for export in exports {
-        if export.name.as_slice() == b"main".as_slice()
-            && let ExportKind::Func(func) = export.kind
-        {
-            return Some(func);
+        if export.name.as_slice() == b"main".as_slice() {
+            return match export.kind {
+                ExportKind::Func(func) => Some(func),
+                ExportKind::Table(_) => None,
+                ExportKind::Memory(_) => None,
+                ExportKind::Global(_) => None,
+            };
         }
     }
     None
@@ -119,12 +185,19 @@ fn exported_main(exports: &[Export]) -> Option<u32> {
 
 /// The number of `main`: a function of the module's own that is exported under this name, without arguments and with no
 /// result or one i32.
-pub(crate) fn main_of(module: &Module) -> Result<u32, StartFault> {
-    if let Some(func) = exported_main(module.exports.as_slice())
-        && let Some(ty) = own_type(module, func)
-        && is_type_of_main(ty)
+///
+/// # Errors
+///
+/// `Unlinked` with the number of all imports where there is none, and `NoMemory`.
+pub(crate) fn main_of(m: &Module) -> Result<u32, StartFault>
+    ensures main { IfOk result (λ func. main_of m.now.exports ≡ Some func) }
+    ensures linked { IfOk result (λ func. or_main m.now None ≡ None) }
+    ensures unlinked { IfErr result (Names (or_main m.now None)) }
+{
+    if let Some(func) = exported_main(m.exports.as_slice())
+        && is_main(m, func)
     {
         return Ok(func);
     }
-    Err(unlinked(module.imports.len()))
+    Err(unlinked(m.imports.len()))
 }

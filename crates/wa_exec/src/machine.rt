@@ -1,8 +1,10 @@
 //! A machine that runs a valid module (section 4.5 of the WebAssembly Core Specification 1.0).
 
-ghost use Rattle.std.specs.Prelude.{◌≡◌, ◌≤◌, ◌<◌, max, IfOk};
+ghost use Rattle.std.specs.Prelude.{◌≡◌, ◌≤◌, ◌<◌, max, IfOk, IfErr, OnOk, ◌∷◌, option_to_list};
 ghost use Rattle.wa_exec.specs.Progress.{Stays, halted};
 ghost use Rattle.sa_outside.specs.Output.{Grew};
+ghost use Rattle.wa_exec.specs.Links.{IsUnfit, IsUnstartable};
+ghost use Rattle.wa_syntax.specs.Runs.{IsLinked, SegmentsFit};
 ghost use Rattle.wa_exec.specs.Tells.{Tells, faults_of};
 
 use crate::calls::Calls;
@@ -15,7 +17,7 @@ use sa_outside::{Sink, Source};
 use std::alloc::Global;
 use std::marker::Model;
 use wa_code::{Code, Instance};
-use wa_syntax::Module;
+use wa_syntax::{Module, NoMemory};
 use wa_valid::Valid;
 
 /// A module that is run. Contracts see how many steps it has made and whether it has halted.
@@ -44,7 +46,10 @@ impl<'a> Machine<'a> {
     /// `Unlinked` where an import is none of the functions of the host, or `main` is missing; `Segment` where a segment
     /// doesn't fit; and `NoMemory`.
     pub fn new(alloc: Global, v: &'a Valid) -> Result<Machine<'a>, StartFault>
-        ensures { IfOk result (λ machine. machine ≡ record { steps = 0; halt = None }) }
+        ensures first { IfOk result (λ machine. machine ≡ record { steps = 0; halt = None }) }
+        ensures linked { OnOk result (IsLinked v.now) }
+        ensures fit { OnOk result (SegmentsFit v.now) }
+        ensures refused { IfErr result (IsUnstartable v.now) }
     {
         let module = v.module();
         let callees = imported(alloc, module)?;
@@ -130,17 +135,26 @@ fn kept(halt: Halt) -> Option<Halt>
 }
 
 /// The functions that are to be run: `main`, and above it the start function.
-fn waiting(alloc: Global, module: &Module, main: u32) -> Result<Vec<u32>, StartFault> {
+fn waiting(alloc: Global, m: &Module, main: u32) -> Result<Vec<u32>, NoMemory>
+    ensures { IfOk result (λ waiting. waiting.items ≡ main ∷ option_to_list m.now.start) }
+{
     let mut waiting = Vec::new(alloc);
     waiting.push(main)?;
-    if let Some(start) = module.start {
+    if let Some(start) = m.start {
         waiting.push(start)?;
     }
     Ok(waiting)
 }
 
 /// What a run begins with.
-fn beginning(alloc: Global, v: &Valid, main: u32) -> Result<State, StartFault> {
+///
+/// # Errors
+///
+/// `Segment` where a segment goes past the end of the table or the memory, and `NoMemory`.
+fn beginning(alloc: Global, v: &Valid, main: u32) -> Result<State, StartFault>
+    ensures fit { OnOk result (SegmentsFit v.now) }
+    ensures segment { IfErr result (IsUnfit v.now) }
+{
     let waiting = waiting(alloc, v.module(), main)?;
     let Instance {
         globals,
