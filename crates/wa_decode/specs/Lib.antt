@@ -1,1 +1,4 @@
+pub mod Codes
 pub mod Places
+pub mod Reading
+pub mod Sections

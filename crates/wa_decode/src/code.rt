@@ -1,7 +1,10 @@
 //! The code of functions (section 5.5.13).
 
-ghost use Rattle.std.specs.Prelude.{◌≡◌, ◌<◌, ◌≤◌, length, All, IfOk};
+ghost use Rattle.std.specs.Prelude.{◌<◌, length, IfOk};
+ghost use Rattle.wa_syntax.specs.Binary.{locals, run};
+ghost use Rattle.wa_decode.specs.Codes.{code_of, codes_of, runs_of};
 ghost use Rattle.wa_decode.specs.Places.{EndsIn};
+ghost use Rattle.wa_decode.specs.Reading.{Reads};
 
 use crate::expression::expression;
 use crate::fault::DecodeFault;
@@ -13,12 +16,13 @@ use std::alloc::Global;
 use wa_syntax::{Func, Locals, Run};
 
 /// How many locals a function may declare.
-pub const MAX_LOCALS: u64 = 1_000_000;
+const MAX_LOCALS: u64 = 1_000_000;
 
 /// Locals of one type in a row (5.5.13).
 fn run(alloc: Global, bytes: &[u8], at: u32) -> Decoded<Run>
     requires { length bytes.now < u32.MAX }
-    ensures { IfOk result (λ read. EndsIn bytes.now at read.1) }
+    ensures reads { Reads run bytes.now at result }
+    ensures ends { IfOk result (λ read. EndsIn bytes.now at read.1) }
 {
     let (count, at) = unsigned(bytes, at)?;
     let (ty, end) = ValueType::read(alloc, bytes, at)?;
@@ -28,11 +32,12 @@ fn run(alloc: Global, bytes: &[u8], at: u32) -> Decoded<Run>
 /// The locals of a function, without the parameters: a vector of runs (5.5.13).
 fn runs(alloc: Global, bytes: &[u8], at: u32) -> Decoded<Locals>
     requires { length bytes.now < u32.MAX }
-    ensures { IfOk result (λ read. EndsIn bytes.now at read.1) }
+    ensures reads { Reads runs_of bytes.now at result }
+    ensures ends { IfOk result (λ read. EndsIn bytes.now at read.1) }
 {
     let (count, mut at) = unsigned(bytes, at)?;
     let mut locals = Locals::new(alloc);
-    for _ in 0..count {
+    for _read in 0..count {
         let (run, next) = run(alloc, bytes, at)?;
         locals.push(run.count, run.ty)?;
         at = next;
@@ -43,8 +48,8 @@ fn runs(alloc: Global, bytes: &[u8], at: u32) -> Decoded<Locals>
 /// The locals of a function, which may not be too many.
 fn locals(alloc: Global, bytes: &[u8], at: u32) -> Decoded<Locals>
     requires { length bytes.now < u32.MAX }
+    ensures reads { Reads locals bytes.now at result }
     ensures ends { IfOk result (λ read. EndsIn bytes.now at read.1) }
-    ensures few { IfOk result (λ read. length read.0 ≤ MAX_LOCALS) }
 {
     let (locals, end) = runs(alloc, bytes, at)?;
     if locals.len() <= MAX_LOCALS {
@@ -57,8 +62,8 @@ fn locals(alloc: Global, bytes: &[u8], at: u32) -> Decoded<Locals>
 /// A function whose type has the number `ty`: the size of its code, its locals and its body (5.5.13).
 fn code(alloc: Global, bytes: &[u8], at: u32, ty: u32) -> Decoded<Func>
     requires { length bytes.now < u32.MAX }
+    ensures reads { Reads (code_of ty) bytes.now at result }
     ensures ends { IfOk result (λ read. EndsIn bytes.now at read.1) }
-    ensures locals { IfOk result (λ read. length read.0.locals ≤ MAX_LOCALS) }
 {
     let (content, at) = sized(bytes, at)?;
     let (locals, at) = locals(alloc, content, at)?;
@@ -70,9 +75,8 @@ fn code(alloc: Global, bytes: &[u8], at: u32, ty: u32) -> Decoded<Func>
 /// The functions whose types have these numbers: a vector of as many codes (5.5.13).
 pub fn codes(alloc: Global, bytes: &[u8], at: u32, types: &[u32]) -> Decoded<Items<Func>>
     requires { length bytes.now < u32.MAX }
+    ensures reads { Reads (codes_of types.now) bytes.now at result }
     ensures ends { IfOk result (λ read. EndsIn bytes.now at read.1) }
-    ensures count { IfOk result (λ read. length read.0 ≡ length types.now) }
-    ensures locals { IfOk result (λ read. All (λ func. length func.locals ≤ MAX_LOCALS) read.0) }
 {
     let (count, mut at) = unsigned(bytes, at)?;
     if count as usize != types.len() {

@@ -1,7 +1,10 @@
 //! Expressions (section 5.4.6) and the instructions that hold others (section 5.4.1).
 
-ghost use Rattle.std.specs.Prelude.{◌<◌, length, IfOk, IsTrue};
+ghost use Rattle.std.specs.Prelude.{◌<◌, ◌≤◌, ◌↔◌, length, IfOk, IsTrue};
+ghost use Rattle.wa_syntax.specs.BinaryInstructions.{expr, instr};
+ghost use Rattle.wa_syntax.specs.Formats.{each};
 ghost use Rattle.wa_decode.specs.Places.{EndsIn, ReachesIn};
+ghost use Rattle.wa_decode.specs.Reading.{Reads, ReadsUpTo, Stops, alternative, behind};
 
 use crate::fault::DecodeFault;
 use crate::instruction::simple;
@@ -18,8 +21,10 @@ const MAX_NESTING: u32 = 1000;
 
 /// The instructions of a function, and their end (5.4.6).
 pub fn expression(alloc: Global, bytes: &[u8], at: u32) -> Decoded<Items<Instr>>
-    requires { length bytes.now < u32.MAX }
-    ensures { IfOk result (λ read. EndsIn bytes.now at read.1) }
+    requires size { length bytes.now < u32.MAX }
+    requires place { at ≤ length bytes.now }
+    ensures reads { Reads expr bytes.now at result }
+    ensures ends { IfOk result (λ read. EndsIn bytes.now at read.1) }
 {
     let (body, at) = sequence(alloc, bytes, at, MAX_NESTING)?;
     let end = expect(bytes, at, END)?;
@@ -28,7 +33,8 @@ pub fn expression(alloc: Global, bytes: &[u8], at: u32) -> Decoded<Items<Instr>>
 
 /// Whether a sequence of instructions stops at a place: at an `end` or an `else`.
 fn stops(bytes: &[u8], at: u32) -> bool
-    ensures { IsTrue result → at < length bytes.now }
+    ensures within { IsTrue result → at < length bytes.now }
+    ensures stops { IsTrue result ↔ Stops bytes.now at }
 {
     matches!(bytes.get(at as usize), Some(&(END | ELSE)))
 }
@@ -36,8 +42,10 @@ fn stops(bytes: &[u8], at: u32) -> bool
 /// Instructions up to an `end` or an `else` that is none of theirs. Up to `levels` blocks may be open among them.
 #[cycle(instructions)]
 fn sequence(alloc: Global, bytes: &[u8], at: u32, levels: u32) -> Decoded<Items<Instr>>
-    requires { length bytes.now < u32.MAX }
-    ensures { IfOk result (λ read. ReachesIn bytes.now at read.1) }
+    requires size { length bytes.now < u32.MAX }
+    requires place { at ≤ length bytes.now }
+    ensures reads { ReadsUpTo (instr levels) bytes.now at result }
+    ensures reaches { IfOk result (λ read. ReachesIn bytes.now at read.1) }
 {
     let mut instrs = Items::new(alloc);
     let mut at = at;
@@ -53,7 +61,8 @@ fn sequence(alloc: Global, bytes: &[u8], at: u32, levels: u32) -> Decoded<Items<
 #[cycle(instructions)]
 fn instruction(alloc: Global, bytes: &[u8], at: u32, levels: u32) -> Decoded<Instr>
     requires { length bytes.now < u32.MAX }
-    ensures { IfOk result (λ read. EndsIn bytes.now at read.1) }
+    ensures reads { Reads (instr levels) bytes.now at result }
+    ensures ends { IfOk result (λ read. EndsIn bytes.now at read.1) }
 {
     let (opcode, at) = byte(bytes, at)?;
     match opcode {
@@ -65,8 +74,10 @@ fn instruction(alloc: Global, bytes: &[u8], at: u32, levels: u32) -> Decoded<Ins
 /// What follows the opcode of a `block`, a `loop` or an `if` (5.4.1).
 #[cycle(instructions)]
 fn structured(alloc: Global, opcode: u8, bytes: &[u8], at: u32, levels: u32) -> Decoded<Instr>
-    requires { length bytes.now < u32.MAX }
-    ensures { IfOk result (λ read. EndsIn bytes.now at read.1) }
+    requires size { length bytes.now < u32.MAX }
+    requires opcode { (0x02 ≤ opcode) × (opcode ≤ 0x04) }
+    ensures reads { Reads (behind opcode (instr levels)) bytes.now at result }
+    ensures ends { IfOk result (λ read. EndsIn bytes.now at read.1) }
 {
     if levels == 0 {
         return Err(DecodeFault::Malformed);
@@ -86,8 +97,10 @@ fn structured(alloc: Global, opcode: u8, bytes: &[u8], at: u32, levels: u32) -> 
 /// The second branch of an `if`, which may be left out, and the end (5.4.1).
 #[cycle(instructions)]
 fn alternative(alloc: Global, bytes: &[u8], at: u32, levels: u32) -> Decoded<Items<Instr>>
-    requires { length bytes.now < u32.MAX }
-    ensures { IfOk result (λ read. EndsIn bytes.now at read.1) }
+    requires size { length bytes.now < u32.MAX }
+    requires stops { Stops bytes.now at }
+    ensures reads { Reads (alternative (each (instr levels))) bytes.now at result }
+    ensures ends { IfOk result (λ read. EndsIn bytes.now at read.1) }
 {
     let (mark, at) = byte(bytes, at)?;
     if mark == ELSE {

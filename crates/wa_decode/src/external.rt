@@ -1,7 +1,9 @@
 //! Imports (section 5.5.5) and exports (section 5.5.10).
 
 ghost use Rattle.std.specs.Prelude.{◌<◌, length, IfOk};
+ghost use Rattle.wa_syntax.specs.Binary.{export, exportdesc, import, importdesc};
 ghost use Rattle.wa_decode.specs.Places.{EndsIn};
+ghost use Rattle.wa_decode.specs.Reading.{Reads};
 
 use crate::fault::DecodeFault;
 use crate::production::{Decoded, Production};
@@ -25,6 +27,8 @@ pub struct ImportEntry;
 impl Production for ImportEntry {
     type Value = Import;
 
+    ghost format = { import };
+
     fn read(alloc: Global, bytes: &[u8], at: u32) -> Decoded<Import> {
         let (module, at) = name(alloc, bytes, at)?;
         let (name, at) = name(alloc, bytes, at)?;
@@ -36,7 +40,8 @@ impl Production for ImportEntry {
 /// What is imported (5.5.5).
 fn import_kind(alloc: Global, bytes: &[u8], at: u32) -> Decoded<ImportKind>
     requires { length bytes.now < u32.MAX }
-    ensures { IfOk result (λ read. EndsIn bytes.now at read.1) }
+    ensures ends { IfOk result (λ read. EndsIn bytes.now at read.1) }
+    ensures reads { Reads importdesc bytes.now at result }
 {
     let (kind, at) = byte(bytes, at)?;
     match kind {
@@ -66,6 +71,8 @@ pub struct ExportEntry;
 impl Production for ExportEntry {
     type Value = Export;
 
+    ghost format = { export };
+
     fn read(alloc: Global, bytes: &[u8], at: u32) -> Decoded<Export> {
         let (name, at) = name(alloc, bytes, at)?;
         let (kind, end) = export_kind(bytes, at)?;
@@ -76,7 +83,8 @@ impl Production for ExportEntry {
 /// What is exported (5.5.10).
 fn export_kind(bytes: &[u8], at: u32) -> Decoded<ExportKind>
     requires { length bytes.now < u32.MAX }
-    ensures { IfOk result (λ read. EndsIn bytes.now at read.1) }
+    ensures ends { IfOk result (λ read. EndsIn bytes.now at read.1) }
+    ensures reads { Reads exportdesc bytes.now at result }
 {
     let (kind, at) = byte(bytes, at)?;
     let (index, end) = unsigned(bytes, at)?;

@@ -1,8 +1,9 @@
 //! Instructions that hold no others (sections 5.4.1 to 5.4.5), by what follows their opcode.
 
-ghost use Rattle.std.specs.Prelude.{◌<◌, ◌≤◌, ◌↔◌, length, IfOk, IsTrue};
-ghost use Rattle.wa_syntax.specs.BinaryInstructions.{IsBare, IsAccess};
+ghost use Rattle.std.specs.Prelude.{ℕ, ◌<◌, ◌≤◌, ◌↔◌, ◌⊎◌, length, IfOk, IsTrue};
+ghost use Rattle.wa_syntax.specs.BinaryInstructions.{IsBare, IsAccess, instr};
 ghost use Rattle.wa_decode.specs.Places.{EndsIn, ReachesIn};
+ghost use Rattle.wa_decode.specs.Reading.{Reads, behind};
 
 use crate::fault::DecodeFault;
 use crate::production::{Decoded, vector};
@@ -18,7 +19,9 @@ const RESERVED: u8 = 0;
 pub fn simple(alloc: Global, opcode: u8, bytes: &[u8], at: u32) -> Decoded<Instr>
     requires size { length bytes.now < u32.MAX }
     requires place { at ≤ length bytes.now }
-    ensures { IfOk result (λ read. ReachesIn bytes.now at read.1) }
+    requires opcode { (opcode < 0x02) ⊎ (0x04 < opcode) }
+    ensures reaches { IfOk result (λ read. ReachesIn bytes.now at read.1) }
+    ensures reads { (levels : ℕ) → Reads (behind opcode (instr levels)) bytes.now at result }
 {
     if is_bare(opcode) {
         return Ok((Instr::Plain(opcode), at));
@@ -63,8 +66,10 @@ fn is_access(opcode: u8) -> bool
 
 /// A branch or a call (5.4.1): labels or the number of a function or a type follow.
 fn control(alloc: Global, opcode: u8, bytes: &[u8], at: u32) -> Decoded<Instr>
-    requires { length bytes.now < u32.MAX }
-    ensures { IfOk result (λ read. EndsIn bytes.now at read.1) }
+    requires size { length bytes.now < u32.MAX }
+    requires opcode { (0x0c ≤ opcode) × (opcode ≤ 0x11) × (IsBare opcode → ⊥) }
+    ensures reads { (levels : ℕ) → Reads (behind opcode (instr levels)) bytes.now at result }
+    ensures ends { IfOk result (λ read. EndsIn bytes.now at read.1) }
 {
     if opcode == BR_TABLE {
         return branch_table(alloc, bytes, at);
@@ -85,7 +90,8 @@ fn control(alloc: Global, opcode: u8, bytes: &[u8], at: u32) -> Decoded<Instr>
 /// `br_table` (5.4.1): its labels, and the default one.
 fn branch_table(alloc: Global, bytes: &[u8], at: u32) -> Decoded<Instr>
     requires { length bytes.now < u32.MAX }
-    ensures { IfOk result (λ read. EndsIn bytes.now at read.1) }
+    ensures reads { (levels : ℕ) → Reads (behind 0x0e (instr levels)) bytes.now at result }
+    ensures ends { IfOk result (λ read. EndsIn bytes.now at read.1) }
 {
     let (labels, at) = vector::<Index>(alloc, bytes, at)?;
     let (default, end) = unsigned(bytes, at)?;
@@ -94,8 +100,10 @@ fn branch_table(alloc: Global, bytes: &[u8], at: u32) -> Decoded<Instr>
 
 /// A variable instruction (5.4.3): the number of a local or a global follows.
 fn variable(opcode: u8, bytes: &[u8], at: u32) -> Decoded<Instr>
-    requires { length bytes.now < u32.MAX }
-    ensures { IfOk result (λ read. EndsIn bytes.now at read.1) }
+    requires size { length bytes.now < u32.MAX }
+    requires opcode { (0x20 ≤ opcode) × (opcode ≤ 0x24) }
+    ensures reads { (levels : ℕ) → Reads (behind opcode (instr levels)) bytes.now at result }
+    ensures ends { IfOk result (λ read. EndsIn bytes.now at read.1) }
 {
     let (index, end) = unsigned(bytes, at)?;
     match opcode {
@@ -110,8 +118,10 @@ fn variable(opcode: u8, bytes: &[u8], at: u32) -> Decoded<Instr>
 
 /// A memory instruction (5.4.4): an alignment and an offset follow a load or a store, and a byte that is zero the others.
 fn memory(opcode: u8, bytes: &[u8], at: u32) -> Decoded<Instr>
-    requires { length bytes.now < u32.MAX }
-    ensures { IfOk result (λ read. EndsIn bytes.now at read.1) }
+    requires size { length bytes.now < u32.MAX }
+    requires opcode { (0x28 ≤ opcode) × (opcode ≤ 0x40) }
+    ensures reads { (levels : ℕ) → Reads (behind opcode (instr levels)) bytes.now at result }
+    ensures ends { IfOk result (λ read. EndsIn bytes.now at read.1) }
 {
     if is_access(opcode) {
         let (align, at) = unsigned(bytes, at)?;
@@ -129,8 +139,11 @@ fn memory(opcode: u8, bytes: &[u8], at: u32) -> Decoded<Instr>
 
 /// A constant (5.4.5).
 fn constant(opcode: u8, bytes: &[u8], at: u32) -> Decoded<Instr>
-    requires { length bytes.now < u32.MAX }
-    ensures { IfOk result (λ read. EndsIn bytes.now at read.1) }
+    requires size { length bytes.now < u32.MAX }
+    requires opcode { ((opcode < 0x02) ⊎ (0x04 < opcode)) × ((opcode < 0x0c) ⊎ (0x11 < opcode)) × ((opcode < 0x20) ⊎ (0x24 < opcode))
+        × ((opcode < 0x28) ⊎ (0x40 < opcode)) × (IsBare opcode → ⊥) }
+    ensures reads { (levels : ℕ) → Reads (behind opcode (instr levels)) bytes.now at result }
+    ensures ends { IfOk result (λ read. EndsIn bytes.now at read.1) }
 {
     match opcode {
         I32_CONST => {

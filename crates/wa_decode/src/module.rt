@@ -1,9 +1,12 @@
 //! Modules (section 5.5.15).
 
-ghost use Rattle.std.specs.Prelude.{◌≡◌, ◌<◌, ◌≤◌, length, take, All, IfOk, OnOk};
+ghost use Rattle.std.specs.Prelude.{◌≡◌, ◌<◌, ◌≤◌, length, IfOk, MatchResult};
+ghost use Rattle.wa_syntax.specs.declared.module.Module.{Module};
+ghost use Rattle.wa_syntax.specs.Binary.{SpellsModule};
 ghost use Rattle.wa_decode.specs.Places.{ReachesIn};
+ghost use Rattle.wa_decode.specs.Sections.{IsSections, ReadsTo};
+ghost use Rattle.wa_decode.specs.declared.fault.DecodeFault.TheVariants.{NoMemory};
 
-use crate::code::MAX_LOCALS;
 use crate::external::{ExportEntry, ImportEntry};
 use crate::fault::DecodeFault;
 use crate::production::Decoded;
@@ -23,10 +26,13 @@ const PREAMBLE: [u8; 8] = [0x00, 0x61, 0x73, 0x6d, 0x01, 0x00, 0x00, 0x00];
 /// `Malformed` comes where no module is spelled so. `NoMemory` comes where memory runs out.
 pub fn decode(alloc: Global, bytes: &[u8]) -> Result<Module, DecodeFault>
     requires { length bytes.now < 4294967295 }
-    // The bytes begin as those of a module do.
-    ensures preamble { OnOk result (take 8 bytes.now ≡ PREAMBLE) }
-    // No function has more locals than are allowed.
-    ensures locals { IfOk result (λ m. All (λ func. length func.locals ≤ MAX_LOCALS) m.funcs) }
+    // The bytes spell what is read.
+    ensures found { IfOk result (SpellsModule bytes.now) }
+    // What they spell is read, unless memory runs out: so `Malformed` comes only where they spell no module.
+    ensures complete { (m : Module) → SpellsModule bytes.now m
+        → MatchResult result (λ read. read ≡ m) (λ fault. fault ≡ NoMemory) }
+    // They don't spell two.
+    ensures only { (m n : Module) → SpellsModule bytes.now m → SpellsModule bytes.now n → m ≡ n }
 {
     if !bytes.starts_with(&PREAMBLE) {
         return Err(DecodeFault::Malformed);
@@ -42,7 +48,7 @@ fn sections(alloc: Global, bytes: &[u8], at: u32) -> Decoded<Module>
     requires size { length bytes.now < u32.MAX }
     requires place { at ≤ length bytes.now }
     ensures reaches { IfOk result (λ read. ReachesIn bytes.now at read.1) }
-    ensures locals { IfOk result (λ read. All (λ func. length func.locals ≤ MAX_LOCALS) read.0.funcs) }
+    ensures reads { ReadsTo (IsSections bytes.now at) result }
 {
     let (types, at) = vector_section::<FunctionType>(alloc, bytes, at, 1)?;
     let (imports, at) = vector_section::<ImportEntry>(alloc, bytes, at, 2)?;

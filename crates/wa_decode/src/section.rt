@@ -1,9 +1,14 @@
 //! Sections (section 5.5.2).
 
-ghost use Rattle.std.specs.Prelude.{◌≡◌, ◌<◌, ◌≤◌, length, All, IfOk, IsTrue};
+ghost use Rattle.std.specs.Prelude.{◌≡◌, ℕ, ◌<◌, ◌≤◌, ◌↔◌, length, slice_get, Some, IfOk, IsTrue, MatchResult};
+ghost use Rattle.wa_syntax.specs.Binary.{startsec, vecsec};
+ghost use Rattle.wa_decode.specs.Codes.{codesec};
 ghost use Rattle.wa_decode.specs.Places.{EndsIn, ReachesIn};
+ghost use Rattle.wa_decode.specs.Reading.{Passes};
+ghost use Rattle.wa_decode.specs.Sections.{IsSection, PastCustoms, ReadsTo, meaningless};
+ghost use Rattle.wa_decode.specs.declared.fault.DecodeFault.TheVariants.{NoMemory};
 
-use crate::code::{MAX_LOCALS, codes};
+use crate::code::codes;
 use crate::fault::DecodeFault;
 use crate::production::{Decoded, Production, vector};
 use crate::value::{ends, name_bytes, sized, unsigned};
@@ -20,7 +25,8 @@ const CODE: u8 = 10;
 
 /// Whether a section with this number begins at a place.
 fn begins(bytes: &[u8], at: u32, id: u8) -> bool
-    ensures { IsTrue result → at < length bytes.now }
+    ensures within { IsTrue result → at < length bytes.now }
+    ensures begins { IsTrue result ↔ (slice_get bytes.now at ≡ Some id) }
 {
     matches!(bytes.get(at as usize), Some(byte) if *byte == id)
 }
@@ -29,7 +35,10 @@ fn begins(bytes: &[u8], at: u32, id: u8) -> bool
 pub fn customs(bytes: &[u8], at: u32) -> Result<u32, DecodeFault>
     requires size { length bytes.now < u32.MAX }
     requires place { at ≤ length bytes.now }
-    ensures { IfOk result (ReachesIn bytes.now at) }
+    ensures reaches { IfOk result (ReachesIn bytes.now at) }
+    ensures found { IfOk result (PastCustoms bytes.now at) }
+    ensures complete { (place : ℕ) → PastCustoms bytes.now at place
+        → MatchResult result (λ found. found ≡ place) (λ fault. fault ≡ NoMemory) }
 {
     let mut at = at;
     while begins(bytes, at, CUSTOM) {
@@ -41,7 +50,8 @@ pub fn customs(bytes: &[u8], at: u32) -> Result<u32, DecodeFault>
 /// The place behind a custom section (5.5.3), which has a name and any bytes behind it.
 fn custom(bytes: &[u8], at: u32) -> Result<u32, DecodeFault>
     requires { length bytes.now < u32.MAX }
-    ensures { IfOk result (EndsIn bytes.now at) }
+    ensures ends { IfOk result (EndsIn bytes.now at) }
+    ensures reads { Passes meaningless bytes.now at result }
 {
     let (content, start) = sized(bytes, at)?;
     name_bytes(content, start)?;
@@ -57,7 +67,8 @@ pub fn vector_section<P: Production>(
 ) -> Decoded<Items<P::Value>>
     requires size { length bytes.now < u32.MAX }
     requires place { at ≤ length bytes.now }
-    ensures { IfOk result (λ read. ReachesIn bytes.now at read.1) }
+    ensures reads { ReadsTo (IsSection id (vecsec id P.format) bytes.now at) result }
+    ensures reaches { IfOk result (λ read. ReachesIn bytes.now at read.1) }
 {
     let at = customs(bytes, at)?;
     if !begins(bytes, at, id) {
@@ -73,7 +84,8 @@ pub fn vector_section<P: Production>(
 pub fn start_section(bytes: &[u8], at: u32) -> Decoded<Option<u32>>
     requires size { length bytes.now < u32.MAX }
     requires place { at ≤ length bytes.now }
-    ensures { IfOk result (λ read. ReachesIn bytes.now at read.1) }
+    ensures reads { ReadsTo (IsSection 8 startsec bytes.now at) result }
+    ensures reaches { IfOk result (λ read. ReachesIn bytes.now at read.1) }
 {
     let at = customs(bytes, at)?;
     if !begins(bytes, at, START) {
@@ -90,9 +102,8 @@ pub fn start_section(bytes: &[u8], at: u32) -> Decoded<Option<u32>>
 pub fn code_section(alloc: Global, bytes: &[u8], at: u32, types: &[u32]) -> Decoded<Items<Func>>
     requires size { length bytes.now < u32.MAX }
     requires place { at ≤ length bytes.now }
+    ensures reads { ReadsTo (IsSection 10 (codesec types.now) bytes.now at) result }
     ensures reaches { IfOk result (λ read. ReachesIn bytes.now at read.1) }
-    ensures count { IfOk result (λ read. length read.0 ≡ length types.now) }
-    ensures locals { IfOk result (λ read. All (λ func. length func.locals ≤ MAX_LOCALS) read.0) }
 {
     let at = customs(bytes, at)?;
     if !begins(bytes, at, CODE) {

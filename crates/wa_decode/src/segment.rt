@@ -2,7 +2,10 @@
 //! (5.5.14).
 
 ghost use Rattle.std.specs.Prelude.{◌<◌, length, IfOk};
+ghost use Rattle.wa_syntax.specs.Binary.{elem, global, segment};
+ghost use Rattle.wa_syntax.specs.BinaryInstructions.{init};
 ghost use Rattle.wa_decode.specs.Places.{EndsIn};
+ghost use Rattle.wa_decode.specs.Reading.{Reads, init_value};
 
 use crate::fault::DecodeFault;
 use crate::production::{Decoded, Production, vector};
@@ -16,7 +19,8 @@ use wa_syntax::{Elem, GlobalDef, Init, Segment};
 /// An initial value or an offset: one instruction that gives a constant or reads a global, and an end (5.4.6).
 fn initial_value(bytes: &[u8], at: u32) -> Decoded<Init>
     requires { length bytes.now < u32.MAX }
-    ensures { IfOk result (λ read. EndsIn bytes.now at read.1) }
+    ensures reads { Reads init bytes.now at result }
+    ensures ends { IfOk result (λ read. EndsIn bytes.now at read.1) }
 {
     let (init, at) = constant(bytes, at)?;
     let end = expect(bytes, at, END)?;
@@ -26,7 +30,8 @@ fn initial_value(bytes: &[u8], at: u32) -> Decoded<Init>
 /// An instruction that gives a constant (5.4.5) or reads a global (5.4.3).
 fn constant(bytes: &[u8], at: u32) -> Decoded<Init>
     requires { length bytes.now < u32.MAX }
-    ensures { IfOk result (λ read. EndsIn bytes.now at read.1) }
+    ensures reads { Reads init_value bytes.now at result }
+    ensures ends { IfOk result (λ read. EndsIn bytes.now at read.1) }
 {
     let (opcode, at) = byte(bytes, at)?;
     match opcode {
@@ -52,6 +57,8 @@ pub struct OwnGlobal;
 impl Production for OwnGlobal {
     type Value = GlobalDef;
 
+    ghost format = { global };
+
     fn read(alloc: Global, bytes: &[u8], at: u32) -> Decoded<GlobalDef> {
         let (ty, at) = global_type(alloc, bytes, at)?;
         let (init, end) = initial_value(bytes, at)?;
@@ -64,6 +71,8 @@ pub struct ElementSegment;
 
 impl Production for ElementSegment {
     type Value = Elem;
+
+    ghost format = { elem };
 
     fn read(alloc: Global, bytes: &[u8], at: u32) -> Decoded<Elem> {
         let (table, at) = unsigned(bytes, at)?;
@@ -83,6 +92,8 @@ pub struct DataSegment;
 
 impl Production for DataSegment {
     type Value = Segment;
+
+    ghost format = { segment };
 
     fn read(alloc: Global, bytes: &[u8], at: u32) -> Decoded<Segment> {
         let (memory, at) = unsigned(bytes, at)?;

@@ -2,8 +2,10 @@
 
 ghost use Rattle.std.specs.Prelude.{◌≡◌, ◌<◌, [], ◌∷◌, length, IfOk, IfSome};
 ghost use Rattle.wa_syntax.specs.declared.module.ValTy.{ValTy};
-ghost use Rattle.wa_syntax.specs.BinaryInstructions.{valtype};
+ghost use Rattle.wa_syntax.specs.Binary.{functype, globaltype, limits, memtype, mut, tabletype};
+ghost use Rattle.wa_syntax.specs.BinaryInstructions.{blocktype, valtype};
 ghost use Rattle.wa_decode.specs.Places.{EndsIn};
+ghost use Rattle.wa_decode.specs.Reading.{Reads};
 
 use crate::fault::DecodeFault;
 use crate::production::{Decoded, Production, vector};
@@ -40,6 +42,8 @@ pub struct ValueType;
 impl Production for ValueType {
     type Value = ValTy;
 
+    ghost format = { valtype };
+
     fn read(_alloc: Global, bytes: &[u8], at: u32) -> Decoded<ValTy> {
         let (byte, end) = byte(bytes, at)?;
         match value_type(byte) {
@@ -52,7 +56,8 @@ impl Production for ValueType {
 /// The type of a block's result, if it has one (5.3.2).
 pub fn block_type(bytes: &[u8], at: u32) -> Decoded<Option<ValTy>>
     requires { length bytes.now < u32.MAX }
-    ensures { IfOk result (λ read. EndsIn bytes.now at read.1) }
+    ensures ends { IfOk result (λ read. EndsIn bytes.now at read.1) }
+    ensures reads { Reads blocktype bytes.now at result }
 {
     let (byte, end) = byte(bytes, at)?;
     let ty = value_type(byte);
@@ -69,6 +74,8 @@ pub struct FunctionType;
 impl Production for FunctionType {
     type Value = FuncTy;
 
+    ghost format = { functype };
+
     fn read(alloc: Global, bytes: &[u8], at: u32) -> Decoded<FuncTy> {
         let at = expect(bytes, at, FUNCTION)?;
         let (params, at) = vector::<ValueType>(alloc, bytes, at)?;
@@ -80,7 +87,8 @@ impl Production for FunctionType {
 /// Limits (5.3.4).
 fn limits(bytes: &[u8], at: u32) -> Decoded<Limits>
     requires { length bytes.now < u32.MAX }
-    ensures { IfOk result (λ read. EndsIn bytes.now at read.1) }
+    ensures ends { IfOk result (λ read. EndsIn bytes.now at read.1) }
+    ensures reads { Reads limits bytes.now at result }
 {
     let (bounded, at) = flag(bytes, at)?;
     let (min, at) = unsigned(bytes, at)?;
@@ -95,7 +103,8 @@ fn limits(bytes: &[u8], at: u32) -> Decoded<Limits>
 /// A byte that is 0 or 1: whether limits have a maximum (5.3.4), or a global may be changed (5.3.7).
 fn flag(bytes: &[u8], at: u32) -> Decoded<bool>
     requires { length bytes.now < u32.MAX }
-    ensures { IfOk result (λ read. EndsIn bytes.now at read.1) }
+    ensures ends { IfOk result (λ read. EndsIn bytes.now at read.1) }
+    ensures reads { Reads mut bytes.now at result }
 {
     let (byte, end) = byte(bytes, at)?;
     match byte {
@@ -111,6 +120,8 @@ pub struct MemoryType;
 impl Production for MemoryType {
     type Value = Limits;
 
+    ghost format = { memtype };
+
     fn read(_alloc: Global, bytes: &[u8], at: u32) -> Decoded<Limits> {
         limits(bytes, at)
     }
@@ -122,6 +133,8 @@ pub struct TableType;
 impl Production for TableType {
     type Value = Limits;
 
+    ghost format = { tabletype };
+
     fn read(_alloc: Global, bytes: &[u8], at: u32) -> Decoded<Limits> {
         let at = expect(bytes, at, FUNCTION_REFERENCE)?;
         limits(bytes, at)
@@ -131,7 +144,8 @@ impl Production for TableType {
 /// The type of a global (5.3.7).
 pub fn global_type(alloc: Global, bytes: &[u8], at: u32) -> Decoded<GlobalTy>
     requires { length bytes.now < u32.MAX }
-    ensures { IfOk result (λ read. EndsIn bytes.now at read.1) }
+    ensures ends { IfOk result (λ read. EndsIn bytes.now at read.1) }
+    ensures reads { Reads globaltype bytes.now at result }
 {
     let (val, at) = ValueType::read(alloc, bytes, at)?;
     let (mutable, end) = flag(bytes, at)?;
