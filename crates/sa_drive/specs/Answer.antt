@@ -5,8 +5,10 @@ use Rattle.sa_gen.specs.Generated.{generated}
 use Rattle.sa_outside.specs.Files.{Files, Lacks, Writes, WritesFront}
 use Rattle.sa_outside.specs.Output.{Took}
 use Rattle.sa_read.specs.Read.{HasFile, HasLonger}
+use Rattle.wa_run.specs.declared.answer.Answer.{Answer}
+use Rattle.wa_run.specs.Modules.{SaysOf}
 use Rattle.sa_words.specs.Line.{Build, Check, Exec, Gen, Line, Run, Selftest, line_in}
-use Rattle.sa_drive.specs.Ends.{BuildEnds, PrintEnds, ProgramEnds, RunEnds, SelftestEnds}
+use Rattle.sa_drive.specs.Ends.{BuildEnds, PrintEnds, ProgramEnds, RunEnds, SelftestEnds, cause_of}
 use Rattle.sa_drive.specs.Files.{ComesOfFiles, ComesOfGenerated, IsTakenGenerated, IsTakenProgram}
 use Rattle.sa_drive.specs.Lines.{lines_of, selftest_line}
 use Rattle.sa_drive.specs.Seen.{Failed, Seen}
@@ -26,9 +28,13 @@ IsUnread seen file cause.Malformed = (bytes : List ℕ) × HasLonger seen.files 
 IsUnread seen file cause.NoMemory = ⊤
 IsUnread seen file _ = ⊥
 
--- no module was read from the file, or one was and its run ends so
+-- the cause is that of an answer to these bytes, run with this fuel, and the answer says so of them
+abbrev pub IsAnswered : List ℕ → ℕ → Cause → Type 0
+IsAnswered bytes fuel cause = (answer : Answer) × (cause ≡ cause_of fuel answer) × SaysOf bytes answer
+
+-- no module was read from the file, or bytes were that are run with this answer, and end so
 abbrev pub ComesOfModule : Seen → List ℕ → ℕ → Cause → Type 0
-ComesOfModule seen file fuel cause = IsUnread seen file cause ⊎ ((bytes : List ℕ) × HasFile seen.files file bytes × RunEnds seen fuel cause)
+ComesOfModule seen file fuel cause = IsUnread seen file cause ⊎ ((bytes : List ℕ) × HasFile seen.files file bytes × IsAnswered bytes fuel cause × RunEnds seen fuel cause)
 
 -- the generated program gives no module, or it gives one and the selftest ends so
 abbrev pub ComesOfSelftest : Seen → ℕ → Sources → Cause → Type 0

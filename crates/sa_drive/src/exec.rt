@@ -3,7 +3,7 @@
 ghost use Rattle.std.specs.Prelude.{◌≡◌, ◌<◌, ◌&&◌, None, Option, is_some, length};
 ghost use Rattle.sa_outside.specs.Files.{Files};
 ghost use Rattle.sa_outside.specs.Output.{Grew};
-ghost use Rattle.sa_drive.specs.Answer.{ComesOfModule, has_steps};
+ghost use Rattle.sa_drive.specs.Answer.{ComesOfModule, IsAnswered, has_steps};
 ghost use Rattle.sa_drive.specs.Ends.{ComesBeforeOutput, RunEnds, cause_of};
 ghost use Rattle.sa_drive.specs.Lines.{IsPlaced};
 ghost use Rattle.sa_drive.specs.Seen.{Count, count, seen};
@@ -119,6 +119,7 @@ pub fn run_module<I: Source, O: Sink>(
     out: &mut O,
 ) -> Ended
     requires { length bytes.now < 4294967295 }
+    ensures answered { IsAnswered bytes.now fuel result.cause }
     ensures ends { (files : Option Files) (store : Count) → RunEnds (seen files store (count (I.faults input.old) (I.faults input.new)) (count (O.faults out.old) (O.faults out.new))) fuel result.cause }
     ensures output { Grew (O.output out.old) (O.output out.new) }
     ensures untouched { ComesBeforeOutput result.cause → out.new ≡ out.old }

@@ -1,7 +1,10 @@
 //! A module that is decoded and validated.
 
-ghost use Rattle.std.specs.Prelude.{◌≡◌, ◌<◌, ◌⊎◌, length, IfErr};
+ghost use Rattle.std.specs.Prelude.{◌≡◌, ◌<◌, ◌⊎◌, length, IfOk, IfErr};
+ghost use Rattle.wa_syntax.specs.Binary.{SpellsModule};
+ghost use Rattle.wa_syntax.specs.ValidModule.{IsValid};
 ghost use Rattle.wa_run.specs.Answers.{IsBeforeRun};
+ghost use Rattle.wa_run.specs.Modules.{SaysOf};
 
 use crate::answer::Answer;
 use std::alloc::Global;
@@ -11,7 +14,9 @@ use wa_valid::{Valid, ValidFault, validate};
 /// The valid module that the bytes spell, or the answer where there is none.
 pub(crate) fn load(alloc: Global, bytes: &[u8]) -> Result<Valid, Answer>
     requires size { length bytes.now < 4294967295 }
-    ensures { IfErr result (λ answer. IsBeforeRun answer ⊎ (answer ≡ Answer.NoMemory)) }
+    ensures spelled { IfOk result (λ valid. SpellsModule bytes.now valid × IsValid valid) }
+    ensures says { IfErr result (SaysOf bytes.now) }
+    ensures before { IfErr result (λ answer. IsBeforeRun answer ⊎ (answer ≡ Answer.NoMemory)) }
 {
     let module = match decode(alloc, bytes) {
         Ok(module) => module,

@@ -4,6 +4,7 @@ ghost use Rattle.std.specs.Prelude.{◌≡◌, ◌<◌, ◌≤◌, ◌⊎◌, No
 ghost use Rattle.sa_outside.specs.Faults.{Rose};
 ghost use Rattle.sa_outside.specs.Output.{Grew};
 ghost use Rattle.wa_run.specs.Answers.{IsBeforeRun, IsOutage, IsTold};
+ghost use Rattle.wa_run.specs.Modules.{SaysOf, SaysOfValid};
 
 use crate::answer::{Answer, answer_of_halt, answer_of_start};
 use crate::load::load;
@@ -29,6 +30,8 @@ pub fn run_bytes<I: Source, O: Sink>(
     out: &mut O,
 ) -> Run
     requires size { length bytes.now < 4294967295 }
+    // Malformed, Invalid, Unlinked and Segment come exactly where the standard says.
+    ensures says { SaysOf bytes.now result.answer }
     // A fault is answered only where the source or the sink counted one, and Spent only at the fuel.
     ensures told { IsTold result.answer (Rose (I.faults input.old) (I.faults input.new)) (Rose (O.faults out.old) (O.faults out.new)) }
     ensures spent { result.answer ≡ Answer.Spent → result.steps ≡ fuel }
@@ -53,6 +56,7 @@ fn run_valid<I: Source, O: Sink>(
     input: &mut I,
     out: &mut O,
 ) -> Run
+    ensures says { SaysOfValid valid.now result.answer }
     ensures told { IsTold result.answer (Rose (I.faults input.old) (I.faults input.new)) (Rose (O.faults out.old) (O.faults out.new)) }
     ensures spent { result.answer ≡ Answer.Spent → result.steps ≡ fuel }
     ensures within { result.steps ≤ fuel }

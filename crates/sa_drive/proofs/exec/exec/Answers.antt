@@ -1,6 +1,6 @@
 use Rattle.std.proofs.Common.{sym, subst, inr}
 use Rattle.sa_read.specs.Read.{IsReadOf}
-use Rattle.sa_drive.specs.Answer.{ComesOfModule}
+use Rattle.sa_drive.specs.Answer.{ComesOfModule, IsAnswered}
 use Rattle.sa_drive.specs.Lines.{IsPlaced}
 use Rattle.sa_drive.specs.Seen.{count, seen}
 use Rattle.sa_drive.proofs.EndLemmas.{placed_run}
@@ -10,7 +10,7 @@ pub returns-in-Ok-Whole-clause-comes : goal.returns-in-Ok-Whole-clause-comes
 returns-in-Ok-Whole-clause-comes g c =
     let read = subst (IsReadOf (g.S.Store.files c.args.store.now) c.args.line.now.«module».now 67108864) c.in-Ok-Whole.field-0-is c.in-Ok-Whole.ensures.read in
     subst (ComesOfModule (seen (g.S.Store.files c.args.store.now) (count (g.S.Store.faults c.args.store.now) (g.S.Store.faults c.read_file.new.store)) _ _) c.args.line.now.«module».now c.args.line.now.fuel) (sym c.outcome.ensures.cause)
-    (inr (c.in-Ok-Whole.bytes.items, read.0, c.run_module-ended.ensures.ends (g.S.Store.files c.args.store.now) (count (g.S.Store.faults c.args.store.now) (g.S.Store.faults c.read_file.new.store))))
+    (inr (c.in-Ok-Whole.bytes.items, read.0, subst (λ bytes. IsAnswered bytes c.args.line.now.fuel c.run_module-ended.result.cause) c.as_slice.ensures.value c.run_module-ended.ensures.answered, c.run_module-ended.ensures.ends (g.S.Store.files c.args.store.now) (count (g.S.Store.faults c.args.store.now) (g.S.Store.faults c.read_file.new.store))))
 
 pub returns-in-Ok-Whole-clause-placed : goal.returns-in-Ok-Whole-clause-placed
 returns-in-Ok-Whole-clause-placed g c =
