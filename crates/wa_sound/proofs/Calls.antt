@@ -13,7 +13,7 @@ use Rattle.wa_syntax.specs.declared.trap.TrapKind.{TrapKind}
 use Rattle.wa_syntax.specs.Instructions.{Sequence, sequence}
 use Rattle.wa_syntax.specs.Validity.{AreTyped, IsTypedFunction}
 use Rattle.wa_syntax.specs.ValidModule.{IsValid, context_of}
-use Rattle.wa_syntax.specs.Machine.{Activation, State, Stopped, Trap, TooDeep, Gives, Leaves, Eval, bind, pure, leave}
+use Rattle.wa_syntax.specs.Machine.{Activation, State, Stopped, Trap, TooDeep, Gives, Leaves, Eval, bind, pure, as_i32, leave}
 use Rattle.wa_syntax.specs.Operations.{depth, activate}
 use Rattle.wa_syntax.specs.Hosts.{HostFunction, Put, Get, Stop, host_of, is_type, type_of, put, take_input, call_host}
 use Rattle.wa_syntax.specs.Runs.{IsLinked}
@@ -44,7 +44,7 @@ module _ (w : Bool) (m : Module) (p : Place) (below : List ValTy) where
   host-safe : (h : HostFunction) → IsSafe w m p (reverse (host_type h).params ++ below) (reverse (host_type h).results ++ below) (call_host h)
   host-safe Put = Leads-then Leads-pop (λ n. put-safe n)
   host-safe Get = record { holds = λ s h. (took s.input.bytes s.input.ends).holds s h }
-  host-safe Stop = Leads-then (Leads-pop {t = I32} {types = I32 ∷ below}) (λ site. Leads-then (Leads-pop {t = I32} {types = below}) (λ code. Leads-leave (λ u. IsState m) (Stopped code site) tt))
+  host-safe Stop = Leads-then (Leads-pop {t = I32} {types = I32 ∷ below}) (λ site. Leads-then (Leads-pop {t = I32} {types = below}) (λ code. Leads-leave (λ u. IsState m) (Stopped (as_i32 code) (as_i32 site)) tt))
 
   -- ---- functions of the module's own
 

@@ -11,7 +11,7 @@ use Rattle.wa_syntax.specs.declared.module.Module.{Module}
 use Rattle.wa_syntax.specs.declared.trap.TrapKind.{TrapKind}
 use Rattle.wa_syntax.specs.Instructions.{Drop, Select, MemorySize, MemoryGrow, LocalGet, LocalSet, LocalTee, GlobalGet, GlobalSet, I32Const, I64Const, Numeric, Memory, Access, load_of, store_of, numeric_type}
 use Rattle.wa_syntax.specs.ValidModule.{context_of}
-use Rattle.wa_syntax.specs.Machine.{State, Trap, Gives, Leaves, Eval, ◌>>=◌, leave, push, pop, Stuck}
+use Rattle.wa_syntax.specs.Machine.{State, Trap, Gives, Leaves, Eval, ◌>>=◌, leave, push, pop, as_i32, as_value, Stuck}
 use Rattle.wa_syntax.specs.Operations.{operator, numeric_on, load, store, memory_grow, page}
 use Rattle.wa_syntax.specs.Steps.{execute, most_pages}
 use Rattle.wa_sound.specs.Typing.{Place, global_types, IsState}
@@ -20,11 +20,11 @@ use Rattle.wa_sound.proofs.Opcodes.{IsOperator, unary, binary, numeric-operator,
 
 -- the access of an opcode, as `access_at` has it
 abbrev access : (op offset : ℕ) → Option Access → Option Access → Eval (Unit {0})
-access op offset (Some a) other = pop >>= λ base. load a (base + offset)
+access op offset (Some a) other = pop >>= λ base. load a (as_i32 base + offset)
 access op offset None (Some a) = do
   n ← pop
   base ← pop
-  store a (base + offset) n
+  store a (as_i32 base + offset) n
 access op offset None None = leave Stuck
 
 module _ (m : Module) (p : Place) (below : List ValTy) where
@@ -34,7 +34,7 @@ module _ (m : Module) (p : Place) (below : List ValTy) where
   drop-safe t = Leads-then Leads-pop (λ n. Leads-nothing_last)
 
   pub select-safe : (t : ValTy) → IsSafe true m p (I32 ∷ t ∷ t ∷ below) (t ∷ below) (execute m Select)
-  select-safe t = Leads-then Leads-pop (λ c. Leads-then Leads-pop (λ b. Leads-then Leads-pop (λ a. Leads-push_last (if c == 0 then b else a))))
+  select-safe t = Leads-then Leads-pop (λ c. Leads-then Leads-pop (λ b. Leads-then Leads-pop (λ a. Leads-push_last (if as_i32 c == 0 then b else a))))
 
   -- ---- variables (4.4.3)
 
@@ -66,10 +66,10 @@ module _ (m : Module) (p : Place) (below : List ValTy) where
   i64_const-safe n = Leads-push_last n
 
   unary-safe : (op : ℕ) (t u : ValTy) → IsSafe true m p (t ∷ below) (u ∷ below) (numeric_on (t ∷ []) op)
-  unary-safe op t u = Leads-then Leads-pop (λ a. Leads-then (Leads-or_trap (operator op a 0)) (λ c. Leads-push_last c))
+  unary-safe op t u = Leads-then Leads-pop (λ a. Leads-then (Leads-or_trap (operator op (as_value t a) 0)) (λ c. Leads-push_last c))
 
   binary-safe : (op : ℕ) (t u v : ValTy) → IsSafe true m p (u ∷ t ∷ below) (v ∷ below) (numeric_on (t ∷ u ∷ []) op)
-  binary-safe op t u v = Leads-then Leads-pop (λ b. Leads-then Leads-pop (λ a. Leads-then (Leads-or_trap (operator op a b)) (λ c. Leads-push_last c)))
+  binary-safe op t u v = Leads-then Leads-pop (λ b. Leads-then Leads-pop (λ a. Leads-then (Leads-or_trap (operator op (as_value t a) (as_value u b))) (λ c. Leads-push_last c)))
 
   operator-safe : (op : ℕ) (ty : FuncTy) → IsOperator ty → IsSafe true m p (reverse ty.params ++ below) (reverse ty.results ++ below) (numeric_on ty.params op)
   operator-safe op _ (unary t u) = unary-safe op t u
@@ -97,13 +97,13 @@ module _ (m : Module) (p : Place) (below : List ValTy) where
   pub memory_load-safe : (op align offset : ℕ) (a : Access) → load_of op ≡ Some a → IsSafe true m p (I32 ∷ below) (a.ty ∷ below) (execute m (Memory op align offset))
   memory_load-safe op align offset a e =
       subst (λ (o : Option Access). IsSafe true m p (I32 ∷ below) (a.ty ∷ below) (access op offset o (store_of op))) (sym e)
-      (Leads-then Leads-pop (λ base. load-safe a (base + offset)))
+      (Leads-then Leads-pop (λ base. load-safe a (as_i32 base + offset)))
 
   pub memory_store-safe : (op align offset : ℕ) (a : Access) → store_of op ≡ Some a → IsSafe true m p (a.ty ∷ I32 ∷ below) below (execute m (Memory op align offset))
   memory_store-safe op align offset a e =
       subst (λ (o : Option Access). IsSafe true m p (a.ty ∷ I32 ∷ below) below (access op offset o (store_of op))) (sym (store-no_load op a e))
       (subst (λ (o : Option Access). IsSafe true m p (a.ty ∷ I32 ∷ below) below (access op offset None o)) (sym e)
-      (Leads-then Leads-pop (λ n. Leads-then Leads-pop (λ base. store-safe a (base + offset) n))))
+      (Leads-then Leads-pop (λ n. Leads-then Leads-pop (λ base. store-safe a (as_i32 base + offset) n))))
 
   pub memory_size-safe : IsSafe true m p below (I32 ∷ below) (execute m MemorySize)
   memory_size-safe = record { holds = λ s h. (Leads-push_last {w = true} {m = m} {p = p} {t = I32} {types = below} _).holds s h }
@@ -116,4 +116,4 @@ module _ (m : Module) (p : Place) (below : List ValTy) where
   grow-safe most n = record { holds = λ s h. grown (nat_le (length s.memory / page + n) most) _ _ _ s h }
 
   pub memory_grow-safe : IsSafe true m p (I32 ∷ below) (I32 ∷ below) (execute m MemoryGrow)
-  memory_grow-safe = Leads-then Leads-pop (λ n. grow-safe (most_pages m) n)
+  memory_grow-safe = Leads-then Leads-pop (λ n. grow-safe (most_pages m) (as_i32 n))

@@ -1,20 +1,20 @@
 -- Runs from a well-typed state, and whole runs.
-use Rattle.std.proofs.Common.{◌≡◌, ℕ, zero, suc, true, false, List, [], ◌∷◌, ◌++◌, map, length, replicate, Option, Some, None, refl, sym, ap, subst, ◌∙◌, inl, inr}
+use Rattle.std.proofs.Common.{◌≡◌, ℕ, zero, suc, true, false, List, [], ◌∷◌, ◌++◌, map, length, Option, Some, None, refl, sym, ap, subst, ◌∙◌, inl, inr}
 use Rattle.std.specs.Prelude.{◌≢◌, ◌⊎◌, nat_le, reverse, option_to_list, IfSome}
-use Rattle.std.proofs.lemmas.List.{length-map, length-replicate}
+use Rattle.std.proofs.lemmas.List.{length-map}
 use Rattle.wa_syntax.specs.declared.module.ValTy.{ValTy}
 use Rattle.wa_syntax.specs.declared.module.ValTy.TheVariants.{I32}
 use Rattle.wa_syntax.specs.declared.module.FuncTy.{FuncTy}
 use Rattle.wa_syntax.specs.declared.module.GlobalTy.{GlobalTy}
 use Rattle.wa_syntax.specs.declared.module.GlobalDef.{GlobalDef}
 use Rattle.wa_syntax.specs.declared.module.Module.{Module}
-use Rattle.wa_syntax.specs.Instructions.{Instruction, nothing}
+use Rattle.wa_syntax.specs.Instructions.{Instruction}
 use Rattle.wa_syntax.specs.ValidModule.{IsValid, IsStart, context_of}
-use Rattle.wa_syntax.specs.Machine.{Input, State, Stuck, Out, Gives, Leaves}
+use Rattle.wa_syntax.specs.Machine.{Input, State, Stuck, outside, Out, Gives, Leaves}
 use Rattle.wa_syntax.specs.Hosts.{is_type, from_to, type_of}
 use Rattle.wa_syntax.specs.Steps.{execute, call, Next, At, Over, next, Ran, Finished, Halted, Unfinished, at_next, after, run}
 use Rattle.wa_syntax.specs.Runs.{IsLinked, main_of, is_main, init_value, first_globals, first_state, functions_of, run_from, run_all, outcome, machine_run}
-use Rattle.wa_sound.specs.Typing.{AreOf, Place, global_types, AreDone, IsState}
+use Rattle.wa_sound.specs.Typing.{AreOf, Place, global_types, IsState}
 use Rattle.wa_sound.proofs.Values.{AreOf-none}
 use Rattle.wa_sound.proofs.Rules.{IsLeft, Holds}
 use Rattle.wa_sound.proofs.Linked.{and-right, or-cases, is_type-some, has-main, function-type, own-globals}
@@ -25,7 +25,7 @@ use Rattle.wa_sound.proofs.Steps.{IsAt, IsNext, execute-safe, next-safe}
 
 -- outside all functions, with the globals
 abbrev IsOver : Module → State → Type 0
-IsOver m s = AreOf (global_types m) s.globals × (s.code ≡ nothing) × AreDone s.stack
+IsOver m s = (s ≡ outside s) × AreOf (global_types m) s.globals
 
 -- a run isn't stuck, and what it goes on from is typed
 abbrev pub IsRun : Module → Ran → Type 0
@@ -37,9 +37,9 @@ after-safe : (m : Module) (left : ℕ) (more : State → Ran) (o : Out (Unit {0}
 after-safe m left more (Gives u s) goes_on h = goes_on s h
 after-safe m left more (Leaves halt s) goes_on h = h
 
-next-run : (m : Module) (from : State) (left : ℕ) (step : Instruction → State → Ran) (n : Next) → AreOf (global_types m) from.globals → IsNext m from from.code from.stack n → ((i : Instruction) (s : State) → IsAt m i s → IsRun m (step i s)) → IsRun m (at_next left step n)
+next-run : (m : Module) (from : State) (left : ℕ) (step : Instruction → State → Ran) (n : Next) → AreOf (global_types m) from.globals → IsNext m from n → ((i : Instruction) (s : State) → IsAt m i s → IsRun m (step i s)) → IsRun m (at_next left step n)
 next-run m from left step (At i s) globals h steps = steps i s h
-next-run m from left step (Over results s) globals h steps = subst (IsOver m) (sym h.0) (globals, h.1, h.2)
+next-run m from left step (Over results s) globals same steps = subst (IsOver m) (sym same) (refl, globals)
 
 -- ---- the functions that are run one after another (4.5.5)
 
@@ -55,9 +55,9 @@ both-take : (m : Module) (funcs more : List ℕ) → EachTakesNothing m funcs �
 both-take m [] more h k = k
 both-take m (func ∷ funcs) more h k = (h.0, both-take m funcs more h.1 k)
 
--- outside all functions, where the locals of the last one may still stand
-abbrev nowhere : State → Place
-nowhere s = record { locals = replicate (length s.locals) I32; labels = []; results = [] }
+-- outside all functions
+abbrev nowhere : Place
+nowhere = record { locals = []; labels = []; results = [] }
 
 main-type : (m : Module) (func : ℕ) → (is_type (from_to [] []) (type_of m func) ≡ true) ⊎ (is_type (from_to [] (I32 ∷ [])) (type_of m func) ≡ true) → TakesNothing m func
 main-type m func (inl is) = (from_to [] [], is_type-some (from_to [] []) (type_of m func) is, refl)
@@ -75,18 +75,19 @@ module _ (m : Module) (valid : IsValid m) (linked : IsLinked m) where
   run_from-safe left (Gives u s) h = run-safe left s h
   run_from-safe left (Leaves halt s) h = h
 
-  call-run : (left : ℕ) (func : ℕ) (s : State) → TakesNothing m func → IsOver m s → IsRun m (run_from m left (call m func (record s { operands = [] })))
-  call-run left func s (ty, is, none) over =
-      run_from-safe left (call m func (record s { operands = [] })) ((call-safe false m (nowhere s) [] valid linked func ty is).holds (record s { operands = [] }) (record {
+  call-run : (left : ℕ) (func : ℕ) (s : State) → TakesNothing m func → IsOver m s → IsRun m (run_from m left (call m func s))
+  call-run left func s (ty, is, none) (same, globals) =
+      subst (λ (t : State). IsRun m (run_from m left (call m func t))) (sym same)
+      (run_from-safe left (call m func (outside s)) ((call-safe false m nowhere [] valid linked func ty is).holds (outside s) (record {
         operands = subst (λ (ts : List ValTy). AreOf (reverse ts ++ []) []) (sym none) AreOf-none;
-        locals = record { each = sym (length-replicate (length s.locals) I32) };
-        globals = over.0;
-        within = inl (over.1, over.2);
-      }))
+        locals = AreOf-none;
+        globals = globals;
+        within = inl (refl, refl);
+      })))
 
   run_all-safe : (funcs : List ℕ) (ran : Ran) → EachTakesNothing m funcs → IsRun m ran → IsRun m (run_all m funcs ran)
   run_all-safe [] ran each h = h
-  run_all-safe (func ∷ more) (Finished left results s) each h = run_all-safe more (run_from m left (call m func (record s { operands = [] }))) each.1 (call-run left func s each.0 h)
+  run_all-safe (func ∷ more) (Finished left results s) each h = run_all-safe more (run_from m left (call m func s)) each.1 (call-run left func s each.0 h)
   run_all-safe (func ∷ more) (Halted halt left s) each h = h
   run_all-safe (func ∷ more) (Unfinished s) each h = h
 
@@ -108,7 +109,7 @@ module _ (m : Module) (valid : IsValid m) (linked : IsLinked m) where
   whole-run input most =
       run_all-safe (functions_of m) (Finished most [] (first_state m input))
       (both-take m (option_to_list m.start) (option_to_list (main_of m.exports)) (start-takes m.start valid.outside.start) (main-takes (main_of m.exports) (has-main m linked)))
-      (globals-first, refl, tt)
+      (refl, globals-first)
 
 not-stuck : (m : Module) (most : ℕ) (ran : Ran) → IsRun m ran → (outcome most ran).halt ≢ Stuck
 not-stuck m most (Finished left results s) h e = cc

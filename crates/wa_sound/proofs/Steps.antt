@@ -12,10 +12,10 @@ use Rattle.wa_syntax.specs.declared.trap.TrapKind.{TrapKind}
 use Rattle.wa_syntax.specs.Instructions.{Instruction, Unreachable, Nop, Return, Drop, Select, MemorySize, MemoryGrow, Block, Loop, If, Br, BrIf, BrTable, Call, CallIndirect, LocalGet, LocalSet, LocalTee, GlobalGet, GlobalSet, I32Const, I64Const, Numeric, Memory, Sequence, nothing, ◌then◌}
 use Rattle.wa_syntax.specs.Validity.{IsTyped, HasLabel, with_label}
 use Rattle.wa_syntax.specs.ValidModule.{IsValid}
-use Rattle.wa_syntax.specs.Machine.{Entry, Label, Activation, State, Trap, Eval, pure}
+use Rattle.wa_syntax.specs.Machine.{Entry, Label, Activation, State, Trap, Eval, pure, as_i32, outside}
 use Rattle.wa_syntax.specs.Runs.{IsLinked}
 use Rattle.wa_syntax.specs.Steps.{execute, Next, At, Over, next_in, next}
-use Rattle.wa_sound.specs.Typing.{AreOf, Place, context, global_types, AreDone, IsInside, IsAround, IsState}
+use Rattle.wa_sound.specs.Typing.{AreOf, Place, context, global_types, IsInside, IsAround, IsState}
 use Rattle.wa_sound.proofs.Values.{AreOf-append}
 use Rattle.wa_sound.proofs.Rules.{Leads-then, Leads-leave, Leads-if, Leads-pop, Leads-nothing_last, Finds, IsSafe, IsSafe-gives, IsSafe-takes}
 use Rattle.wa_sound.proofs.Branches.{enter-safe, either-typed, return-safe, branch-safe}
@@ -32,7 +32,7 @@ module _ (m : Module) (p : Place) where
 
   br_if-safe : (label : ℕ) (wanted below : List ValTy) → slice_get p.labels label ≡ Some wanted → IsSafe true m p (I32 ∷ (reverse wanted ++ below)) (reverse wanted ++ below) (execute m (BrIf label))
   br_if-safe label wanted below there =
-      Leads-then Leads-pop (λ c. Leads-if (c == 0) Leads-nothing_last (branch-safe m p label wanted below (reverse wanted ++ below) there))
+      Leads-then Leads-pop (λ c. Leads-if (as_i32 c == 0) Leads-nothing_last (branch-safe m p label wanted below (reverse wanted ++ below) there))
 
   -- the label that a table has at a place, or the default
   label-at : (labels : List ℕ) (default i : ℕ) (wanted : List ValTy) → All (HasLabel (context m p) wanted) (default ∷ labels) → slice_get p.labels (unwrap_or (slice_get labels i) default) ≡ Some wanted
@@ -46,7 +46,7 @@ module _ (m : Module) (p : Place) where
 
   br_table-safe : (labels : List ℕ) (default : ℕ) (wanted below after : List ValTy) → All (HasLabel (context m p) wanted) (default ∷ labels) → IsSafe true m p (I32 ∷ (reverse wanted ++ below)) after (execute m (BrTable labels default))
   br_table-safe labels default wanted below after all =
-      Leads-then Leads-pop (λ i. branch-safe m p (unwrap_or (slice_get labels i) default) wanted below after (label-at labels default i wanted all))
+      Leads-then Leads-pop (λ i. branch-safe m p (unwrap_or (slice_get labels (as_i32 i)) default) wanted below after (label-at labels default (as_i32 i) wanted all))
 
   -- ---- blocks
 
@@ -61,10 +61,10 @@ module _ (m : Module) (p : Place) where
   if-safe : (result : Option ValTy) (first other : Sequence) (before after : List ValTy) → IsTyped (context m p) (If result first other) before after → IsSafe true m p before after (execute m (If result first other))
   if-safe None first other before after (typed, typed_other, gives) =
       IsSafe-gives (I32 ∷ []) [] _ gives (λ below. Leads-then Leads-pop (λ c.
-      enter-safe m p [] [] below 0 None (if c == 0 then other else first) (either-typed (with_label [] (context m p)) (c == 0) first other [] [] typed typed_other) refl refl))
+      enter-safe m p [] [] below 0 None (if as_i32 c == 0 then other else first) (either-typed (with_label [] (context m p)) (as_i32 c == 0) first other [] [] typed typed_other) refl refl))
   if-safe (Some t) first other before after (typed, typed_other, gives) =
       IsSafe-gives (I32 ∷ []) (t ∷ []) _ gives (λ below. Leads-then Leads-pop (λ c.
-      enter-safe m p (t ∷ []) (t ∷ []) below 1 None (if c == 0 then other else first) (either-typed (with_label (t ∷ []) (context m p)) (c == 0) first other [] (t ∷ []) typed typed_other) refl refl))
+      enter-safe m p (t ∷ []) (t ∷ []) below 1 None (if as_i32 c == 0 then other else first) (either-typed (with_label (t ∷ []) (context m p)) (as_i32 c == 0) first other [] (t ∷ []) typed typed_other) refl refl))
 
   -- ---- instructions (4.4)
 
@@ -88,7 +88,7 @@ module _ (m : Module) (p : Place) where
       IsSafe-gives ty.params ty.results _ gives (λ below. call-safe true m p below valid linked func ty (function-type m linked func ty there))
   execute-safe valid linked (CallIndirect number) before after (ty, has, there, gives) =
       IsSafe-gives (ty.params ++ I32 ∷ []) ty.results _ gives (λ below. on-top ty.params I32 below
-      (Leads-then Leads-pop (λ place. call_indirect-safe true m p below valid linked number place ty there)))
+      (Leads-then Leads-pop (λ place. call_indirect-safe true m p below valid linked number (as_i32 place) ty there)))
   execute-safe valid linked (LocalGet x) before after (t, there, gives) = IsSafe-gives [] (t ∷ []) _ gives (λ below. local_get-safe m p below x t there)
   execute-safe valid linked (LocalSet x) before after (t, there, gives) = IsSafe-gives (t ∷ []) [] _ gives (λ below. local_set-safe m p below x t there)
   execute-safe valid linked (LocalTee x) before after (t, there, gives) = IsSafe-gives (t ∷ []) (t ∷ []) _ gives (λ below. local_tee-safe m p below x t there)
@@ -102,7 +102,7 @@ module _ (m : Module) (p : Place) where
 
 -- ---- what comes next (4.4.5, 4.4.7)
 
--- an instruction comes next that finds what it takes, or nothing is left to be done
+-- the instruction that comes next finds what it takes
 pub record IsAt (m : Module) (i : Instruction) (s : State) : Type 0 where
   pub place : Place
   pub before : List ValTy
@@ -110,9 +110,10 @@ pub record IsAt (m : Module) (i : Instruction) (s : State) : Type 0 where
   pub typed : IsTyped (context m place) i before after
   pub finds : Finds true m place before after s
 
-abbrev pub IsNext : Module → (from : State) → Sequence → List Entry → Next → Type 0
-IsNext m from code stack (At i s) = IsAt m i s
-IsNext m from code stack (Over results s) = (s ≡ from) × (code ≡ nothing) × AreDone stack
+-- an instruction comes next, or the run is over, outside all functions
+abbrev pub IsNext : Module → (from : State) → Next → Type 0
+IsNext m from (At i s) = IsAt m i s
+IsNext m from (Over results s) = s ≡ outside from
 
 -- the instruction that comes next is typed, and so are those after it
 first-typed : (m : Module) (p : Place) (i : Instruction) (rest : Sequence) (types : List ValTy) (stack : List Entry) → IsInside m p (i then rest) types stack → (middle : List ValTy) × IsTyped (context m p) i types middle × IsInside m p rest middle stack
@@ -148,13 +149,8 @@ first-typed m p i rest types (Activation kept behind below locals ∷ stack) h =
   },
 )
 
--- an end, of what has this behind it
-end-next : (m : Module) (s : State) (behind : Sequence) (outside stack : List Entry) (n : Next) → ((behind ≡ nothing) × AreDone outside → AreDone stack) → IsNext m s behind outside n → IsNext m s nothing stack n
-end-next m s behind outside stack (At i t) h is = is
-end-next m s behind outside stack (Over results t) h is = (is.0, refl, h (is.1, is.2))
-
 module _ (m : Module) (s : State) (globals : AreOf (global_types m) s.globals) where
-  at-next : (p : Place) (i : Instruction) (rest : Sequence) (types : List ValTy) (operands locals : List ℕ) (stack : List Entry) → AreOf types operands → AreOf p.locals locals → IsInside m p (i then rest) types stack → IsNext m s (i then rest) stack (next_in (i then rest) operands locals stack s)
+  at-next : (p : Place) (i : Instruction) (rest : Sequence) (types : List ValTy) (operands locals : List ℕ) (stack : List Entry) → AreOf types operands → AreOf p.locals locals → IsInside m p (i then rest) types stack → IsNext m s (next_in (i then rest) operands locals stack s)
   at-next p i rest types operands locals stack are mine inside =
       let first = first-typed m p i rest types stack inside in
       record {
@@ -165,28 +161,18 @@ module _ (m : Module) (s : State) (globals : AreOf (global_types m) s.globals) w
         finds = record { operands = are; locals = mine; globals = globals; within = first.2 };
       }
 
-  done-next : (stack : List Entry) (operands locals : List ℕ) → AreDone stack → IsNext m s nothing stack (next_in nothing operands locals stack s)
-  done-next [] operands locals done = (refl, refl, tt)
-  done-next (Label kept again behind below ∷ stack) operands locals done =
-      end-next m s behind stack (Label kept again behind below ∷ stack) (next_in behind (operands ++ below) locals stack s) (λ d. d)
-      (subst (λ (code : Sequence). IsNext m s code stack (next_in code (operands ++ below) locals stack s)) (sym done.0) (done-next stack (operands ++ below) locals done.1))
-  done-next (Activation kept behind below outer ∷ stack) operands locals done =
-      end-next m s behind stack (Activation kept behind below outer ∷ stack) (next_in behind (operands ++ below) outer stack s) (λ d. d)
-      (subst (λ (code : Sequence). IsNext m s code stack (next_in code (operands ++ below) outer stack s)) (sym done.0) (done-next stack (operands ++ below) outer done.1))
-
-  next_in-safe : (stack : List Entry) (code : Sequence) (p : Place) (types : List ValTy) (operands locals : List ℕ) → AreOf types operands → AreOf p.locals locals → IsAround m p code types stack → IsNext m s code stack (next_in code operands locals stack s)
-  next_in-safe stack (i then rest) p types operands locals are mine (inl (none, done)) = cc
+  next_in-safe : (stack : List Entry) (code : Sequence) (p : Place) (types : List ValTy) (operands locals : List ℕ) → AreOf types operands → AreOf p.locals locals → IsAround m p code types stack → IsNext m s (next_in code operands locals stack s)
+  next_in-safe stack (i then rest) p types operands locals are mine (inl (none, empty)) = cc
   next_in-safe stack (i then rest) p types operands locals are mine (inr inside) = at-next p i rest types operands locals stack are mine inside
-  next_in-safe stack nothing p types operands locals are mine (inl (none, done)) = done-next stack operands locals done
-  next_in-safe [] nothing p types operands locals are mine (inr h) = absurd h
+  next_in-safe [] nothing p types operands locals are mine h = refl
+  next_in-safe (Label kept again behind below ∷ stack) nothing p types operands locals are mine (inl (none, empty)) = cc
+  next_in-safe (Activation kept behind below outer ∷ stack) nothing p types operands locals are mine (inl (none, empty)) = cc
   next_in-safe (Label kept again behind below ∷ stack) nothing p types operands locals are mine (inr h) =
-      end-next m s behind stack (Label kept again behind below ∷ stack) (next_in behind (operands ++ below) locals stack s) (λ d. d)
-      (next_in-safe stack behind (record p { labels = h.labels }) (h.left ++ h.types_below) (operands ++ below) locals
-      (AreOf-append h.left h.types_below operands below (subst (λ (ts : List ValTy). AreOf ts operands) (sym h.typed) are) h.values_below) mine (inr h.outside))
+      next_in-safe stack behind (record p { labels = h.labels }) (h.left ++ h.types_below) (operands ++ below) locals
+      (AreOf-append h.left h.types_below operands below (subst (λ (ts : List ValTy). AreOf ts operands) (sym h.typed) are) h.values_below) mine (inr h.outside)
   next_in-safe (Activation kept behind below outer ∷ stack) nothing p types operands locals are mine (inr h) =
-      end-next m s behind stack (Activation kept behind below outer ∷ stack) (next_in behind (operands ++ below) outer stack s) (λ d. d)
-      (next_in-safe stack behind h.caller (reverse p.results ++ h.types_below) (operands ++ below) outer
-      (AreOf-append (reverse p.results) h.types_below operands below (subst (λ (ts : List ValTy). AreOf ts operands) (sym h.typed) are) h.values_below) h.caller_locals h.outside)
+      next_in-safe stack behind h.caller (reverse p.results ++ h.types_below) (operands ++ below) outer
+      (AreOf-append (reverse p.results) h.types_below operands below (subst (λ (ts : List ValTy). AreOf ts operands) (sym h.typed) are) h.values_below) h.caller_locals h.outside
 
-pub next-safe : (m : Module) (s : State) → IsState m s → IsNext m s s.code s.stack (next s)
+pub next-safe : (m : Module) (s : State) → IsState m s → IsNext m s (next s)
 next-safe m s h = next_in-safe m s h.globals s.stack s.code h.place h.types s.operands s.locals h.operands h.locals h.around

@@ -57,11 +57,9 @@ pub record IsInFunction (m : Module) (p : Place) (code : Sequence) (types : List
   pub caller_locals : AreOf caller.locals locals
   pub outside : Outside caller (reverse p.results ++ types_below)
 
--- nothing is left to be done behind these
-abbrev pub AreDone : List Entry → Type 0
-AreDone [] = Unit {0}
-AreDone (Label kept again behind below ∷ stack) = (behind ≡ nothing) × AreDone stack
-AreDone (Activation kept behind below locals ∷ stack) = (behind ≡ nothing) × AreDone stack
+-- outside all functions nothing is left to be done
+abbrev pub IsOutside : Sequence → List Entry → Type 0
+IsOutside code stack = (code ≡ nothing) × (stack ≡ [])
 
 -- from operands of these types the instructions at place p lead to the end of a function, out of the labels and into the callers
 -- that stand on the stack
@@ -70,12 +68,11 @@ IsInside m p code types [] = ⊥
 IsInside m p code types (Label kept again behind below ∷ stack) =
     IsInBlock m p code types kept again below (λ q ts. IsInside m q behind ts stack)
 IsInside m p code types (Activation kept behind below locals ∷ stack) =
-    IsInFunction m p code types kept below locals (λ q ts. (behind ≡ nothing) × AreDone stack ⊎ IsInside m q behind ts stack)
+    IsInFunction m p code types kept below locals (λ q ts. IsOutside behind stack ⊎ IsInside m q behind ts stack)
 
--- outside all functions nothing is left to be done. What a function leaves when it ends may still stand there, since an end is no
--- instruction
+-- outside all functions or inside one
 abbrev pub IsAround : Module → Place → Sequence → List ValTy → List Entry → Type 0
-IsAround m p code types stack = (code ≡ nothing) × AreDone stack ⊎ IsInside m p code types stack
+IsAround m p code types stack = IsOutside code stack ⊎ IsInside m p code types stack
 
 -- what an instruction finds at place p: operands of these types, and behind it what takes operands of the types after it
 pub record Finds (m : Module) (p : Place) (before after : List ValTy) (s : State) : Type 0 where

@@ -1,17 +1,18 @@
 -- The definitions of validity and of a run at small modules, by computation.
-use Rattle.std.proofs.Common.{◌≡◌, ℕ, List, [], ◌∷◌, Some, None, codes, refl}
+use Rattle.std.proofs.Common.{◌≡◌, ℕ, List, [], ◌∷◌, Some, None, codes, refl, ap}
 use Rattle.wa_syntax.specs.declared.module.ValTy.TheVariants.{I32}
 use Rattle.wa_syntax.specs.declared.module.Module.{Module}
-use Rattle.wa_syntax.specs.declared.opcode.TheConstants.{I32_ADD, I32_DIV_S}
+use Rattle.wa_syntax.specs.declared.opcode.TheConstants.{NOP, I32_ADD, I32_DIV_S}
 use Rattle.wa_syntax.specs.declared.trap.TrapKind.TheVariants.{DivZero}
 use Rattle.wa_syntax.specs.declared.instr.Instr.TheVariants as i
 use Rattle.wa_syntax.specs.declared.module.ExportKind.{ExportKind}
 use Rattle.wa_syntax.specs.Numeric.{i32_result}
 use Rattle.wa_syntax.specs.Instructions.{I32Const, Drop, Numeric, nothing, ◌then◌}
 use Rattle.wa_syntax.specs.Validity.{Context, AreTyped}
-use Rattle.wa_syntax.specs.Machine.{Input, State, Ended, Running, Trap, Leaves, bind}
+use Rattle.wa_syntax.specs.Machine.{Entry, Activation, Input, State, Ended, Running, Trap, Leaves, bind}
 use Rattle.wa_syntax.specs.Operations.{numeric}
-use Rattle.wa_syntax.specs.Runs.{machine_run, unlinked}
+use Rattle.wa_syntax.specs.Steps.{call, Ran, Finished, Halted, Unfinished}
+use Rattle.wa_syntax.specs.Runs.{first_state, functions_of, run_from, run_all, machine_run, unlinked}
 use Rattle.wa_syntax.proofs.Instructions.{instructions}
 
 abbrev no_names : Context
@@ -77,3 +78,47 @@ adding-ends = simp instructions refl
 pub adding-runs : machine_run adding no_input 2 ≡ record { halt = Running; steps = 2; output = [] }
 unfolding machine_run bind i32_result
 adding-runs = simp instructions refl
+
+-- a module whose start function ends by falling off its end
+abbrev starting : Module
+starting = record {
+  types = record { params = []; results = [] } ∷ record { params = []; results = I32 ∷ [] } ∷ [];
+  imports = [];
+  funcs = record { ty = 0; locals = []; body = i.Plain NOP ∷ [] } ∷ record { ty = 1; locals = []; body = i.I32Const 42 ∷ [] } ∷ [];
+  tables = [];
+  memories = [];
+  globals = [];
+  exports = record { name = codes "main"; kind = ExportKind.Func 1 } ∷ [];
+  start = Some 0;
+  elems = [];
+  segments = [];
+}
+
+-- it leaves nothing behind
+abbrev left_by_start : State
+left_by_start = record {
+  code = nothing;
+  operands = [];
+  locals = [];
+  stack = [];
+  globals = [];
+  table = [];
+  memory = [];
+  input = no_input;
+  output = [];
+}
+
+pub starting-starts : run_from starting 1 (call starting 0 (first_state starting no_input)) ≡ Finished 0 [] left_by_start
+unfolding bind
+starting-starts = simp instructions refl
+
+-- the labels and activations of the state that a run is left in
+abbrev stack_of : Ran → List Entry
+stack_of (Finished left results s) = s.stack
+stack_of (Halted halt left s) = s.stack
+stack_of (Unfinished s) = s.stack
+
+-- behind it `main` stands in its own activation alone
+pub starting-runs : stack_of (run_all starting (functions_of starting) (Finished 1 [] (first_state starting no_input))) ≡ Activation 1 nothing [] [] ∷ []
+unfolding bind
+starting-runs = ap (λ (ran : Ran). stack_of (run_all starting (1 ∷ []) ran)) starting-starts

@@ -7,7 +7,7 @@ use Rattle.wa_syntax.specs.declared.module.Func.{Func}
 use Rattle.wa_syntax.specs.declared.module.ImportKind.{ImportKind}
 use Rattle.wa_syntax.specs.declared.module.Import.{Import}
 use Rattle.wa_syntax.specs.declared.module.Module.{Module}
-use Rattle.wa_syntax.specs.Machine.{Input, Stopped, InFault, Eval, ◌>>=◌, leave, push, pop, change}
+use Rattle.wa_syntax.specs.Machine.{Input, Stopped, InFault, Eval, ◌>>=◌, leave, push, pop, as_i32, change}
 
 -- ---- types, compared by content
 
@@ -104,4 +104,4 @@ call_host Get = λ s. take_input s.input s
 call_host Stop = do
   site ← pop
   code ← pop
-  leave (Stopped code site)
+  leave (Stopped (as_i32 code) (as_i32 site))
