@@ -1,1 +1,3 @@
+pub mod Overwritten
+pub mod Places
 pub mod Segments

@@ -1,9 +1,11 @@
 //! Instantiation (section 4.5.4 of the WebAssembly Core Specification 1.0): the globals, the table and the memory as a module
 //! begins with them.
 
-ghost use Rattle.std.specs.Prelude.{◌≡◌, ◌+◌, ◌^◌, ◌<◌, ◌≤◌, All, IfOk, IfErr, OnOk, Err, [], length, map, slice_get, vec_len};
+ghost use Rattle.std.specs.Prelude.{◌≡◌, ◌+◌, ◌^◌, ◌<◌, ◌≤◌, All, IfOk, IfErr, OnOk, Err, Some, [], length, map, slice_get};
 ghost use Rattle.wa_code.specs.declared.instance.InstanceFault.{InstanceFault};
-ghost use Rattle.wa_syntax.specs.Runs.{SegmentsFit, first_globals, init_value, least, memory_size, table_size};
+ghost use Rattle.wa_syntax.specs.Operations.{overwritten};
+ghost use Rattle.wa_syntax.specs.Runs.{SegmentsFit, first_globals, first_memory, first_table, init_value, least, memory_size, table_size};
+ghost use Rattle.wa_syntax.specs.Steps.{most_pages};
 
 use crate::table::Table;
 use std::alloc::{AllocError, AllocFailed, Global};
@@ -69,6 +71,9 @@ impl Instance {
     /// `Segment` where a segment goes past the end of the table or the memory, and `NoMemory`.
     pub fn new(alloc: Global, v: &Valid) -> Result<Instance, InstanceFault>
         ensures globals { IfOk result (λ instance. instance.globals.items ≡ first_globals v.now) }
+        ensures table { IfOk result (λ instance. instance.table ≡ first_table v.now) }
+        ensures memory { IfOk result (λ instance. instance.bytes.items ≡ first_memory v.now) }
+        ensures most_pages { IfOk result (λ instance. instance.most_pages ≡ most_pages v.now) }
         ensures fit { IfOk result (λ instance. SegmentsFit v.now) }
         ensures segment { result ≡ Err InstanceFault.Segment → ¬ SegmentsFit v.now }
     {
@@ -121,11 +126,12 @@ fn least(limits: &[Limits]) -> usize
     }
 }
 
-/// The most pages that the memory may have.
-fn most_pages(module: &Module) -> usize {
-    match module.memories.as_slice().first() {
-        Some(Limits { max: Some(max), .. }) => (*max as usize).min(PAGE),
-        Some(_) => PAGE,
+/// The most pages that the memory may have, and 0 where there is none.
+fn most_pages(m: &Module) -> usize
+    ensures { result ≡ most_pages m.now }
+{
+    match m.memories.as_slice().first() {
+        Some(limits) => (limits.max.unwrap_or(65_536) as usize).min(PAGE),
         None => 0,
     }
 }
@@ -147,9 +153,10 @@ fn room(offset: u64, count: usize, len: usize) -> Result<usize, InstanceFault>
 
 /// Puts the functions of a segment into the table.
 fn fill_table(table: &mut Table, elem: &Elem, globals: &[u64]) -> Result<(), InstanceFault>
-    ensures size { table.new.size ≡ table.old.size }
-    ensures fits { OnOk result (init_value globals.now elem.now.offset + length elem.now.funcs ≤ table.old.size) }
-    ensures segment { result ≡ Err InstanceFault.Segment → ¬ (init_value globals.now elem.now.offset + length elem.now.funcs ≤ table.old.size) }
+    ensures put { OnOk result (table.new ≡ overwritten table.old (init_value globals.now elem.now.offset) (map (λ func. Some func) elem.now.funcs)) }
+    ensures size { length table.new ≡ length table.old }
+    ensures fits { OnOk result (init_value globals.now elem.now.offset + length elem.now.funcs ≤ length table.old) }
+    ensures segment { result ≡ Err InstanceFault.Segment → ¬ (init_value globals.now elem.now.offset + length elem.now.funcs ≤ length table.old) }
 {
     let funcs = elem.funcs.as_slice();
     let from = room(value(elem.offset, globals), funcs.len(), table.size())?;
@@ -157,15 +164,24 @@ fn fill_table(table: &mut Table, elem: &Elem, globals: &[u64]) -> Result<(), Ins
     Ok(())
 }
 
-/// Puts functions into the table, from a place on. A place that no `u32` numbers is taken as want of memory.
+/// The number of the place that is so far behind another one. One that no `u32` numbers is taken as want of memory.
+fn place_behind(from: usize, i: usize) -> Result<u32, NoMemory>
+    ensures { IfOk result (λ at. at ≡ from + i) }
+{
+    let Some(place) = from.checked_add(i) else {
+        return Err(NoMemory);
+    };
+    u32::try_from(place).map_err(|_| NoMemory)
+}
+
+/// Puts functions into the table, from a place on.
 fn put_all(table: &mut Table, from: usize, funcs: &[u32]) -> Result<(), NoMemory>
-    ensures size { table.new.size ≡ table.old.size }
+    requires { from + length funcs.now ≤ length table.old }
+    ensures put { OnOk result (table.new ≡ overwritten table.old from (map (λ func. Some func) funcs.now)) }
+    ensures size { length table.new ≡ length table.old }
 {
     for (i, func) in funcs.iter().enumerate() {
-        let Ok(at) = u32::try_from(from.wrapping_add(i)) else {
-            return Err(NoMemory);
-        };
-        table.put(at, *func)?;
+        table.put(place_behind(from, i)?, *func)?;
     }
     Ok(())
 }
@@ -181,6 +197,8 @@ fn filled(elems: &[Elem]) -> usize {
 
 /// The table with the functions of its segments.
 fn table(alloc: Global, m: &Module, globals: &[u64]) -> Result<Table, InstanceFault>
+    requires { globals.now ≡ first_globals m.now }
+    ensures contents { IfOk result (λ table. table ≡ first_table m.now) }
     ensures fit { OnOk result (All (λ elem. init_value globals.now elem.offset + length elem.funcs ≤ table_size m.now) m.now.elems) }
     ensures segment { result ≡ Err InstanceFault.Segment → ¬ All (λ elem. init_value globals.now elem.offset + length elem.funcs ≤ table_size m.now) m.now.elems }
 {
@@ -194,6 +212,7 @@ fn table(alloc: Global, m: &Module, globals: &[u64]) -> Result<Table, InstanceFa
 
 /// Puts the bytes of a segment into the memory.
 fn fill_memory(bytes: &mut [u8], segment: &Segment, globals: &[u64]) -> Result<(), InstanceFault>
+    ensures put { OnOk result (bytes.new ≡ overwritten bytes.old (init_value globals.now segment.now.offset) segment.now.bytes) }
     ensures fits { OnOk result (init_value globals.now segment.now.offset + length segment.now.bytes ≤ length bytes.old) }
     ensures segment { result ≡ Err InstanceFault.Segment → ¬ (init_value globals.now segment.now.offset + length segment.now.bytes ≤ length bytes.old) }
 {
@@ -205,6 +224,8 @@ fn fill_memory(bytes: &mut [u8], segment: &Segment, globals: &[u64]) -> Result<(
 
 /// The memory with the bytes of its segments.
 fn memory(alloc: Global, m: &Module, globals: &[u64]) -> Result<Vec<u8>, InstanceFault>
+    requires { globals.now ≡ first_globals m.now }
+    ensures contents { IfOk result (λ bytes. bytes.items ≡ first_memory m.now) }
     ensures fit { OnOk result (All (λ segment. init_value globals.now segment.offset + length segment.bytes ≤ memory_size m.now) m.now.segments) }
     ensures segment { result ≡ Err InstanceFault.Segment → ¬ All (λ segment. init_value globals.now segment.offset + length segment.bytes ≤ memory_size m.now) m.now.segments }
 {

@@ -1,14 +1,15 @@
 //! The table of functions. Its size is free of cost: places that no segment fills take no memory past the first ones.
 
-ghost use Rattle.std.specs.Prelude.{◌≡◌, IfOk};
+ghost use Rattle.std.specs.Prelude.{◌≡◌, ◌<◌, IfOk, OnOk, None, Some, length, replicate, slice_get, slice_set};
 
 use indexmap::IndexMap;
 use std::alloc::{AllocError, AllocFailed, Global};
+use std::marker::Model;
 
 /// The places of a table that are held as a list whatever its segments fill.
 const LISTED: usize = 65_536;
 
-/// A table: at each place the number of a function, or none.
+/// A table: at each place the number of a function, or none. Contracts see the list of its places.
 #[derive(Drop)]
 pub struct Table {
     size: usize,
@@ -18,10 +19,21 @@ pub struct Table {
     others: IndexMap<u32, u32>,
 }
 
+impl Model for Table {
+    ghost use Rattle.std.specs.Prelude.{◌≤◌, List, ℕ, Option, vec_len};
+    ghost use Rattle.wa_code.specs.Places.{places};
+
+    ghost Value = { List (Option ℕ) };
+
+    ghost view = { λ t. places t.size t.listed.items t.others };
+
+    ghost invariant = { λ t. vec_len t.listed ≤ t.size };
+}
+
 impl Table {
     /// A table of so many places without a function, for segments that fill so many of them.
     pub(crate) fn new(alloc: Global, size: usize, filled: usize) -> Result<Table, AllocError>
-        ensures { IfOk result (λ table. table.size ≡ size) }
+        ensures { IfOk result (λ table. table ≡ replicate size None) }
     {
         let mut listed = Vec::new(alloc);
         listed.resize(size.min(filled.saturating_add(LISTED)), None)?;
@@ -34,14 +46,16 @@ impl Table {
 
     /// How many places there are.
     pub(crate) fn size(&self) -> usize
-        ensures { result ≡ self.now.size }
+        ensures { result ≡ length self.now }
     {
         self.size
     }
 
     /// Puts a function at a place.
     pub(crate) fn put(&mut self, at: u32, func: u32) -> Result<(), AllocFailed<(u32, u32)>>
-        ensures { self.new.size ≡ self.old.size }
+        requires { at < length self.old }
+        ensures put { OnOk result (self.new ≡ slice_set self.old at (Some func)) }
+        ensures size { length self.new ≡ length self.old }
     {
         let place = at as usize;
         if place < self.listed.len() {
@@ -53,7 +67,9 @@ impl Table {
     }
 
     /// What is at a place: a function or none. `None` past the end of the table.
-    pub fn get(&self, at: u32) -> Option<Option<u32>> {
+    pub fn get(&self, at: u32) -> Option<Option<u32>>
+        ensures { result ≡ slice_get self.now at }
+    {
         if let Some(entry) = self.listed.get(at as usize) {
             return Some(*entry);
         }
