@@ -1,9 +1,8 @@
 use Rattle.std.proofs.Common.{◌≡◌, ◌<◌, ◌≤◌, ◌++◌, [], ◌∷◌, ℕ, get_or, length, sym, subst, rules, Some, None, Option}
 use Rattle.wa_syntax.specs.Hosts.{host_of}
 use Rattle.wa_exec.specs.declared.link.Callee.{Callee}
-use Rattle.wa_exec.specs.declared.link.HostCall.{HostCall}
 use Rattle.wa_exec.specs.Links.{Names, function_of}
-use Rattle.wa_exec.proofs.Linking.{callees-more, host_of-none, linked-more, unlinked-end, unlinked-first}
+use Rattle.wa_exec.proofs.Linking.{callees-more, linked-more, unlinked-end, unlinked-first}
 use Rattle.wa_exec.proofs.link.imported.Goals as goal
 
 pub returns-in_default-clause-unlinked : goal.returns-in_default-clause-unlinked

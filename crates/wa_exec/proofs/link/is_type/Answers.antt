@@ -1,5 +1,4 @@
-use Rattle.std.proofs.Common.{◌≡◌, ap, sym, refl, ◌∙◌, ◌&&◌, List, Bool, true, false}
-use Rattle.wa_syntax.specs.declared.module.ValTy.{ValTy}
+use Rattle.std.proofs.Common.{◌≡◌, ap, sym, refl, ◌∙◌, ◌&&◌, Bool, true, false}
 use Rattle.wa_syntax.specs.Hosts.{same_types}
 use Rattle.wa_exec.proofs.Linking.{same_types-is}
 use Rattle.wa_exec.proofs.link.is_type.Goals as goal
