@@ -1,3 +1,5 @@
+pub mod Activations
+pub mod HandingOn
 pub mod Links
 pub mod Progress
 pub mod Stretch

@@ -1,11 +1,14 @@
 //! The open activations (section 4.2.10.2 of the WebAssembly Core Specification 1.0): their words, and where each caller goes on.
 
-ghost use Rattle.std.specs.Prelude.{◌≡◌, ◌==◌, ◌+◌, ◌-◌, OnOk, IfErr, vec_len};
+ghost use Rattle.std.specs.Prelude.{◌≡◌, ◌==◌, ◌+◌, ◌-◌, ◌<◌, ◌≤◌, ◌↔◌, ℕ, List, [], ◌∷◌, ◌++◌, drop, length, max, replicate, reverse, slice_index, OnOk, IfErr, IsErrOf, vec_len};
+ghost use Rattle.wa_region.specs.Frames.{top, with_word};
+ghost use Rattle.wa_exec.specs.Activations.{OnTop};
 ghost use Rattle.wa_exec.specs.Tells.{IsInside};
 
 use crate::halt::Halt;
 use std::alloc::Global;
 use wa_code::Body;
+use wa_operand::{read, write};
 use wa_region::Region;
 
 /// The most activations at a time.
@@ -32,6 +35,9 @@ pub(crate) struct Calls {
 /// Opens the frame of a function, whose first words are the top `params` operands of the frame below.
 fn open_frame(region: &mut Region, from: usize, params: u32, len: u32) -> Result<(), Halt>
     ensures inside { IfErr result IsInside }
+    ensures memory { IfErr result (λ halt. halt ≡ Halt.NoMemory) }
+    ensures first { region.old ≡ [] → OnOk result (region.new ≡ replicate (max len params) 0 ∷ []) }
+    ensures opens { (arguments stack : List ℕ) (below : List (List ℕ)) → OnTop region.old (from + params) (arguments ++ stack) below → length arguments ≡ params → OnOk result (region.new ≡ (reverse arguments ++ replicate (max len params - params) 0) ∷ region.old) }
 {
     let len = len.max(params);
     if region.depth() > 0
@@ -43,6 +49,26 @@ fn open_frame(region: &mut Region, from: usize, params: u32, len: u32) -> Result
             .map_err(|_| Halt::NoMemory);
     }
     region.enter(len).map_err(|_| Halt::NoMemory)
+}
+
+/// The word of the top frame at a place.
+fn top_word(region: &Region, at: usize) -> u64
+    ensures { result ≡ slice_index (top region.now) at }
+{
+    if region.depth() == 0 {
+        return 0;
+    }
+    read(region.top(), at)
+}
+
+/// Sets the word of the top frame at a place, if there is one.
+fn set_top(region: &mut Region, at: usize, word: u64)
+    ensures { region.new ≡ with_word region.old at word }
+{
+    if region.depth() == 0 {
+        return;
+    }
+    write(region.top_mut(), at, word);
 }
 
 impl Calls {
@@ -70,6 +96,9 @@ impl Calls {
     pub(crate) fn enter(&mut self, body: Body) -> Result<(), Halt>
         ensures ok { OnOk result (vec_len self.new.callers ≡ vec_len self.old.callers + 1) }
         ensures inside { IfErr result IsInside }
+        ensures deep { IsErrOf result Halt.TooDeep ↔ (40000 ≤ vec_len self.old.callers) }
+        ensures callers { body.params ≤ self.old.height → OnOk result (self.new.callers.items ≡ self.old.callers.items ++ (record { at = self.old.at; height = self.old.height - body.params }) ∷ []) }
+        ensures at { OnOk result ((self.new.at ≡ body.entry) × (self.new.height ≡ body.locals)) }
     {
         if self.callers.len() >= DEPTH {
             return Err(Halt::TooDeep);
@@ -106,27 +135,19 @@ impl Calls {
 
     /// Puts an operand on those of the last activation.
     pub(crate) fn give(&mut self, word: u64)
-        ensures { vec_len self.new.callers ≡ vec_len self.old.callers }
+        ensures count { vec_len self.new.callers ≡ vec_len self.old.callers }
+        ensures gives { (stack : List ℕ) (below : List (List ℕ)) → OnTop self.old.region self.old.height stack below → self.old.height < length (top self.old.region) → OnTop self.new.region self.new.height (word ∷ stack) below }
     {
-        if self.region.depth() > 0
-            && let Ok(at) = u32::try_from(self.height)
-            && self.height < self.region.top().len()
-        {
-            self.region.set(at, word);
-        }
+        set_top(&mut self.region, self.height, word);
         self.height = self.height.wrapping_add(1);
     }
 
     /// Takes the top operand of the last activation.
     pub(crate) fn take(&mut self) -> u64
-        ensures { vec_len self.new.callers ≡ vec_len self.old.callers }
+        ensures count { vec_len self.new.callers ≡ vec_len self.old.callers }
+        ensures takes { (word : ℕ) (stack : List ℕ) (below : List (List ℕ)) → OnTop self.old.region self.old.height (word ∷ stack) below → (result ≡ word) × OnTop self.new.region self.new.height stack below }
     {
         self.height = self.height.wrapping_sub(1);
-        if self.region.depth() > 0
-            && let Some(word) = self.region.top().get(self.height)
-        {
-            return *word;
-        }
-        0
+        top_word(&self.region, self.height)
     }
 }

@@ -8,11 +8,8 @@ mod halt;
 mod host;
 mod link;
 mod machine;
-mod memory;
-mod numeric;
 mod run;
 mod state;
-mod words;
 
 pub use halt::{Halt, StartFault};
 pub use host::Host;

@@ -6,8 +6,8 @@ ghost use Rattle.wa_exec.specs.Stretch.{IsPaid};
 use crate::activation::{Pause, Stretch, pages, run_activation};
 use crate::calls::Calls;
 use crate::link::Linked;
-use crate::words::low;
 use wa_code::{Code, PAGE, Table};
+use wa_operand::low;
 use wa_syntax::TrapKind;
 
 /// What a run changes.

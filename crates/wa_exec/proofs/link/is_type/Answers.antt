@@ -1,4 +1,4 @@
-use Rattle.std.proofs.Common.{◌≡◌, ap, sym, refl, ◌∙◌, ◌&&◌, Bool, true, false}
+use Rattle.std.proofs.Common.{◌≡◌, ap, sym, refl, ◌∙◌, ◌&&◌, Bool}
 use Rattle.wa_syntax.specs.Hosts.{same_types}
 use Rattle.wa_exec.proofs.Linking.{same_types-is}
 use Rattle.wa_exec.proofs.link.is_type.Goals as goal
