@@ -1,2 +1,16 @@
+pub mod Arms
+pub mod Blocks
+pub mod Branches
+pub mod Ends
 pub mod Frames
+pub mod Inside
+pub mod Jumps
 pub mod Linking
+pub mod Loop
+pub mod LoopArms
+pub mod Opcodes
+pub mod Operators
+pub mod Pieces
+pub mod Settle
+pub mod Steps
+pub mod Straight

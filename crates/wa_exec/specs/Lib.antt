@@ -1,6 +1,10 @@
 pub mod Activations
+pub mod Goes
 pub mod HandingOn
+pub mod Laid
 pub mod Links
+pub mod Machines
 pub mod Progress
+pub mod Reached
 pub mod Stretch
 pub mod Tells
