@@ -97,7 +97,7 @@ pub ruleset steps = (step-Equal, step-bound, step-bound_other, step-Never)
 
 -- ---- the word at a place
 
-slice-rest : (nodes : List Node) (place end : ℕ) → place ≤ end → take (end - place) (drop place nodes) ++ drop end nodes ≡ drop place nodes
+pub slice-rest : (nodes : List Node) (place end : ℕ) → place ≤ end → take (end - place) (drop place nodes) ++ drop end nodes ≡ drop place nodes
 slice-rest nodes place end h =
     let sum : place + (end - place) ≡ end = omega (arith, h) in
     let rest : drop (end - place) (drop place nodes) ≡ drop end nodes = drop-drop (end - place) place nodes ∙ ap (λ n. drop n nodes) sum in

@@ -1,2 +1,13 @@
+pub mod Below
+pub mod Bounds
+pub mod Deciding
+pub mod Edges
+pub mod Headers
+pub mod Kept
+pub mod Lineages
+pub mod Numbers
+pub mod Patterns
+pub mod Questions
+pub mod Spelled
 pub mod Subtypes
 pub mod Words

@@ -61,8 +61,11 @@ is_immutable_type flat _ = false
 -- ---- the rules
 
 -- `$OB`
+abbrev pub top_name : List ℕ
+top_name = 36 ∷ 79 ∷ 66 ∷ []
+
 abbrev pub top : BareTy
-top = Named (36 ∷ 79 ∷ 66 ∷ []) no_types
+top = Named top_name no_types
 
 -- at a place of two bound types: the types are equal, or neither is an immutable class
 abbrev pub MayStand : (BareTy → Bool) → BareTy → BareTy → Type 0

@@ -1,5 +1,5 @@
 -- Types with variables as lists of nodes, in which a node comes before those that it holds, and types put in place of the variables.
-use Rattle.std.specs.Prelude.{◌≡◌, ℕ, zero, suc, ◌+◌, max, ◌||◌, Bool, true, false, cond, nat_eq, List, [], ◌∷◌, ◌++◌, Option, Some, None, flat_map}
+use Rattle.std.specs.Prelude.{◌≡◌, ◌↔◌, ℕ, zero, suc, ◌+◌, max, ◌||◌, Bool, true, false, cond, nat_eq, List, [], ◌∷◌, ◌++◌, get_or, Option, Some, None, flat_map}
 use Rattle.sa_subtypes.specs.declared.pattern.Node.{Node}
 use Rattle.sa_subtypes.specs.declared.pattern.Node.TheVariants as node
 use Rattle.sa_subtypes.specs.declared.equations.Step.{Step}
@@ -114,3 +114,44 @@ IsSolved kept one other (Some solved) = ((values : Values) → AreWords values �
 abbrev pub IsJoined : (below ends begins above : List Node) → Option (List Node) → Type 0
 IsJoined below ends begins above None = (lower upper : Values) → AreWords lower → AreWords upper → put lower ends ≡ put upper begins → ⊥
 IsJoined below ends begins above (Some joined) = ((values : Values) → AreWords values → (lower : Values) × (upper : Values) × AreWords lower × AreWords upper × (put lower ends ≡ put upper begins) × (put values joined ≡ put lower below ++ put upper above)) × ((lower upper : Values) → AreWords lower → AreWords upper → put lower ends ≡ put upper begins → (values : Values) × AreWords values × (put values joined ≡ put lower below ++ put upper above))
+
+-- ---- the instances of a pair
+
+-- the nodes are what these become with words in place of the variables
+abbrev pub IsInstance : List Node → List Node → Type 0
+IsInstance nodes instance = (values : Values) × AreWords values × (put values nodes ≡ instance)
+
+-- two lists of nodes become the same with words in place of their variables
+pub record SameInstances (nodes others : List Node) : Type 0 where
+  pub same : (instance : List Node) → IsInstance nodes instance ↔ IsInstance others instance
+
+-- each variable stands for the one with the number that a list holds at its place
+abbrev pub named : List ℕ → Values
+named numbers k = node.Variable (get_or numbers k 0) ∷ []
+
+-- ---- a pair of types after another
+
+-- two pairs give a third one: the upper type of the first has the arguments with which the second begins
+pub record Follows (first second both : List Node) : Type 0 where
+  pub lower : List Node
+  pub name : List ℕ
+  pub count : ℕ
+  pub args : List Node
+  pub upper : List Node
+  pub word : IsWord lower
+  pub words : behind args count ≡ Some []
+  pub begins : first ≡ lower ++ node.Class name count ∷ args
+  pub ends : second ≡ node.List count ∷ args ++ upper
+  pub joins : both ≡ lower ++ upper
+
+-- what an instance of the one and an instance of the other give
+abbrev pub IsGiven : (first second both : List Node) → Type 0
+IsGiven first second both = (p : List Node) × (q : List Node) × IsInstance first p × IsInstance second q × Follows p q both
+
+abbrev pub IsInstanceOf : Option (List Node) → List Node → Type 0
+IsInstanceOf None instance = ⊥
+IsInstanceOf (Some nodes) instance = IsInstance nodes instance
+
+-- the instances of the answer are what the instances of two pairs give
+pub record IsComposed (first second : List Node) (composed : Option (List Node)) : Type 0 where
+  pub same : (instance : List Node) → IsInstanceOf composed instance ↔ IsGiven first second instance

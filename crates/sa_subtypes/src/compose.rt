@@ -1,9 +1,9 @@
 //! The pair that two pairs give, where the second begins at the type at which the first ends.
 
 ghost use Rattle.std.specs.Prelude.{IfOk, option_map};
-ghost use Rattle.sa_subtypes.specs.Words.{IsJoined};
+ghost use Rattle.sa_subtypes.specs.Words.{IsComposed, IsJoined};
 
-use crate::equations::{add_all, copied, free_number, later_of, shifted, solve};
+use crate::equations::{add_all, copied, free_number, later_of, shifted, solve, word_end};
 use crate::pair::Pairs;
 use crate::pattern::Node;
 use crate::work::Work;
@@ -29,24 +29,47 @@ pub(crate) fn compose(
     if one.kept || (one.below == 0 && one.above == 0) {
         return Ok(Some(second));
     }
-    let lower = pairs.nodes(first);
-    let upper = pairs.nodes(second);
-    if one.upper >= lower.len() || two.upper > upper.len() || two.upper == 0 {
-        return Err(NoMemory);
-    }
-    let composed = joined(
-        alloc,
-        work,
-        &lower[..one.upper],
-        &lower[one.upper + 1..],
-        &upper[1..two.upper],
-        &upper[two.upper..],
-    )?;
-    let Some(nodes) = composed else {
+    let Some(nodes) = composed(alloc, work, pairs.nodes(first), pairs.nodes(second))? else {
         return Ok(None);
     };
-    let variables = free_number(&nodes)? as usize;
-    Ok(Some(pairs.add(alloc, work, nodes, variables, two.head)?))
+    Ok(Some(pairs.add(alloc, work, nodes, two.head)?))
+}
+
+/// The nodes of the pair that two pairs give.
+#[tactic(auto, using(crate::proofs::Compositions::composes))]
+pub(crate) fn composed(
+    alloc: Global,
+    work: &mut Work,
+    first: &[Node],
+    second: &[Node],
+) -> Result<Option<Vec<Node>>, NoMemory>
+    ensures { IfOk result (λ nodes. IsComposed first.now second.now (option_map (λ v. v.items) nodes)) }
+{
+    let Some(one) = word_end(first, 0) else {
+        return Err(NoMemory);
+    };
+    let Some(two) = word_end(second, 0) else {
+        return Err(NoMemory);
+    };
+    if one == first.len() {
+        return Err(NoMemory);
+    }
+    if two == 0 {
+        return Err(NoMemory);
+    }
+    let Node::Class(_, above) = &first[one] else {
+        return Err(NoMemory);
+    };
+    let Node::List(below) = &second[0] else {
+        return Err(NoMemory);
+    };
+    if *above != *below {
+        return Ok(None);
+    }
+    let ends = &first[one + 1..];
+    let begins = &second[1..two];
+    let nodes = joined(alloc, work, &first[..one], ends, begins, &second[two..])?;
+    Ok(nodes)
 }
 
 /// The nodes `below` and then `above`, where `ends` and `begins` are made equal by words for their variables: those of

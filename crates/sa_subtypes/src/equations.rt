@@ -103,7 +103,7 @@ fn bound(alloc: Global, number: u32, nodes: &[Node], at: usize) -> Result<Step, 
 
 /// The first place at which the two lists differ, or at which one of them ends.
 #[tactic(auto, using(crate::proofs::Places::places))]
-fn difference(one: &[Node], other: &[Node]) -> usize
+pub(crate) fn difference(one: &[Node], other: &[Node]) -> usize
     ensures same { take result one.now ≡ take result other.now }
     ensures differ { Differ (drop result one.now) (drop result other.now) }
     ensures within { result ≤ length one.now }

@@ -1,89 +1,151 @@
 //! The names of classes and their numbers.
 
-use indexmap::IndexSet;
+ghost use Rattle.std.specs.Prelude.{◌≡◌, IfOk, map, slice_get};
+ghost use Rattle.sa_tree.specs.Types.{bare};
+ghost use Rattle.sa_subtypes.specs.Numbers.{AreNamesOf, HasNumbers, arity_of, kind_bare, kind_of_name, name_of, number_in, row_of};
+
 use sa_graph::word;
-use sa_tree::{Class, Kind, NoMemory, Ty};
+use sa_tree::{Class, Kind, Name, NoMemory, Ty};
 use std::alloc::Global;
+use std::collections::HashMap;
 
 /// A class by its number.
 #[derive(Clone, Copy)]
 pub(crate) struct Row {
-    /// The class's place among the classes of the program.
-    pub place: u32,
     pub kind: Kind,
     /// How many parameters it has.
     pub arity: usize,
 }
 
-/// The names of a program's classes, numbered in text order.
+/// The names of a program's classes. A class has the number of its place among them.
 #[derive(Drop)]
 pub(crate) struct Names {
-    names: IndexSet<Vec<u8>>,
+    places: HashMap<Vec<u8>, u32>,
+    names: Vec<Name>,
     rows: Vec<Row>,
 }
 
 impl Names {
     /// The names of these classes. Of two classes with one name the first counts.
-    pub(crate) fn make(alloc: Global, classes: &[Class]) -> Result<Names, NoMemory> {
-        let mut names = Names {
-            names: IndexSet::new(alloc),
-            rows: Vec::new(alloc),
-        };
-        for (place, class) in classes.iter().enumerate() {
-            names.add_class(alloc, place, class)?;
-        }
-        Ok(names)
+    pub(crate) fn make(alloc: Global, classes: &[Class]) -> Result<Names, NoMemory>
+        ensures { IfOk result (λ names. AreNamesOf classes.now names) }
+    {
+        let places = places_of(alloc, classes)?;
+        let names = names_of(alloc, classes)?;
+        let rows = rows_of(alloc, classes)?;
+        Ok(Names {
+            places,
+            names,
+            rows,
+        })
     }
 
-    fn add_class(&mut self, alloc: Global, place: usize, class: &Class) -> Result<(), NoMemory> {
-        let name = class.name.name.as_slice();
-        if self.names.contains(name) {
-            return Ok(());
-        }
-        self.names
-            .insert_full(Vec::from_slice(alloc, name)?)
-            .map_err(|_| NoMemory)?;
-        self.rows.push(Row {
-            place: word(place)?,
-            kind: class.kind,
-            arity: class.params.len(),
-        })?;
-        Ok(())
-    }
-
-    /// How many classes there are.
+    /// How many classes there are, those with one name among them.
     pub(crate) fn classes(&self) -> usize {
         self.rows.len()
     }
 
     /// The class with this number, if it is one.
-    pub(crate) fn row(&self, number: u32) -> Option<Row> {
+    pub(crate) fn row(&self, number: u32) -> Option<Row>
+        ensures { result ≡ slice_get self.now.rows.items number }
+    {
         self.rows.get(number as usize).copied()
     }
 
-    /// The number of a class.
-    pub(crate) fn class(&self, name: &[u8]) -> Option<u32> {
-        let number = u32::try_from(self.names.get_index_of(name)?).ok()?;
-        self.row(number)?;
-        Some(number)
+    /// The name of a class, which is empty where there is none.
+    pub(crate) fn name(&self, number: u32) -> &[u8]
+        ensures { result.now ≡ name_of self.now number }
+    {
+        match self.names.get(number as usize) {
+            Some(name) => name.as_slice(),
+            None => &[],
+        }
     }
 
-    /// The number of the class with this name, where it is the one at this place.
-    pub(crate) fn class_at(&self, name: &[u8], place: usize) -> Option<u32> {
-        let number = self.class(name)?;
-        if self.row(number)?.place as usize == place {
-            Some(number)
-        } else {
-            None
+    /// How many parameters a class has, or 0 where there is none.
+    pub(crate) fn arity(&self, number: u32) -> usize
+        ensures { result ≡ arity_of self.now number }
+    {
+        match self.rows.get(number as usize) {
+            Some(row) => row.arity,
+            None => 0,
         }
+    }
+
+    /// The number of a class.
+    pub(crate) fn class(&self, name: &[u8]) -> Option<u32>
+        ensures { result ≡ number_in self.now.places name.now }
+    {
+        self.places.get(name).copied()
+    }
+
+    /// The same by a name of the tree.
+    pub(crate) fn number(&self, name: &Name) -> Option<u32>
+        ensures { result ≡ number_in self.now.places name.now }
+    {
+        self.class(name.as_slice())
     }
 
     /// What kind of class the type is. A bound type is a reference class.
-    pub(crate) fn kind(&self, t: &Ty) -> Option<Kind> {
+    #[tactic(auto, using(sa_tree::proofs::BareTypes::bares))]
+    pub(crate) fn kind(&self, t: &Ty) -> Option<Kind>
+        ensures { result ≡ kind_bare self.now (bare t.now) }
+    {
         match t {
-            Ty::Named(name, _, _) => Some(self.row(self.class(name.as_slice())?)?.kind),
+            Ty::Named(name, _, _) => self.kind_named(name),
             Ty::Same(_) => None,
-            Ty::Rout(_, _, _) | Ty::Iter(_, _, _) => Some(Kind::Reference),
+            Ty::Rout(_, _, _) => Some(Kind::Reference),
+            Ty::Iter(_, _, _) => Some(Kind::Reference),
         }
     }
+
+    /// What kind of class the class of a name is.
+    fn kind_named(&self, name: &Name) -> Option<Kind>
+        ensures { result ≡ kind_of_name self.now name.now }
+    {
+        let number = self.number(name)?;
+        let row = self.row(number)?;
+        Some(row.kind)
+    }
+}
+
+/// The numbers of the classes by their names. Of two with one name the first counts.
+fn places_of(alloc: Global, classes: &[Class]) -> Result<HashMap<Vec<u8>, u32>, NoMemory>
+    ensures { IfOk result (λ table. HasNumbers table classes.now 0) }
+{
+    let mut places = HashMap::new(alloc);
+    let mut at = classes.len();
+    'classes: while at > 0 {
+        at -= 1;
+        let name = Vec::from_slice(alloc, classes[at].name.name.as_slice())?;
+        places.insert(name, word(at)?)?;
+    }
+    Ok(places)
+}
+
+/// The name of each class.
+#[tactic(auto, using(crate::proofs::Numbers::rows))]
+fn names_of(alloc: Global, classes: &[Class]) -> Result<Vec<Name>, NoMemory>
+    ensures { IfOk result (λ names. names.items ≡ map (λ c. c.name.name) classes.now) }
+{
+    let mut names = Vec::new(alloc);
+    for class in classes {
+        names.push(class.name.name.copy(alloc)?)?;
+    }
+    Ok(names)
+}
+
+/// What is known of each class.
+#[tactic(auto, using(crate::proofs::Numbers::rows))]
+fn rows_of(alloc: Global, classes: &[Class]) -> Result<Vec<Row>, NoMemory>
+    ensures { IfOk result (λ rows. rows.items ≡ map row_of classes.now) }
+{
+    let mut rows = Vec::new(alloc);
+    for class in classes {
+        rows.push(Row {
+            kind: class.kind,
+            arity: class.params.len(),
+        })?;
+    }
+    Ok(rows)
 }

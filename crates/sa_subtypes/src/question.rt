@@ -1,207 +1,314 @@
 //! Whether two types are an instance of a pair.
+//!
+//! The nodes of a pair are walked beside the arguments of the two types. A node that is no variable has to be that with
+//! which the type beside it begins, and a variable has to stand beside what it stands beside where it comes first. A
+//! question takes no memory, so what a variable stands beside first is looked for each time.
 
-use crate::pair::Shape;
-use crate::pattern::{Node, held};
-use sa_tree::{ModeTy, Ty};
+ghost use Rattle.std.specs.Prelude.{◌≡◌, drop, length, map, slice_get};
+ghost use Rattle.std.specs.Option.{option_map};
+ghost use Rattle.sa_subtypes.specs.Questions.{both_fit, class_fits, comparing, counts_up, first_fits, is_end, is_number, item_of, pair_fits, past, reached, seeking, stands, upper_fits, value_below, value_from, value_in, walk, walk_all, walk_arg, walk_args, walk_inside, walk_mode, walk_result};
+ghost use Rattle.sa_subtypes.specs.Spelled.{a_type};
+ghost use Rattle.sa_tree.specs.Types.{all_bare, all_bare_args, bare, bare_arg, option_bare};
+
+use crate::beside::{Beside, beside_at, is_count};
+use crate::part::{Part, is_same};
+use crate::pattern::Node;
+use crate::seek::{Found, first_in, search_types};
+use sa_tree::{Mode, ModeTy, Ty};
 use sqlite_items::Boxed;
 
-/// A pair, with the arguments of two types that may be an instance of it.
+/// The nodes of a pair behind the first, and those of the upper type's arguments, with the arguments of two types.
 #[derive(Clone, Copy)]
 pub(crate) struct Question<'a> {
     pub nodes: &'a [Node],
-    pub shape: Shape,
+    pub above: &'a [Node],
+    /// Whether the arguments of the pair's lower type are the variables 0, 1, 2 and so on.
+    pub plain: bool,
     pub lower: &'a [Ty],
     pub upper: &'a [Ty],
 }
 
-/// How far the nodes are compared: the next node, and how many variables have come.
-#[derive(Clone, Copy)]
-struct Place {
-    at: usize,
-    seen: u32,
+/// Whether there are words for the variables with which the pair is that of two types with these arguments.
+#[tactic(auto, using(crate::proofs::Comparing::pair_steps))]
+pub(crate) fn pair_fits(nodes: &[Node], lower: &[Ty], upper: &[Ty]) -> bool
+    ensures { result ≡ pair_fits (map bare lower.now) (map bare upper.now) nodes.now }
+{
+    match nodes.split_first() {
+        Some((first, rest)) => first_fits(first, rest, lower, upper),
+        None => false,
+    }
 }
 
-/// What a search for the type of a variable has found.
-#[derive(Clone, Copy)]
-enum Found<'a> {
-    /// The type.
-    Type(&'a Ty),
-    /// Nothing up to this node.
-    Behind(usize),
-    /// The types aren't of the pair's form.
-    Nothing,
+/// Whether the first node is the list of so many arguments, and the nodes behind it fit.
+#[tactic(auto, using(crate::proofs::Comparing::counts))]
+fn first_fits(first: &Node, nodes: &[Node], lower: &[Ty], upper: &[Ty]) -> bool
+    ensures { result ≡ first_fits (map bare lower.now) (map bare upper.now) nodes.now first.now }
+{
+    match first {
+        Node::List(count) => {
+            if !is_count(*count, lower.len()) {
+                return false;
+            }
+            arguments_fit(nodes, lower, upper)
+        }
+        _ => false,
+    }
+}
+
+/// Whether the nodes are the arguments of the lower type and then the upper type.
+#[tactic(auto, using(crate::proofs::Comparing::pair_steps))]
+fn arguments_fit(nodes: &[Node], lower: &[Ty], upper: &[Ty]) -> bool
+    ensures { result ≡ upper_fits (map bare lower.now) (map bare upper.now) nodes.now (walk_all (seeking None) (all_bare lower.now) nodes.now) }
+{
+    match search_types(nodes, 0, None, lower) {
+        Found::Behind(end) => upper_fits(nodes, end, lower, upper),
+        Found::Here(_) => false,
+        Found::Nothing => false,
+    }
+}
+
+/// Whether the upper type is at a place, and the arguments of both fit.
+#[tactic(auto, using(crate::proofs::Comparing::pair_steps))]
+fn upper_fits(nodes: &[Node], end: usize, lower: &[Ty], upper: &[Ty]) -> bool
+    ensures { result ≡ upper_fits (map bare lower.now) (map bare upper.now) nodes.now (past (drop end nodes.now)) }
+{
+    if end >= nodes.len() {
+        return false;
+    }
+    class_fits(&nodes[end], nodes, &nodes[end + 1..], lower, upper)
+}
+
+#[tactic(auto, using(crate::proofs::Comparing::counts))]
+fn class_fits(node: &Node, nodes: &[Node], above: &[Node], lower: &[Ty], upper: &[Ty]) -> bool
+    ensures { result ≡ class_fits (map bare lower.now) (map bare upper.now) nodes.now above.now node.now }
+{
+    match node {
+        Node::Class(_, count) => {
+            if !is_count(*count, upper.len()) {
+                return false;
+            }
+            both_fit(nodes, above, lower, upper)
+        }
+        _ => false,
+    }
+}
+
+#[tactic(auto, using(crate::proofs::Comparing::counts))]
+fn both_fit(nodes: &[Node], above: &[Node], lower: &[Ty], upper: &[Ty]) -> bool
+    ensures { result ≡ both_fit (value_from (counts_up 0 (length (map bare lower.now)) nodes.now) (map bare lower.now) (map bare upper.now) nodes.now above.now) (map bare lower.now) (map bare upper.now) nodes.now above.now }
+{
+    let plain = counts_up(nodes, lower.len());
+    let question = Question {
+        nodes,
+        above,
+        plain,
+        lower,
+        upper,
+    };
+    question.holds()
+}
+
+/// Whether nodes begin with the variables 0, 1, 2 and so on, that many.
+#[tactic(auto, using(crate::proofs::Comparing::counting))]
+fn counts_up(nodes: &[Node], count: usize) -> bool
+    ensures { result ≡ counts_up 0 count nodes.now }
+{
+    for i in 0..count {
+        if i >= nodes.len() {
+            return false;
+        }
+        if !is_number(&nodes[i], i) {
+            return false;
+        }
+    }
+    true
+}
+
+fn is_number(node: &Node, number: usize) -> bool
+    ensures { result ≡ is_number number node.now }
+{
+    match node {
+        Node::Variable(other) => *other as usize == number,
+        _ => false,
+    }
 }
 
 impl<'a> Question<'a> {
-    /// Whether there are types for the variables with which the pair is these two types.
-    pub(crate) fn is_instance(self) -> bool {
-        if self.lower.len() != self.shape.below || self.upper.len() != self.shape.above {
-            return false;
+    /// Whether all nodes are those of the types, with what stands for the variables.
+    #[tactic(auto, using(crate::proofs::Comparing::ends))]
+    fn holds(&self) -> bool
+        ensures { result ≡ both_fit (value_in self.now) (map bare self.now.lower.now) (map bare self.now.upper.now) self.now.nodes.now self.now.above.now }
+    {
+        match self.types_fit(self.nodes, 0, self.lower) {
+            Some(_) => self.upper_holds(),
+            None => false,
         }
-        let Some(place) = self.lower_fits() else {
-            return false;
-        };
-        let at = self.shape.upper.saturating_add(1);
-        self.types_fit(Place { at, ..place }, self.upper).is_some()
     }
 
-    fn lower_fits(self) -> Option<Place> {
-        if self.shape.plain {
-            let seen = u32::try_from(self.shape.below).ok()?;
-            return Some(Place { at: 0, seen });
+    #[tactic(auto, using(crate::proofs::Comparing::ends))]
+    fn upper_holds(&self) -> bool
+        ensures { result ≡ is_end (walk_all (comparing (value_in self.now)) (all_bare self.now.upper.now) self.now.above.now) }
+    {
+        match self.types_fit(self.above, 0, self.upper) {
+            Some(end) => is_at_end(self.above, end),
+            None => false,
         }
-        self.types_fit(Place { at: 1, seen: 0 }, self.lower)
     }
 
-    /// Compares the nodes from a place on with a type. A variable that comes first fits, and another one fits the type
-    /// that it stands for.
+    /// Compares the nodes from a place on with a type, and gives the place behind them.
+    #[tactic(auto, using(crate::proofs::Comparing::steps))]
     #[cycle(fit)]
-    fn fits(self, place: Place, ty: &Ty) -> Option<Place> {
-        let at = place.at.saturating_add(1);
-        let next = Place { at, ..place };
-        match (self.nodes.get(place.at)?, ty) {
-            (Node::Variable(number), _) => self.variable_fits(next, *number, ty),
-            (Node::Class(own, count), Ty::Named(name, args, _)) => {
-                if *count as usize != args.len() || *own != *name {
-                    return None;
-                }
-                self.types_fit(next, args.as_slice())
-            }
-            (Node::Routine(count), Ty::Rout(args, result, _)) => {
-                if held(args.as_slice(), result) != *count as usize {
-                    return None;
-                }
-                let place = self.args_fit(next, args.as_slice())?;
-                self.result_fits(place, result)
-            }
-            (Node::Iter(count), Ty::Iter(args, result, _)) => {
-                if held(args.as_slice(), result) != *count as usize {
-                    return None;
-                }
-                let place = self.args_fit(next, args.as_slice())?;
-                self.result_fits(place, result)
-            }
-            _ => None,
-        }
-    }
-
-    #[cycle(fit)]
-    fn types_fit(self, place: Place, types: &[Ty]) -> Option<Place> {
-        let mut place = place;
-        for ty in types {
-            place = self.fits(place, ty)?;
-        }
-        Some(place)
-    }
-
-    #[cycle(fit)]
-    fn args_fit(self, place: Place, args: &[ModeTy]) -> Option<Place> {
-        let mut place = place;
-        for arg in args {
-            if self.nodes.get(place.at) != Some(&Node::Passed(arg.mode)) {
-                return None;
-            }
-            let at = place.at.saturating_add(1);
-            place = self.fits(Place { at, ..place }, &arg.ty)?;
-        }
-        Some(place)
-    }
-
-    #[cycle(fit)]
-    fn result_fits(self, place: Place, of: &Option<Boxed<Ty>>) -> Option<Place> {
-        match of {
-            None => Some(place),
-            Some(ty) => self.fits(place, ty.get()),
-        }
-    }
-
-    fn variable_fits(self, next: Place, number: u32, ty: &Ty) -> Option<Place> {
-        if number >= next.seen {
-            let seen = next.seen.saturating_add(1);
-            return Some(Place { seen, ..next });
-        }
-        if self.value(number)? == ty {
-            Some(next)
-        } else {
-            None
-        }
-    }
-
-    /// The type that a variable stands for: that at which it comes first.
-    fn value(self, number: u32) -> Option<&'a Ty> {
-        if self.shape.plain && (number as usize) < self.shape.below {
-            return self.lower.get(number as usize);
-        }
-        if let Found::Type(ty) = self.search_types(1, number, self.lower) {
-            return Some(ty);
-        }
-        match self.search_types(self.shape.upper.saturating_add(1), number, self.upper) {
-            Found::Type(ty) => Some(ty),
-            _ => None,
-        }
-    }
-
-    /// Searches the nodes from a place on, beside a type, for the first place of a variable.
-    #[cycle(search)]
-    fn search(self, at: usize, number: u32, ty: &'a Ty) -> Found<'a> {
-        let next = at.saturating_add(1);
-        match (self.nodes.get(at), ty) {
-            (Some(Node::Variable(other)), _) => {
-                if *other == number {
-                    Found::Type(ty)
+    fn fits(&self, nodes: &[Node], at: usize, ty: &Ty) -> Option<usize>
+        ensures { reached nodes.now result ≡ walk (comparing (value_in self.now)) (bare ty.now) (drop at nodes.now) }
+    {
+        match beside_at(nodes, at, Part::Typed(ty)) {
+            Beside::Variable(number, next) => {
+                if self.stands(number, Part::Typed(ty)) {
+                    Some(next)
                 } else {
-                    Found::Behind(next)
+                    None
                 }
             }
-            (Some(Node::Class(_, _)), Ty::Named(_, args, _)) => {
-                self.search_types(next, number, args.as_slice())
-            }
-            (Some(Node::Routine(_)), Ty::Rout(args, result, _)) => {
-                match self.search_args(next, number, args.as_slice()) {
-                    Found::Behind(next) => self.search_result(next, number, result),
-                    found => found,
-                }
-            }
-            (Some(Node::Iter(_)), Ty::Iter(args, result, _)) => {
-                match self.search_args(next, number, args.as_slice()) {
-                    Found::Behind(next) => self.search_result(next, number, result),
-                    found => found,
-                }
-            }
-            _ => Found::Nothing,
+            Beside::Head(next) => self.inside_fits(nodes, next, ty),
+            Beside::Another => None,
         }
     }
 
-    #[cycle(search)]
-    fn search_types(self, at: usize, number: u32, types: &'a [Ty]) -> Found<'a> {
-        let mut at = at;
+    /// The same with what a type holds.
+    #[tactic(auto, using(crate::proofs::Comparing::insides))]
+    #[cycle(fit)]
+    fn inside_fits(&self, nodes: &[Node], at: usize, ty: &Ty) -> Option<usize>
+        ensures { reached nodes.now result ≡ walk_inside (comparing (value_in self.now)) (bare ty.now) (drop at nodes.now) }
+    {
+        match ty {
+            Ty::Named(_, args, _) => self.types_fit(nodes, at, args.as_slice()),
+            Ty::Same(_) => Some(at),
+            Ty::Rout(args, result, _) => {
+                let next = self.args_fit(nodes, at, args.as_slice())?;
+                self.result_fits(nodes, next, result)
+            }
+            Ty::Iter(args, result, _) => {
+                let next = self.args_fit(nodes, at, args.as_slice())?;
+                self.result_fits(nodes, next, result)
+            }
+        }
+    }
+
+    /// The same with several types.
+    #[tactic(auto, using(crate::proofs::Comparing::loops))]
+    #[cycle(fit)]
+    fn types_fit(&self, nodes: &[Node], at: usize, types: &[Ty]) -> Option<usize>
+        ensures { reached nodes.now result ≡ walk_all (comparing (value_in self.now)) (all_bare types.now) (drop at nodes.now) }
+    {
+        let mut next = at;
         for ty in types {
-            match self.search(at, number, ty) {
-                Found::Behind(next) => at = next,
-                found => return found,
-            }
+            next = self.fits(nodes, next, ty)?;
         }
-        Found::Behind(at)
+        Some(next)
     }
 
-    #[cycle(search)]
-    fn search_args(self, at: usize, number: u32, args: &'a [ModeTy]) -> Found<'a> {
-        let mut at = at;
+    /// The same with the arguments of a bound type.
+    #[tactic(auto, using(crate::proofs::Comparing::loops))]
+    #[cycle(fit)]
+    fn args_fit(&self, nodes: &[Node], at: usize, args: &[ModeTy]) -> Option<usize>
+        ensures { reached nodes.now result ≡ walk_args (comparing (value_in self.now)) (all_bare_args args.now) (drop at nodes.now) }
+    {
+        let mut next = at;
         for arg in args {
-            // A mode stands before each argument's type.
-            match self.search(at.saturating_add(1), number, &arg.ty) {
-                Found::Behind(next) => at = next,
-                found => return found,
-            }
+            next = self.arg_fits(nodes, next, arg)?;
         }
-        Found::Behind(at)
+        Some(next)
     }
 
-    #[cycle(search)]
-    fn search_result(self, at: usize, number: u32, of: &'a Option<Boxed<Ty>>) -> Found<'a> {
-        match of {
-            None => Found::Behind(at),
-            Some(ty) => self.search(at, number, ty.get()),
+    /// The same with an argument: a mode stands before its type.
+    #[tactic(auto, using(crate::proofs::Comparing::insides))]
+    #[cycle(fit)]
+    fn arg_fits(&self, nodes: &[Node], at: usize, arg: &ModeTy) -> Option<usize>
+        ensures { reached nodes.now result ≡ walk_arg (comparing (value_in self.now)) (bare_arg arg.now) (drop at nodes.now) }
+    {
+        let next = self.mode_fits(nodes, at, arg.mode)?;
+        self.fits(nodes, next, &arg.ty)
+    }
+
+    #[tactic(auto, using(crate::proofs::Comparing::steps))]
+    fn mode_fits(&self, nodes: &[Node], at: usize, mode: Mode) -> Option<usize>
+        ensures { reached nodes.now result ≡ walk_mode (comparing (value_in self.now)) mode (drop at nodes.now) }
+    {
+        match beside_at(nodes, at, Part::Passed(mode)) {
+            Beside::Variable(number, next) => {
+                if self.stands(number, Part::Passed(mode)) {
+                    Some(next)
+                } else {
+                    None
+                }
+            }
+            Beside::Head(next) => Some(next),
+            Beside::Another => None,
         }
     }
+
+    #[tactic(auto, using(crate::proofs::Comparing::insides))]
+    #[cycle(fit)]
+    fn result_fits(&self, nodes: &[Node], at: usize, of: &Option<Boxed<Ty>>) -> Option<usize>
+        ensures { reached nodes.now result ≡ walk_result (comparing (value_in self.now)) (option_bare of.now) (drop at nodes.now) }
+    {
+        match of {
+            None => Some(at),
+            Some(ty) => self.fits(nodes, at, ty.get()),
+        }
+    }
+
+    /// Whether this is what stands for a variable.
+    #[tactic(auto, using(crate::proofs::Comparing::values))]
+    fn stands(&self, number: u32, part: Part<'_>) -> bool
+        ensures { result ≡ stands (value_in self.now number) (item_of part.entry) }
+    {
+        match self.value(number) {
+            Some(own) => is_same(own, part),
+            None => false,
+        }
+    }
+
+    /// What stands for a variable: what stands beside it where it comes first.
+    #[tactic(auto, using(crate::proofs::Comparing::values))]
+    fn value(&self, number: u32) -> Option<Part<'a>>
+        ensures { option_map item_of result ≡ value_in self.now number }
+    {
+        match self.value_below(number) {
+            Some(part) => Some(part),
+            None => first_in(number, self.upper, self.above),
+        }
+    }
+
+    #[tactic(auto, using(crate::proofs::Comparing::values))]
+    fn value_below(&self, number: u32) -> Option<Part<'a>>
+        ensures { option_map item_of result ≡ value_below self.now.plain (map bare self.now.lower.now) self.now.nodes.now number }
+    {
+        if self.plain {
+            return type_at(self.lower, number);
+        }
+        first_in(number, self.lower, self.nodes)
+    }
+}
+
+/// Whether a place is behind all nodes.
+#[tactic(auto, using(crate::proofs::Comparing::ends))]
+fn is_at_end(nodes: &[Node], place: usize) -> bool
+    ensures { result ≡ is_end (past (drop place nodes.now)) }
+{
+    if place < nodes.len() {
+        return false;
+    }
+    true
+}
+
+#[tactic(auto, using(crate::proofs::Comparing::values))]
+fn type_at<'a>(types: &'a [Ty], number: u32) -> Option<Part<'a>>
+    ensures { option_map item_of result ≡ option_map a_type (slice_get (map bare types.now) number) }
+{
+    let place = number as usize;
+    if place < types.len() {
+        return Some(Part::Typed(&types[place]));
+    }
+    None
 }

@@ -1,0 +1,79 @@
+-- What the tables answer: whether declared edges lead from a class with its arguments to another.
+use Rattle.std.specs.Prelude.{ℕ, zero, suc, ◌-◌, ◌||◌, ◌&&◌, not, Bool, true, false, nat_eq, List, [], ◌∷◌, length, Option, None, Some, slice_get}
+use Rattle.std.specs.Option.{option_map, option_map_or}
+use Rattle.sa_tree.specs.Types.{BareTy, Named, BareTys, no_types, type, bare_tys}
+use Rattle.sa_tree.specs.TypeEquality.{same_types}
+use Rattle.sa_subtypes.specs.declared.lineage.Above.{Above}
+use Rattle.sa_subtypes.specs.declared.links.Link.{Link}
+use Rattle.sa_subtypes.specs.Lineages.{Tables, depth_at}
+use Rattle.sa_subtypes.specs.Questions.{pair_fits}
+
+-- ---- the trees
+
+-- the parent of a class, if it has one
+abbrev pub parent_of : Option Link → Option ℕ
+parent_of None = None
+parent_of (Some link) = option_map (λ (number : ℕ). link.parent) link.edge
+
+-- whether the second class is the first or above it in its tree, at most so many classes up
+unfoldable pub line_in : List Link → ℕ → ℕ → ℕ → Bool
+line_in links zero lower upper = nat_eq lower upper
+line_in links (suc n) lower upper = nat_eq lower upper || option_map_or (λ parent. line_in links n parent upper) (parent_of (slice_get links lower)) false
+
+abbrev pub in_line : List Link → ℕ → ℕ → Bool
+in_line links lower upper = line_in links (depth_at links lower) lower upper
+
+-- ---- the lists
+
+-- whether a number that is tried so is among so many from one on
+unfoldable pub some_place : (ℕ → Bool) → ℕ → ℕ → Bool
+some_place test from zero = false
+some_place test from (suc n) = test from || some_place test (suc from) n
+
+module _ (w : Tables) where
+  -- whether a class is above another in its tree, at the same arguments
+  unfoldable pub in_tree : ℕ → List BareTy → ℕ → List BareTy → Bool
+  in_tree lower args upper above = not (nat_eq lower upper) && nat_eq (length args) (w.arity lower) && same_types (bare_tys args) (bare_tys above) && in_line w.links lower upper
+
+  -- whether a pair leads from a class with these arguments to a class, or to one below it in its tree
+  unfoldable pub is_by : Above → List BareTy → ℕ → List BareTy → Bool
+  is_by entry args upper above = (nat_eq entry.upper upper || nat_eq (length above) (w.arity upper)) && in_line w.links entry.upper upper && pair_fits args above (w.nodes entry.pair)
+
+  abbrev pub entry_by : ℕ → List BareTy → ℕ → List BareTy → Option Above → Bool
+  entry_by root args upper above None = false
+  entry_by root args upper above (Some entry) = nat_eq entry.class root && is_by entry args upper above
+
+  -- the same of the pair at a place
+  unfoldable pub place_by : ℕ → List BareTy → ℕ → List BareTy → ℕ → Bool
+  place_by root args upper above place = entry_by root args upper above (slice_get w.above place)
+
+  -- whether a pair of a root's list does
+  abbrev pub range_by : ℕ → List BareTy → ℕ → List BareTy → Option (ℕ × ℕ) → Bool
+  range_by root args upper above None = false
+  range_by root args upper above (Some range) = some_place (place_by root args upper above) range.0 (range.1 - range.0)
+
+  unfoldable pub list_by : ℕ → List BareTy → ℕ → List BareTy → Bool
+  list_by root args upper above = range_by root args upper above (slice_get w.lists root)
+
+  -- whether a pair of the list of the class's root does, where the class is the root or has as many arguments as parameters
+  abbrev pub link_by : ℕ → List BareTy → ℕ → List BareTy → Option Link → Bool
+  link_by lower args upper above None = false
+  link_by lower args upper above (Some link) = (nat_eq link.root lower || nat_eq (length args) (w.arity lower)) && list_by link.root args upper above
+
+  unfoldable pub in_list : ℕ → List BareTy → ℕ → List BareTy → Bool
+  in_list lower args upper above = link_by lower args upper above (slice_get w.links lower)
+
+  -- whether edges lead from a class with these arguments to another
+  unfoldable pub found_in : ℕ → List BareTy → ℕ → List BareTy → Bool
+  found_in lower args upper above = in_tree lower args upper above || in_list lower args upper above
+
+  -- the same where a name may be that of no class
+  abbrev pub found_between : Option ℕ → List BareTy → Option ℕ → List BareTy → Bool
+  found_between (Some lower) args (Some upper) above = found_in lower args upper above
+  found_between (Some lower) args None above = false
+  found_between None args upper above = false
+
+-- the types in order
+abbrev pub types_in : BareTys → List BareTy
+types_in no_types = []
+types_in (type t more) = t ∷ types_in more

@@ -1,0 +1,54 @@
+//! The subtype relation of a program: its declared edges at each instance, `$OB` above every type, and the rule for bound
+//! types.
+
+ghost use Rattle.std.specs.Prelude.{◌≡◌};
+ghost use Rattle.sa_subtypes.specs.Below.{below, immutable_in};
+ghost use Rattle.sa_subtypes.specs.Numbers.{kind_bare};
+ghost use Rattle.sa_subtypes.specs.Subtypes.{is_immutable_kind};
+ghost use Rattle.sa_tree.specs.Types.{bare};
+
+use crate::edges::Edges;
+use sa_tree::{Kind, Ty};
+
+impl Edges {
+    /// The place among the program's classes of the class with this name.
+    pub fn class_place(&self, name: &[u8]) -> Option<u32> {
+        self.lineage.names.class(name)
+    }
+
+    /// What kind of class a type is. A bound type is a reference class; SAME and a name that is no class have none.
+    pub fn kind(&self, t: &Ty) -> Option<Kind>
+        ensures { result ≡ kind_bare self.now.lineage.names (bare t.now) }
+    {
+        self.lineage.names.kind(t)
+    }
+
+    /// Whether a type is an immutable class.
+    pub fn is_immutable(&self, t: &Ty) -> bool
+        ensures { result ≡ immutable_in self.now (bare t.now) }
+    {
+        match self.kind(t) {
+            None => false,
+            Some(kind) => is_immutable_kind(kind),
+        }
+    }
+
+    /// Whether `s` is a subtype of `t`. It takes no memory.
+    pub fn is_sub(&self, s: &Ty, t: &Ty) -> bool
+        ensures { result ≡ below self.now s.now t.now }
+    {
+        self.holds(s, t, false)
+    }
+}
+
+/// Whether it is the kind of the immutable classes.
+fn is_immutable_kind(kind: Kind) -> bool
+    ensures { result ≡ is_immutable_kind kind }
+{
+    match kind {
+        Kind::Reference => false,
+        Kind::Immutable => true,
+        Kind::Abstract => false,
+        Kind::Partial => false,
+    }
+}
