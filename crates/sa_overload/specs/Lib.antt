@@ -1,0 +1,4 @@
+pub mod Candidates
+pub mod Choice
+pub mod Fit
+pub mod Order

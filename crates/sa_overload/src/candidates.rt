@@ -1,6 +1,8 @@
 //! The candidates of a call by their numbers: which fit, and which is more specific.
 
-ghost use Rattle.std.specs.Prelude.{◌≡◌, ◌≤◌, ◌<◌, IfSome, length};
+ghost use Rattle.std.specs.Prelude.{◌≡◌, ℕ, ◌≤◌, ◌<◌, IsTrue, IsFalse, IfSome, IsNone, length};
+ghost use Rattle.sa_overload.specs.Candidates.{call_in};
+ghost use Rattle.sa_overload.specs.Choice.{call_of, fits_at, is_before};
 
 use crate::fit::{ArgIn, Cand, fits};
 use crate::order::is_as_specific;
@@ -22,7 +24,7 @@ impl<'a> Candidates<'a> {
         wants: bool,
         edges: &'a Edges,
     ) -> Candidates<'a>
-        ensures { result.cands.now ≡ cands.now }
+        ensures { call_in result ≡ call_of cands.now args.now wants edges.now }
     {
         Candidates {
             cands,
@@ -40,7 +42,9 @@ impl<'a> Candidates<'a> {
     }
 
     /// Whether there is a candidate of this number, and it fits.
-    pub fn fits(&self, k: usize) -> bool {
+    pub fn fits(&self, k: usize) -> bool
+        ensures { result ≡ fits_at (call_in self.now) k }
+    {
         match self.cands.get(k) {
             None => false,
             Some(cand) => fits(cand, self.args, self.wants, self.edges),
@@ -48,7 +52,9 @@ impl<'a> Candidates<'a> {
     }
 
     /// Whether a candidate is at least as specific as another one.
-    pub fn is_before(&self, k: usize, j: usize) -> bool {
+    pub fn is_before(&self, k: usize, j: usize) -> bool
+        ensures { result ≡ is_before (call_in self.now) k j }
+    {
         match (self.cands.get(k), self.cands.get(j)) {
             (Some(one), Some(other)) => is_as_specific(one, other, self.edges),
             _ => false,
@@ -57,8 +63,11 @@ impl<'a> Candidates<'a> {
 
     /// The first candidate from a place on that fits.
     pub fn next_fit(&self, from: usize) -> Option<usize>
+        ensures found { IfSome result (λ k. IsTrue (fits_at (call_in self.now) k)) }
         ensures order { IfSome result (λ k. from ≤ k) }
         ensures within { IfSome result (λ k. k < length self.now.cands.now) }
+        ensures first { IfSome result (λ k. (j : ℕ) → from ≤ j → j < k → IsFalse (fits_at (call_in self.now) j)) }
+        ensures none { IsNone result → (j : ℕ) → from ≤ j → IsFalse (fits_at (call_in self.now) j) }
     {
         for k in from..self.len() {
             if self.fits(k) {

@@ -1,6 +1,7 @@
 //! The candidate that a call chooses.
 
-ghost use Rattle.std.specs.Prelude.{◌<◌, length};
+ghost use Rattle.std.specs.Prelude.{◌≡◌, ℕ, ◌<◌, ◌↔◌, length};
+ghost use Rattle.sa_overload.specs.Choice.{Chosen, NamesPair, NoneChosen, NoneFit, call_of};
 
 use crate::candidates::Candidates;
 use crate::fit::{ArgIn, Cand};
@@ -28,6 +29,9 @@ pub enum Choice {
 /// compared.
 pub fn choose(cands: &[Cand], args: &[ArgIn], wants: bool, edges: &Edges) -> Choice
     requires few { length cands.now < 4294967295 }
+    ensures one { (k : ℕ) → (result ≡ Choice.One k) ↔ Chosen (call_of cands.now args.now wants edges.now) k }
+    ensures none { (result ≡ Choice.NoneFits) ↔ NoneFit (call_of cands.now args.now wants edges.now) }
+    ensures several { (i j : ℕ) → result ≡ Choice.Several i j → NamesPair (call_of cands.now args.now wants edges.now) i j }
 {
     let call = Candidates::new(cands, args, wants, edges);
     let Some(first) = call.next_fit(0) else {

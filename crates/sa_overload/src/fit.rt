@@ -1,6 +1,10 @@
 //! Which candidates of a call fit it: number, modes and presence of a result agree, and each argument's type goes to the
 //! type of its parameter.
 
+ghost use Rattle.std.specs.Prelude.{◌≡◌};
+ghost use Rattle.std.specs.Cmp.Lexicographic.{pointwise};
+ghost use Rattle.sa_overload.specs.Fit.{is_fit, is_written_alike, takes, goes_to};
+
 use sa_subtypes::Edges;
 use sa_tree::{Mode, ModeTy, Ty};
 use sqlite_items::Items;
@@ -24,12 +28,17 @@ pub struct ArgIn {
 }
 
 /// Whether a candidate fits a call with these arguments, whose place wants a result or wants none.
-pub fn fits(cand: &Cand, args: &[ArgIn], wants: bool, edges: &Edges) -> bool {
+pub fn fits(cand: &Cand, args: &[ArgIn], wants: bool, edges: &Edges) -> bool
+    ensures { result ≡ is_fit edges.now args.now wants cand.now }
+{
     cand.result.is_some() == wants && take_all(cand.args.as_slice(), args, edges)
 }
 
 /// Whether there are as many arguments as parameters, and each parameter takes its argument.
-fn take_all(params: &[ModeTy], args: &[ArgIn], edges: &Edges) -> bool {
+#[tactic(auto, using(crate::proofs::Pairs::pairs))]
+fn take_all(params: &[ModeTy], args: &[ArgIn], edges: &Edges) -> bool
+    ensures { result ≡ pointwise (takes edges.now) params.now args.now }
+{
     if params.len() != args.len() {
         return false;
     }
@@ -42,7 +51,9 @@ fn take_all(params: &[ModeTy], args: &[ArgIn], edges: &Edges) -> bool {
 }
 
 /// Whether a parameter takes an argument, by its mode and its type.
-fn takes(param: &ModeTy, arg: &ArgIn, edges: &Edges) -> bool {
+fn takes(param: &ModeTy, arg: &ArgIn, edges: &Edges) -> bool
+    ensures { result ≡ takes edges.now param.now arg.now }
+{
     if !arg.left && !is_written_alike(arg.mode, param.mode) {
         return false;
     }
@@ -53,7 +64,9 @@ fn takes(param: &ModeTy, arg: &ArgIn, edges: &Edges) -> bool {
 }
 
 /// Whether a parameter takes an argument of this type.
-fn takes_type(param: &ModeTy, given: &Ty, edges: &Edges) -> bool {
+fn takes_type(param: &ModeTy, given: &Ty, edges: &Edges) -> bool
+    ensures { result ≡ goes_to edges.now param.now.mode param.now.ty given.now }
+{
     match param.mode {
         Mode::In | Mode::Once => edges.is_sub(given, &param.ty),
         Mode::Inout => *given == param.ty,
@@ -62,7 +75,9 @@ fn takes_type(param: &ModeTy, given: &Ty, edges: &Edges) -> bool {
 }
 
 /// Whether arguments of the two modes are written alike at a call, where nothing stands before those of `in` and `once`.
-fn is_written_alike(one: Mode, other: Mode) -> bool {
+fn is_written_alike(one: Mode, other: Mode) -> bool
+    ensures { result ≡ is_written_alike one other }
+{
     match one {
         Mode::In | Mode::Once => other == Mode::In || other == Mode::Once,
         Mode::Out | Mode::Inout => one == other,
