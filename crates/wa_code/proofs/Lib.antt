@@ -1,3 +1,4 @@
+pub mod Lays
 pub mod Overwritten
 pub mod Places
 pub mod Segments
