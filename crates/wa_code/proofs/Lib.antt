@@ -1,4 +1,12 @@
+pub mod Bodies
+pub mod Coded
+pub mod Effects
+pub mod Grown
 pub mod Lays
+pub mod Linking
 pub mod Overwritten
+pub mod Placed
 pub mod Places
+pub mod Resolved
+pub mod Rows
 pub mod Segments

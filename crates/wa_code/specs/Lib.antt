@@ -1,3 +1,4 @@
+pub mod Codes
 pub mod Drafts
 pub mod Laid
 pub mod Places
