@@ -5,6 +5,7 @@
 
 mod code;
 mod draft;
+mod flat;
 mod functions;
 mod instance;
 mod labels;
