@@ -1,7 +1,6 @@
 pub mod Activations
 pub mod Goes
 pub mod HandingOn
-pub mod Laid
 pub mod Links
 pub mod Machines
 pub mod Progress
