@@ -1,9 +1,11 @@
 pub mod Bodies
 pub mod Coded
+pub mod Contents
 pub mod Effects
 pub mod Grown
 pub mod Lays
 pub mod Linking
+pub mod Numbered
 pub mod Overwritten
 pub mod Placed
 pub mod Places

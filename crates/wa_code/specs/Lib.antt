@@ -1,4 +1,5 @@
 pub mod Codes
+pub mod Contents
 pub mod Drafts
 pub mod Laid
 pub mod Places

@@ -13,6 +13,7 @@ mod layout;
 mod number;
 mod op;
 mod table;
+mod types;
 
 pub use code::{Body, Code};
 pub use instance::{Instance, InstanceFault, PAGE};
