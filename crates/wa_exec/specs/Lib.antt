@@ -1,9 +1,16 @@
 pub mod Activations
+pub mod Beginning
 pub mod Goes
 pub mod HandingOn
+pub mod HostCalls
+pub mod Law
+pub mod Linking
 pub mod Links
 pub mod Machines
+pub mod Outside
 pub mod Progress
 pub mod Reached
+pub mod Reading
+pub mod States
 pub mod Stretch
 pub mod Tells

@@ -1,8 +1,10 @@
 //! The open activations (section 4.2.10.2 of the WebAssembly Core Specification 1.0): their words, and where each caller goes on.
 
-ghost use Rattle.std.specs.Prelude.{◌≡◌, ◌==◌, ◌+◌, ◌-◌, ◌<◌, ◌≤◌, ◌↔◌, ℕ, List, [], ◌∷◌, ◌++◌, drop, length, max, replicate, reverse, slice_index, OnOk, IfErr, IsErrOf, vec_len};
+ghost use Rattle.std.specs.Prelude.{◌≡◌, ◌==◌, ◌+◌, ◌-◌, ◌<◌, ◌≤◌, ◌^◌, ◌↔◌, ℕ, List, [], ◌∷◌, ◌++◌, drop, length, max, nat_le, replicate, reverse, slice_index, OnOk, IfErr, IsErrOf, vec_len};
 ghost use Rattle.wa_region.specs.Frames.{top, with_word};
-ghost use Rattle.wa_exec.specs.Activations.{OnTop};
+ghost use Rattle.wa_exec.specs.Beginning.{AreNone};
+ghost use Rattle.wa_exec.specs.Activations.{OnTop, HasEntered, HasLeft};
+ghost use Rattle.wa_exec.specs.declared.calls.Caller.{Caller};
 ghost use Rattle.wa_exec.specs.Tells.{IsInside};
 
 use crate::halt::Halt;
@@ -32,6 +34,26 @@ pub(crate) struct Calls {
     pub height: usize,
 }
 
+/// How many words the top frame has.
+#[inline]
+fn top_len(region: &Region) -> usize
+    ensures { result ≡ length (top region.now) }
+{
+    if region.depth() == 0 {
+        return 0;
+    }
+    region.top().len()
+}
+
+/// Whether the top frame has so many words from a place on.
+#[inline]
+fn has_words(region: &Region, from: usize, count: u32) -> bool
+    ensures { result ≡ nat_le (from + count) (length (top region.now)) }
+{
+    let len = top_len(region);
+    from <= len && count as usize <= len - from
+}
+
 /// Opens the frame of a function, whose first words are the top `params` operands of the frame below.
 fn open_frame(region: &mut Region, from: usize, params: u32, len: u32) -> Result<(), Halt>
     ensures inside { IfErr result IsInside }
@@ -40,18 +62,27 @@ fn open_frame(region: &mut Region, from: usize, params: u32, len: u32) -> Result
     ensures opens { (arguments stack : List ℕ) (below : List (List ℕ)) → OnTop region.old (from + params) (arguments ++ stack) below → length arguments ≡ params → OnOk result (region.new ≡ (reverse arguments ++ replicate (max len params - params) 0) ∷ region.old) }
 {
     let len = len.max(params);
-    if region.depth() > 0
-        && let Ok(start) = u32::try_from(from)
-        && from + params as usize <= region.top().len()
-    {
+    if has_words(region, from, params) {
         return region
-            .enter_with(start, params, len)
+            .enter_with(from, params, len)
             .map_err(|_| Halt::NoMemory);
     }
     region.enter(len).map_err(|_| Halt::NoMemory)
 }
 
+/// Closes the top frame, if there is one.
+#[inline]
+fn close_frame(region: &mut Region)
+    ensures { region.new ≡ drop 1 region.old }
+{
+    if region.depth() == 0 {
+        return;
+    }
+    region.leave();
+}
+
 /// The word of the top frame at a place.
+#[inline]
 fn top_word(region: &Region, at: usize) -> u64
     ensures { result ≡ slice_index (top region.now) at }
 {
@@ -62,8 +93,10 @@ fn top_word(region: &Region, at: usize) -> u64
 }
 
 /// Sets the word of the top frame at a place, if there is one.
+#[inline]
 fn set_top(region: &mut Region, at: usize, word: u64)
-    ensures { region.new ≡ with_word region.old at word }
+    ensures set { region.new ≡ with_word region.old at word }
+    ensures small { length (top region.old) < 2 ^ 64 }
 {
     if region.depth() == 0 {
         return;
@@ -72,7 +105,9 @@ fn set_top(region: &mut Region, at: usize, word: u64)
 }
 
 impl Calls {
-    pub(crate) fn new(alloc: Global) -> Calls {
+    pub(crate) fn new(alloc: Global) -> Calls
+        ensures { AreNone result }
+    {
         Calls {
             region: Region::new(alloc),
             callers: Vec::new(alloc),
@@ -97,8 +132,7 @@ impl Calls {
         ensures ok { OnOk result (vec_len self.new.callers ≡ vec_len self.old.callers + 1) }
         ensures inside { IfErr result IsInside }
         ensures deep { IsErrOf result Halt.TooDeep ↔ (40000 ≤ vec_len self.old.callers) }
-        ensures callers { body.params ≤ self.old.height → OnOk result (self.new.callers.items ≡ self.old.callers.items ++ (record { at = self.old.at; height = self.old.height - body.params }) ∷ []) }
-        ensures at { OnOk result ((self.new.at ≡ body.entry) × (self.new.height ≡ body.locals)) }
+        ensures enters { HasEntered body self.old self.new result }
     {
         if self.callers.len() >= DEPTH {
             return Err(Halt::TooDeep);
@@ -117,25 +151,41 @@ impl Calls {
         Ok(())
     }
 
-    /// Closes the last activation and goes on in its caller, with the result as an operand.
-    pub(crate) fn leave(&mut self, value: Option<u64>)
-        ensures { vec_len self.new.callers ≡ vec_len self.old.callers - 1 }
+    /// Closes the last activation and goes on in its caller.
+    #[inline]
+    fn close(&mut self)
+        ensures count { vec_len self.new.callers ≡ vec_len self.old.callers - 1 }
+        ensures region { self.new.region ≡ drop 1 self.old.region }
+        ensures caller { (callers : List Caller) (caller : Caller) → self.old.callers.items ≡ callers ++ caller ∷ [] → (self.new.callers.items ≡ callers) × (self.new.at ≡ caller.at) × (self.new.height ≡ caller.height) }
     {
-        if self.region.depth() > 0 {
-            self.region.leave();
-        }
-        if let Some(caller) = self.callers.pop() {
-            self.at = caller.at;
-            self.height = caller.height;
-        }
-        if let Some(word) = value {
-            self.give(word);
-        }
+        close_frame(&mut self.region);
+        let Some(caller) = self.callers.pop() else {
+            return;
+        };
+        self.at = caller.at;
+        self.height = caller.height;
+    }
+
+    /// Closes the last activation and goes on in its caller, with the result as an operand.
+    #[inline]
+    pub(crate) fn leave(&mut self, value: Option<u64>)
+        ensures count { vec_len self.new.callers ≡ vec_len self.old.callers - 1 }
+        ensures leaves { HasLeft value self.old self.new }
+    {
+        self.close();
+        let Some(word) = value else {
+            return;
+        };
+        self.give(word);
     }
 
     /// Puts an operand on those of the last activation.
+    #[inline]
     pub(crate) fn give(&mut self, word: u64)
-        ensures count { vec_len self.new.callers ≡ vec_len self.old.callers }
+        ensures callers { self.new.callers ≡ self.old.callers }
+        ensures at { self.new.at ≡ self.old.at }
+        ensures depth { length self.new.region ≡ length self.old.region }
+        ensures long { length (top self.new.region) ≡ length (top self.old.region) }
         ensures gives { (stack : List ℕ) (below : List (List ℕ)) → OnTop self.old.region self.old.height stack below → self.old.height < length (top self.old.region) → OnTop self.new.region self.new.height (word ∷ stack) below }
     {
         set_top(&mut self.region, self.height, word);
@@ -143,9 +193,10 @@ impl Calls {
     }
 
     /// Takes the top operand of the last activation.
+    #[inline]
     pub(crate) fn take(&mut self) -> u64
-        ensures count { vec_len self.new.callers ≡ vec_len self.old.callers }
-        ensures takes { (word : ℕ) (stack : List ℕ) (below : List (List ℕ)) → OnTop self.old.region self.old.height (word ∷ stack) below → (result ≡ word) × OnTop self.new.region self.new.height stack below }
+        ensures rest { self.new ≡ record self.old { height = self.new.height } }
+        ensures takes { (word : ℕ) (stack : List ℕ) (below : List (List ℕ)) → OnTop self.old.region self.old.height (word ∷ stack) below → (result ≡ word) × (self.new.height ≡ self.old.height - 1) × OnTop self.new.region self.new.height stack below }
     {
         self.height = self.height.wrapping_sub(1);
         top_word(&self.region, self.height)

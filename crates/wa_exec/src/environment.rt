@@ -1,7 +1,9 @@
 //! The functions of the host: `env.put`, `env.get` and `env.stop`.
 
 ghost use Rattle.std.specs.Prelude.{◌≡◌, ◌≤◌, ◌%◌, ◌^◌, ℕ, List, [], ◌∷◌, ◌++◌, IfErr, IfOk, OnOk, OnErr, IsErrOf, vec_len};
-ghost use Rattle.wa_exec.specs.HandingOn.{HandsOn, Takes};
+ghost use Rattle.wa_exec.specs.HandingOn.{HandsOn, HasHandedOn, HasNotGot, Takes};
+ghost use Rattle.wa_exec.specs.HostCalls.{HasCalled};
+ghost use Rattle.wa_exec.specs.Outside.{sides};
 ghost use Rattle.sa_outside.specs.Output.{Grew};
 ghost use Rattle.wa_exec.specs.Tells.{Tells, faults_of};
 
@@ -15,6 +17,7 @@ use wa_operand::low;
 /// Hands the output on.
 fn hand_on<O: Sink>(host: &mut Host, out: &mut O) -> Result<(), Halt>
     ensures ok { OnOk result (HandsOn (O.output out.old) (O.output out.new) host.old host.new) }
+    ensures hands { HasHandedOn result (O.output out.old) (O.output out.new) host.old host.new }
     ensures none { OnOk result (host.new ≡ []) }
     ensures tells { IfErr result (λ h. (i steps fuel : ℕ) → Tells h (faults_of i (O.faults out.old)) (faults_of i (O.faults out.new)) steps fuel) }
     ensures count { O.faults out.old ≤ O.faults out.new }
@@ -30,6 +33,7 @@ fn hand_on<O: Sink>(host: &mut Host, out: &mut O) -> Result<(), Halt>
 /// `env.put`: holds the low 8 bits of the argument, and hands the output on where 4,096 bytes are held.
 fn put<O: Sink>(word: u64, host: &mut Host, out: &mut O) -> Result<(), Halt>
     ensures ok { OnOk result (HandsOn (O.output out.old) (O.output out.new) (host.old ++ word % 2 ^ 8 ∷ []) host.new) }
+    ensures hands { HasHandedOn result (O.output out.old) (O.output out.new) (host.old ++ word % 2 ^ 8 ∷ []) host.new }
     ensures tells { IfErr result (λ h. (i steps fuel : ℕ) → Tells h (faults_of i (O.faults out.old)) (faults_of i (O.faults out.new)) steps fuel) }
     ensures count { O.faults out.old ≤ O.faults out.new }
     ensures output { Grew (O.output out.old) (O.output out.new) }
@@ -47,6 +51,7 @@ fn put<O: Sink>(word: u64, host: &mut Host, out: &mut O) -> Result<(), Halt>
 /// `env.get`: the next byte of the input, or -1 at its end. The output is handed on before.
 fn get<I: Source, O: Sink>(host: &mut Host, input: &mut I, out: &mut O) -> Result<u64, Halt>
     ensures ok { IfOk result (λ word. Takes (I.input input.old) (I.input input.new) word × HandsOn (O.output out.old) (O.output out.new) host.old host.new) }
+    ensures fails { IfErr result (λ h. HasNotGot h (sides (I.input input.old) (O.output out.old)) (sides (I.input input.new) (O.output out.new)) host.old host.new) }
     ensures tells { IfErr result (λ h. (steps fuel : ℕ) → Tells h (faults_of (I.faults input.old) (O.faults out.old)) (faults_of (I.faults input.new) (O.faults out.new)) steps fuel) }
     ensures source { I.faults input.old ≤ I.faults input.new }
     ensures sink { O.faults out.old ≤ O.faults out.new }
@@ -73,6 +78,7 @@ pub(crate) fn call_host<I: Source, O: Sink>(
     ensures sink { O.faults out.old ≤ O.faults out.new }
     ensures output { Grew (O.output out.old) (O.output out.new) }
     ensures calls { vec_len calls.new.callers ≡ vec_len calls.old.callers }
+    ensures does { HasCalled calls.old calls.new (sides (I.input input.old) (O.output out.old)) (sides (I.input input.new) (O.output out.new)) host.old host.new call result }
 {
     match call {
         HostCall::Put => {

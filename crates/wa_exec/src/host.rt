@@ -1,6 +1,6 @@
 //! The output of a module that is held and not handed on yet.
 
-ghost use Rattle.std.specs.Prelude.{◌≡◌, ◌≤◌, [], ◌∷◌, ◌++◌, IfOk, OnOk, OnErr, IsErrOf};
+ghost use Rattle.std.specs.Prelude.{◌≡◌, ◌≤◌, [], ◌∷◌, ◌++◌, IfOk, IsOk, OnOk, OnErr, IsErrOf};
 ghost use Rattle.sa_outside.specs.Faults.{Rose};
 ghost use Rattle.sa_outside.specs.Output.{Took, TookFront};
 
@@ -51,6 +51,7 @@ impl Host {
         ensures front { OnErr result (TookFront (O.output out.old) (O.output out.new) self.old) }
         ensures failed { IsErrOf result Outage.Failed → Rose (O.faults out.old) (O.faults out.new) }
         ensures count { O.faults out.old ≤ O.faults out.new }
+        ensures empty { self.old ≡ [] → IsOk result }
     {
         out.put(self.held.as_slice())?;
         self.held.clear();

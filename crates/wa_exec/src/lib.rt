@@ -6,6 +6,7 @@ mod calls;
 mod environment;
 mod halt;
 mod host;
+mod law;
 mod link;
 mod machine;
 mod run;
@@ -13,4 +14,5 @@ mod state;
 
 pub use halt::{Halt, StartFault};
 pub use host::Host;
+pub use law::{are_one_run, called};
 pub use machine::Machine;

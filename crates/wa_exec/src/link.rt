@@ -2,6 +2,7 @@
 //! `main`.
 
 ghost use Rattle.std.specs.Prelude.{◌≡◌, ◌≤◌, ◌++◌, ◌||◌, [], ◌∷◌, if◌then◌else◌, bytes_eq, codes, slice_get, IfOk, IfErr, IfSome, IsNone, Some, None, length, map, option_map};
+ghost use Rattle.wa_exec.specs.Linking.{are_same};
 ghost use Rattle.wa_exec.specs.Links.{Names, function_of, host_called};
 ghost use Rattle.wa_syntax.specs.declared.module.ValTy.TheVariants.{I32};
 ghost use Rattle.wa_syntax.specs.Hosts.{from_to, host_named, host_of, is_type, type_of};
@@ -37,7 +38,8 @@ pub(crate) struct Linked {
 impl Linked {
     /// The code of a module whose imports are these functions of the host.
     pub(crate) fn new(code: Code, mut callees: Vec<Callee>) -> Result<Linked, NoMemory>
-        ensures { IfOk result (λ linked. linked.callees.items ≡ callees.items ++ map Callee.Own code.bodies.items) }
+        ensures code { IfOk result (λ linked. linked.code ≡ code) }
+        ensures callees { IfOk result (λ linked. linked.callees.items ≡ callees.items ++ map Callee.Own code.bodies.items) }
     {
         for body in code.bodies.as_slice() {
             callees.push(Callee::Own(*body))?;
@@ -46,7 +48,9 @@ impl Linked {
     }
 
     /// Whether a function is of the type with this number, by content.
-    pub(crate) fn is_of_type(&self, func: u32, ty: u32) -> bool {
+    pub(crate) fn is_of_type(&self, func: u32, ty: u32) -> bool
+        ensures { result ≡ are_same (slice_get self.now.code.func_types.items func) (slice_get self.now.code.first_types.items ty) }
+    {
         match (
             self.code.func_types.get(func as usize),
             self.code.first_types.get(ty as usize),

@@ -1,7 +1,16 @@
 //! A machine that runs a valid module (section 4.5 of the WebAssembly Core Specification 1.0).
 
-ghost use Rattle.std.specs.Prelude.{◌≡◌, ◌≤◌, ◌<◌, max, IfOk, IfErr, OnOk, ◌∷◌, option_to_list};
-ghost use Rattle.wa_exec.specs.Progress.{Stays, halted};
+ghost use Rattle.std.specs.Prelude.{◌≡◌, ◌≢◌, ◌≤◌, ◌<◌, max, Some, IfOk, IfErr, OnOk, ◌∷◌, option_to_list};
+ghost use Rattle.wa_exec.specs.Beginning.{IsBeginning};
+ghost use Rattle.wa_exec.specs.Goes.{first};
+ghost use Rattle.wa_exec.specs.Linking.{flat_of};
+ghost use Rattle.wa_exec.specs.Machines.{Stands};
+ghost use Rattle.wa_exec.specs.Outside.{Makes, sides};
+ghost use Rattle.wa_exec.specs.Progress.{Runs, Stays, halted};
+ghost use Rattle.wa_exec.specs.declared.halt.Halt.{Halt};
+ghost use Rattle.wa_code.specs.Codes.{row_of};
+ghost use Rattle.wa_syntax.specs.Machine.{Input};
+ghost use Rattle.wa_syntax.specs.declared.module.Module.{Module};
 ghost use Rattle.sa_outside.specs.Output.{Grew};
 ghost use Rattle.wa_exec.specs.Links.{IsUnfit, IsUnstartable};
 ghost use Rattle.wa_syntax.specs.Runs.{IsLinked, SegmentsFit};
@@ -35,7 +44,7 @@ impl<'a> Model for Machine<'a> {
 
     ghost Value = { Progress };
 
-    ghost view = { λ m. record { steps = m.steps; halt = m.halt } };
+    ghost view = { λ m. record { steps = m.steps; halt = m.halt; linked = m.linked; state = m.state } };
 }
 
 impl<'a> Machine<'a> {
@@ -46,7 +55,9 @@ impl<'a> Machine<'a> {
     /// `Unlinked` where an import is none of the functions of the host, or `main` is missing; `Segment` where a segment
     /// doesn't fit; and `NoMemory`.
     pub fn new(alloc: Global, v: &'a Valid) -> Result<Machine<'a>, StartFault>
-        ensures first { IfOk result (λ machine. machine ≡ record { steps = 0; halt = None }) }
+        ensures first { IfOk result (λ machine. (machine.steps ≡ 0) × (machine.halt ≡ None)) }
+        ensures runs { IfOk result (λ machine. Runs v.now machine) }
+        ensures begins { IfOk result (λ machine. (input : Input) → Stands v.now (row_of machine.linked.code) (flat_of machine.state) (first v.now input)) }
         ensures linked { OnOk result (IsLinked v.now) }
         ensures fit { OnOk result (SegmentsFit v.now) }
         ensures refused { IfErr result (IsUnstartable v.now) }
@@ -93,7 +104,11 @@ impl<'a> Machine<'a> {
         ensures stays { Stays result self.old self.new }
         ensures untouched { (halt : Halt) → self.old.halt ≡ Some halt → (host.new ≡ host.old) × (input.new ≡ input.old) × (out.new ≡ out.old) }
         ensures short { fuel < self.old.steps → self.new ≡ self.old }
+        ensures spent { self.old.halt ≡ None → fuel < self.old.steps → (result ≡ Halt.Spent) × (host.new ≡ host.old) × (input.new ≡ input.old) × (out.new ≡ out.old) }
+        ensures linked { self.new.linked ≡ self.old.linked }
         ensures halted { self.old.halt ≡ None → self.new.halt ≡ halted result }
+        ensures runs { (m : Module) → Runs m self.old → result ≢ Halt.NoMemory → Runs m self.new }
+        ensures makes { (m : Module) → Runs m self.old → self.old.halt ≡ None → self.old.steps ≤ fuel → Makes m (row_of self.old.linked.code) (flat_of self.old.state) (flat_of self.new.state) self.old.steps self.new.steps (Some result) (sides (I.input input.old) (O.output out.old)) (sides (I.input input.new) (O.output out.new)) host.old host.new }
         ensures steps { self.old.steps ≤ self.new.steps }
         ensures within { self.new.steps ≤ max self.old.steps fuel }
         ensures tells { self.old.halt ≡ None → Tells result (faults_of (I.faults input.old) (O.faults out.old)) (faults_of (I.faults input.new) (O.faults out.new)) self.new.steps fuel }
@@ -152,6 +167,7 @@ fn waiting(alloc: Global, m: &Module, main: u32) -> Result<Vec<u32>, NoMemory>
 ///
 /// `Segment` where a segment goes past the end of the table or the memory, and `NoMemory`.
 fn beginning(alloc: Global, v: &Valid, main: u32) -> Result<State, StartFault>
+    ensures begins { IfOk result (IsBeginning v.now main) }
     ensures fit { OnOk result (SegmentsFit v.now) }
     ensures segment { IfErr result (IsUnfit v.now) }
 {

@@ -70,7 +70,7 @@ impl Region {
     /// # Errors
     ///
     /// `NoMemory` where there is no memory for the words. The frames are then unchanged.
-    pub fn enter_with(&mut self, from: u32, count: u32, len: u32) -> Result<(), NoMemory>
+    pub fn enter_with(&mut self, from: usize, count: u32, len: u32) -> Result<(), NoMemory>
         requires within { from + count ≤ length (top self.old) }
         requires room { count ≤ len }
         ensures ok { let arguments = slice_range (top self.old) from (from + count) in
@@ -79,7 +79,7 @@ impl Region {
     {
         self.bases.reserve(1)?;
         self.words.reserve(len as usize)?;
-        let start = self.base + from as usize;
+        let start = self.base + from;
         let base = self.words.len();
         self.words
             .extend_from_within(start..start + count as usize)?;

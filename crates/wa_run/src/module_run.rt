@@ -1,10 +1,21 @@
 //! The run of a module.
 
-ghost use Rattle.std.specs.Prelude.{◌≡◌, ◌<◌, ◌≤◌, ◌⊎◌, None, length};
+ghost use Rattle.std.specs.Prelude.{◌≡◌, ◌<◌, ◌≤◌, ◌⊎◌, [], None, length};
 ghost use Rattle.sa_outside.specs.Faults.{Rose};
 ghost use Rattle.sa_outside.specs.Output.{Grew};
 ghost use Rattle.wa_run.specs.Answers.{IsBeforeRun, IsOutage, IsTold};
 ghost use Rattle.wa_run.specs.Modules.{SaysOf, SaysOfValid};
+ghost use Rattle.wa_run.specs.Runs.{HasRun, HasRunModule, IsClosed, Told};
+ghost use Rattle.wa_code.specs.Codes.{row_of};
+ghost use Rattle.wa_exec.specs.Goes.{first};
+ghost use Rattle.wa_exec.specs.Linking.{flat_of};
+ghost use Rattle.wa_exec.specs.Machines.{Stands};
+ghost use Rattle.wa_exec.specs.Outside.{sides};
+ghost use Rattle.wa_exec.specs.Progress.{Runs};
+ghost use Rattle.wa_syntax.specs.Machine.{Input};
+ghost use Rattle.wa_syntax.specs.Runs.{IsLinked};
+ghost use Rattle.wa_syntax.specs.ValidModule.{IsValid};
+ghost use Rattle.wa_syntax.specs.declared.module.Module.{Module};
 
 use crate::answer::{Answer, answer_of_halt, answer_of_start};
 use crate::load::load;
@@ -41,6 +52,10 @@ pub fn run_bytes<I: Source, O: Sink>(
     ensures untouched { IsBeforeRun result.answer → (out.new ≡ out.old) × (input.new ≡ input.old) }
     ensures source { I.faults input.old ≤ I.faults input.new }
     ensures sink { O.faults out.old ≤ O.faults out.new }
+    // What the run of the module was, whatever the source and the sink do.
+    ensures ran { HasRun bytes.now fuel result (sides (I.input input.old) (O.output out.old)) (sides (I.input input.new) (O.output out.new)) }
+    // Over a source that tells what it has left, the run is the standard's over these bytes.
+    ensures whole { Told bytes.now fuel result (sides (I.input input.old) (O.output out.old)) (sides (I.input input.new) (O.output out.new)) }
 {
     match load(alloc, bytes) {
         Ok(valid) => run_valid(alloc, &valid, fuel, input, out),
@@ -56,6 +71,7 @@ fn run_valid<I: Source, O: Sink>(
     input: &mut I,
     out: &mut O,
 ) -> Run
+    requires valid { IsValid valid.now }
     ensures says { SaysOfValid valid.now result.answer }
     ensures told { IsTold result.answer (Rose (I.faults input.old) (I.faults input.new)) (Rose (O.faults out.old) (O.faults out.new)) }
     ensures spent { result.answer ≡ Answer.Spent → result.steps ≡ fuel }
@@ -64,6 +80,7 @@ fn run_valid<I: Source, O: Sink>(
     ensures untouched { IsBeforeRun result.answer → (out.new ≡ out.old) × (input.new ≡ input.old) }
     ensures source { I.faults input.old ≤ I.faults input.new }
     ensures sink { O.faults out.old ≤ O.faults out.new }
+    ensures ran { HasRunModule valid.now fuel result (sides (I.input input.old) (O.output out.old)) (sides (I.input input.new) (O.output out.new)) }
 {
     let mut host = match Host::new(alloc) {
         Ok(host) => host,
@@ -91,7 +108,8 @@ fn run_machine<I: Source, O: Sink>(
     input: &mut I,
     out: &mut O,
 ) -> Run
-    requires new { machine ≡ record { steps = 0; halt = None } }
+    requires steps { machine.steps ≡ 0 }
+    requires halt { machine.halt ≡ None }
     ensures told { IsTold result.answer (Rose (I.faults input.old) (I.faults input.new)) (Rose (O.faults out.old) (O.faults out.new)) }
     ensures spent { result.answer ≡ Answer.Spent → result.steps ≡ fuel }
     ensures within { result.steps ≤ fuel }
@@ -99,6 +117,7 @@ fn run_machine<I: Source, O: Sink>(
     ensures output { Grew (O.output out.old) (O.output out.new) }
     ensures source { I.faults input.old ≤ I.faults input.new }
     ensures sink { O.faults out.old ≤ O.faults out.new }
+    ensures ran { (m : Module) → IsValid m → IsLinked m → Runs m machine.entry → ((input : Input) → Stands m (row_of machine.entry.linked.code) (flat_of machine.entry.state) (first m input)) → host.old ≡ [] → HasRunModule m fuel result (sides (I.input input.old) (O.output out.old)) (sides (I.input input.new) (O.output out.new)) }
 {
     let halt = machine.step_until(fuel, host, input, out);
     Run {
@@ -113,6 +132,7 @@ fn handed_on<O: Sink>(answer: Answer, host: &mut Host, out: &mut O) -> Answer
     ensures same { result ≡ answer ⊎ IsOutage result (Rose (O.faults out.old) (O.faults out.new)) }
     ensures output { Grew (O.output out.old) (O.output out.new) }
     ensures sink { O.faults out.old ≤ O.faults out.new }
+    ensures closed { IsClosed answer result host.old (O.output out.old) (O.output out.new) }
 {
     match answer {
         Answer::OutFault | Answer::NoMemory => answer,
