@@ -1,2 +1,3 @@
 pub mod EndLemmas
 pub mod OutputLemmas
+pub mod RunLemmas

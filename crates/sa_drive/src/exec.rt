@@ -1,12 +1,17 @@
 //! The command `exec`: a module is read from its file and run.
 
-ghost use Rattle.std.specs.Prelude.{◌≡◌, ◌<◌, ◌&&◌, None, Option, is_some, length};
+ghost use Rattle.std.specs.Prelude.{◌≡◌, ◌<◌, ◌&&◌, ℕ, None, Some, Option, is_some, length};
 ghost use Rattle.sa_outside.specs.Files.{Files};
 ghost use Rattle.sa_outside.specs.Output.{Grew};
-ghost use Rattle.sa_drive.specs.Answer.{ComesOfModule, IsAnswered, has_steps};
+ghost use Rattle.sa_drive.specs.Answer.{ComesOfModule, has_steps};
 ghost use Rattle.sa_drive.specs.Ends.{ComesBeforeOutput, RunEnds, cause_of};
 ghost use Rattle.sa_drive.specs.Lines.{IsPlaced};
+ghost use Rattle.sa_drive.specs.Runs.{RunsFile, done_of, ended_of};
 ghost use Rattle.sa_drive.specs.Seen.{Count, count, seen};
+ghost use Rattle.wa_run.specs.Outside.{sides};
+ghost use Rattle.wa_run.specs.Modules.{SaysOf};
+ghost use Rattle.wa_run.specs.Runs.{HasRun};
+ghost use Rattle.wa_run.specs.declared.module_run.Run.{Run as Runs};
 
 use crate::cause::Cause;
 use crate::compile::{no_sources, unread};
@@ -44,6 +49,8 @@ impl Ended {
         ensures cause { result.cause ≡ self.cause }
         ensures sources { result.sources ≡ sources }
         ensures file { result.file.now ≡ file.entry.now }
+        ensures done { result.done ≡ self.done }
+        ensures steps { (steps : ℕ) → result.steps ≡ Some steps → steps ≡ self.steps }
         ensures told { is_some result.steps ≡ (stats && has_steps self.cause) }
     {
         let steps = (stats && has_steps(&self.cause)).then_some(self.steps);
@@ -77,6 +84,7 @@ pub fn exec<'a, S: Store, I: Source, O: Sink>(
     out: &mut O,
 ) -> Outcome<'a>
     ensures comes { ComesOfModule (seen (S.files store.old) (count (S.faults store.old) (S.faults store.new)) (count (I.faults input.old) (I.faults input.new)) (count (O.faults out.old) (O.faults out.new))) line.now.«module».now line.now.fuel result.cause }
+    ensures runs { RunsFile (S.files store.old) line.now.«module».now line.now.fuel (sides (I.input input.old) (O.output out.old)) (sides (I.input input.new) (O.output out.new)) result }
     ensures placed { IsPlaced result.sources result.cause }
     ensures told { is_some result.steps ≡ (line.now.stats && has_steps result.cause) }
     ensures file { result.file.now ≡ line.now.«module».now }
@@ -119,7 +127,7 @@ pub fn run_module<I: Source, O: Sink>(
     out: &mut O,
 ) -> Ended
     requires { length bytes.now < 4294967295 }
-    ensures answered { IsAnswered bytes.now fuel result.cause }
+    ensures answered { (run : Runs) × (result ≡ ended_of fuel run) × SaysOf bytes.now run.answer × HasRun bytes.now fuel run (sides (I.input input.old) (O.output out.old)) (sides (I.input input.new) (O.output out.new)) }
     ensures ends { (files : Option Files) (store : Count) → RunEnds (seen files store (count (I.faults input.old) (I.faults input.new)) (count (O.faults out.old) (O.faults out.new))) fuel result.cause }
     ensures output { Grew (O.output out.old) (O.output out.new) }
     ensures untouched { ComesBeforeOutput result.cause → out.new ≡ out.old }
@@ -153,7 +161,9 @@ fn cause_of(answer: Answer, fuel: u64) -> Cause
 }
 
 /// The status of a module that ended: the low 8 bits of what `main` returned, and 0 where it returned nothing.
-fn status_of(answer: Answer) -> u8 {
+fn status_of(answer: Answer) -> u8
+    ensures { result ≡ done_of answer }
+{
     match answer {
         Answer::Ended(Some(value)) => (value & 0xff) as u8,
         _ => 0,

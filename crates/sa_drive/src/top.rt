@@ -7,8 +7,10 @@ ghost use Rattle.sa_drive.specs.Answer.{ComesOf, ComesOfLine, IsTold, LeavesFile
 ghost use Rattle.sa_drive.specs.Ends.{ComesBeforeOutput};
 ghost use Rattle.sa_drive.specs.Lines.{IsPlaced, lines_of};
 ghost use Rattle.sa_drive.specs.Report.{Tells};
+ghost use Rattle.sa_drive.specs.Runs.{RunsLine};
 ghost use Rattle.sa_drive.specs.Seen.{count, seen};
 ghost use Rattle.sa_drive.specs.Status.{status_of};
+ghost use Rattle.wa_run.specs.Outside.{sides};
 ghost use Rattle.sa_drive.specs.declared.cause.Cause.{Cause as Causes};
 ghost use Rattle.sa_drive.specs.declared.outcome.Outcome.{Outcome as Outcomes};
 
@@ -36,9 +38,10 @@ pub fn sather<S: Store, I: Source, O: Sink, E: Sink>(
     out: &mut O,
     err: &mut E,
 ) -> Exit
-    // There is an outcome that says where the cause comes from, and whose lines err takes, whole unless it fails. They name
-    // the module's file of `exec`, and the steps where they are asked for and the module ended by itself or at its fuel.
-    ensures answer { (outcome : Outcomes) × ComesOf (seen (S.files store.old) (count (S.faults store.old) (S.faults store.new)) (count (I.faults input.old) (I.faults input.new)) (count (O.faults out.old) (O.faults out.new))) (map string_bytes words.now) outcome.sources result.cause × (result.cause ≢ Cause.NoMemory → IsTold (line_in (map string_bytes words.now)) outcome result.cause (Tells (E.output err.old) (E.output err.new) (E.faults err.old) (E.faults err.new))) }
+    // There is an outcome that says where the cause comes from, what the run of the module of `exec` was, and the status at
+    // `Done`, and whose lines err takes, whole unless it fails. They name the module's file of `exec`, and the steps where they
+    // are asked for and the module ended by itself or at its fuel.
+    ensures answer { (outcome : Outcomes) × ComesOf (seen (S.files store.old) (count (S.faults store.old) (S.faults store.new)) (count (I.faults input.old) (I.faults input.new)) (count (O.faults out.old) (O.faults out.new))) (map string_bytes words.now) outcome.sources result.cause × RunsLine (line_in (map string_bytes words.now)) (S.files store.old) (sides (I.input input.old) (O.output out.old)) (sides (I.input input.new) (O.output out.new)) outcome × (result.cause ≡ Cause.Done → result.status ≡ outcome.done) × (result.cause ≢ Cause.NoMemory → (outcome.cause ≡ result.cause) × IsTold (line_in (map string_bytes words.now)) outcome result.cause (Tells (E.output err.old) (E.output err.new) (E.faults err.old) (E.faults err.new))) }
 
     // With want of memory err takes a front of some cause's lines.
     ensures told_part { result.cause ≡ Cause.NoMemory → (outcome : Outcomes) × (told : Causes) × TookFront (E.output err.old) (E.output err.new) (lines_of outcome told) }
@@ -77,6 +80,7 @@ fn obey<'a, S: Store, I: Source, O: Sink>(
     out: &mut O,
 ) -> Outcome<'a>
     ensures comes { ComesOf (seen (S.files store.old) (count (S.faults store.old) (S.faults store.new)) (count (I.faults input.old) (I.faults input.new)) (count (O.faults out.old) (O.faults out.new))) (map string_bytes words.now) result.sources result.cause }
+    ensures runs { RunsLine (line_in (map string_bytes words.now)) (S.files store.old) (sides (I.input input.old) (O.output out.old)) (sides (I.input input.new) (O.output out.new)) result }
     ensures untaken { line_in (map string_bytes words.now) ≡ None → (result.cause ≡ Cause.Usage) ⊎ (result.cause ≡ Cause.NoMemory) }
     ensures file { result.cause ≢ Cause.NoMemory → result.file.now ≡ module_file (line_in (map string_bytes words.now)) }
     ensures told { is_some result.steps ≡ (asks_stats (line_in (map string_bytes words.now)) && has_steps result.cause) }
@@ -104,6 +108,7 @@ fn do_command<'a, S: Store, I: Source, O: Sink>(
     out: &mut O,
 ) -> Outcome<'a>
     ensures comes { ComesOfLine (seen (S.files store.old) (count (S.faults store.old) (S.faults store.new)) (count (I.faults input.old) (I.faults input.new)) (count (O.faults out.old) (O.faults out.new))) (line_of command.entry) result.sources result.cause }
+    ensures runs { RunsLine (Some (line_of command.entry)) (S.files store.old) (sides (I.input input.old) (O.output out.old)) (sides (I.input input.new) (O.output out.new)) result }
     ensures file { result.file.now ≡ module_file (Some (line_of command.entry)) }
     ensures told { is_some result.steps ≡ (asks_stats (Some (line_of command.entry)) && has_steps result.cause) }
     ensures input { TakesNoInput (Some (line_of command.entry)) → input.new ≡ input.old }

@@ -1,14 +1,20 @@
 use Rattle.std.proofs.Common.{◌∙◌, inl, inr, sym}
 use Rattle.sa_drive.proofs.EndLemmas.{reported}
+use Rattle.sa_drive.proofs.top.sather.Goals.{in-Done, in_default}
 use Rattle.sa_drive.proofs.top.sather.Goals as goal
 
 pub returns-clause-answer : goal.returns-clause-answer
 returns-clause-answer g c = (
   c.obey-outcome.result,
   reported _ _ _ _ _ c.report-cause.ensures.stands c.obey-outcome.ensures.comes,
+  c.obey-outcome.ensures.runs,
+  elim c.match-cause.branch [
+    | in-Done w ↦ λ done. w.status-is
+    | in_default w ↦ λ done. absurd (w.in_default.not-Done done)
+  ],
   λ other. elim c.report-cause.ensures.stands [
     | inl memory ↦ absurd (other memory)
-    | inr same ↦ (c.obey-outcome.ensures.file (λ memory. other (same ∙ memory)), rw same c.obey-outcome.ensures.told, c.report-cause.ensures.told other)
+    | inr same ↦ (sym same, (c.obey-outcome.ensures.file (λ memory. other (same ∙ memory)), rw same c.obey-outcome.ensures.told, c.report-cause.ensures.told other))
   ],
 )
 
