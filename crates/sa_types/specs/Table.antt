@@ -6,7 +6,7 @@ use Rattle.std.specs.HashMap.{get}
 use Rattle.sa_tree.specs.declared.class.Param.{Param}
 use Rattle.sa_tree.specs.declared.ty.Ty.{Ty}
 use Rattle.sa_types.specs.declared.substitution.Substitution.{Substitution}
-use Rattle.sa_types.specs.Substitution.{given_for}
+use Rattle.sa_types.specs.Substitution.{given_for, substituted}
 
 -- the type that a name without arguments stands for
 abbrev pub value_in : Substitution → List ℕ → Option Ty
@@ -15,3 +15,7 @@ value_in s name = option_and_then (slice_get s.given.now) (get (pointwise nat_eq
 -- the substitution puts these types in place of these parameters, and this one in place of SAME
 abbrev pub IsTableFor : List Param → List Ty → Ty → Substitution → Type 0
 IsTableFor params given same s = ((name : List ℕ) → value_in s name ≡ given_for params given name) × (s.same.now ≡ same)
+
+-- a type with the substitution made in it
+abbrev pub put_in : Substitution → Ty → Ty
+put_in s = substituted (value_in s) s.same.now

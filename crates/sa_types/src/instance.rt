@@ -1,11 +1,14 @@
 //! The class of an instance: a class with types put in place of its parameters, and its own type in place of SAME.
 
-ghost use Rattle.std.specs.Prelude.{◌≡◌, length};
+ghost use Rattle.std.specs.Prelude.{◌≡◌, IfOk, length, map};
+ghost use Rattle.sa_types.specs.Instances.{instance, own_type};
+ghost use Rattle.sa_types.specs.Table.{put_in};
+ghost use Rattle.sa_types.specs.Trees.{class_with, feature_with, formal_with, include_with, param_with, part_with};
 
 use crate::expression::{optional_expr, optional_type};
 use crate::statement::{local, subst_stmts};
 use crate::substitution::{Substitution, subst_types, subst_with};
-use sa_tree::{Change, Class, Feature, Formal, Include, NoMemory, Param, Part, Shared, Ty};
+use sa_tree::{Change, Class, Feature, Formal, Include, Name, NoMemory, Param, Part, Shared, Ty};
 use sqlite_items::Items;
 use std::alloc::Global;
 
@@ -14,38 +17,71 @@ use std::alloc::Global;
 /// ones. It fails only where memory runs out.
 pub fn instance_of(alloc: Global, c: &Class, given: &[Ty]) -> Result<Class, NoMemory>
     requires { length given.now ≡ length c.now.params }
+    ensures { IfOk result (λ class. class ≡ instance c.now given.now) }
 {
-    let same = own_type(alloc, c, given)?;
+    let same = type_of_class(alloc, c, given)?;
     let by = Substitution::make(alloc, c.params.as_slice(), given, &same)?;
+    class(alloc, c, &by)
+}
+
+/// The substitution made in a class.
+fn class(alloc: Global, c: &Class, by: &Substitution<'_>) -> Result<Class, NoMemory>
+    ensures { IfOk result (λ copy. copy ≡ class_with (put_in by.now) c.now) }
+{
+    let name = local(alloc, &c.name)?;
+    let params = params(alloc, c.params.as_slice(), by)?;
+    let below = subst_types(alloc, c.below.as_slice(), by)?;
+    let above = subst_types(alloc, c.above.as_slice(), by)?;
+    let includes = includes(alloc, c.includes.as_slice(), by)?;
+    let features = features(alloc, c.features.as_slice(), by)?;
     Ok(Class {
         kind: c.kind,
-        name: local(alloc, &c.name)?,
-        params: params(alloc, c.params.as_slice(), &by)?,
-        below: subst_types(alloc, c.below.as_slice(), &by)?,
-        above: subst_types(alloc, c.above.as_slice(), &by)?,
-        includes: includes(alloc, c.includes.as_slice(), &by)?,
-        features: features(alloc, c.features.as_slice(), &by)?,
+        name,
+        params,
+        below,
+        above,
+        includes,
+        features,
     })
 }
 
 /// The type that the class is at these types.
-fn own_type(alloc: Global, c: &Class, given: &[Ty]) -> Result<Ty, NoMemory> {
-    let mut args = Items::new(alloc);
-    for ty in given {
-        args.push(ty.copy(alloc)?)?;
+fn type_of_class(alloc: Global, c: &Class, given: &[Ty]) -> Result<Ty, NoMemory>
+    ensures { IfOk result (λ ty. ty ≡ own_type c.now given.now) }
+{
+    let name = c.name.name.copy(alloc)?;
+    Ok(Ty::Named(name, types(alloc, given)?, c.name.pos))
+}
+
+/// These types once more.
+fn types(alloc: Global, list: &[Ty]) -> Result<Items<Ty>, NoMemory>
+    ensures { IfOk result (λ copies. copies ≡ list.now) }
+{
+    let mut copies = Items::new(alloc);
+    for ty in list {
+        copies.push(ty.copy(alloc)?)?;
     }
-    Ok(Ty::Named(c.name.name.copy(alloc)?, args, c.name.pos))
+    Ok(copies)
 }
 
 /// The substitution made in the bounds of the parameters.
-fn params(alloc: Global, list: &[Param], by: &Substitution<'_>) -> Result<Items<Param>, NoMemory> {
+fn params(alloc: Global, list: &[Param], by: &Substitution<'_>) -> Result<Items<Param>, NoMemory>
+    ensures { IfOk result (λ copies. copies ≡ map (param_with (put_in by.now)) list.now) }
+{
     let mut copies = Items::new(alloc);
-    for param in list {
-        let name = local(alloc, &param.name)?;
-        let bound = optional_type(alloc, &param.bound, by)?;
-        copies.push(Param { name, bound })?;
+    for one in list {
+        copies.push(param(alloc, one, by)?)?;
     }
     Ok(copies)
+}
+
+/// The same in the bound of a parameter.
+fn param(alloc: Global, of: &Param, by: &Substitution<'_>) -> Result<Param, NoMemory>
+    ensures { IfOk result (λ copy. copy ≡ param_with (put_in by.now) of.now) }
+{
+    let name = local(alloc, &of.name)?;
+    let bound = optional_type(alloc, &of.bound, by)?;
+    Ok(Param { name, bound })
 }
 
 /// The same in the includes.
@@ -53,31 +89,56 @@ fn includes(
     alloc: Global,
     list: &[Include],
     by: &Substitution<'_>,
-) -> Result<Items<Include>, NoMemory> {
+) -> Result<Items<Include>, NoMemory>
+    ensures { IfOk result (λ copies. copies ≡ map (include_with (put_in by.now)) list.now) }
+{
     let mut copies = Items::new(alloc);
-    for include in list {
-        copies.push(Include {
-            ty: subst_with(alloc, &include.ty, by)?,
-            private: include.private,
-            changes: changes(alloc, include.changes.as_slice())?,
-        })?;
+    for one in list {
+        copies.push(include(alloc, one, by)?)?;
     }
     Ok(copies)
 }
 
+/// The same in an include.
+fn include(alloc: Global, of: &Include, by: &Substitution<'_>) -> Result<Include, NoMemory>
+    ensures { IfOk result (λ copy. copy ≡ include_with (put_in by.now) of.now) }
+{
+    Ok(Include {
+        ty: subst_with(alloc, &of.ty, by)?,
+        private: of.private,
+        changes: changes(alloc, of.changes.as_slice())?,
+    })
+}
+
 /// The changes of an include once more.
-fn changes(alloc: Global, list: &[Change]) -> Result<Items<Change>, NoMemory> {
+fn changes(alloc: Global, list: &[Change]) -> Result<Items<Change>, NoMemory>
+    ensures { IfOk result (λ copies. copies ≡ list.now) }
+{
     let mut copies = Items::new(alloc);
-    for change in list {
-        let from = local(alloc, &change.from)?;
-        let to = match &change.to {
-            None => None,
-            Some(name) => Some(name.copy(alloc)?),
-        };
-        let access = change.access;
-        copies.push(Change { from, to, access })?;
+    for one in list {
+        copies.push(change(alloc, one)?)?;
     }
     Ok(copies)
+}
+
+/// A change of an include once more.
+fn change(alloc: Global, of: &Change) -> Result<Change, NoMemory>
+    ensures { IfOk result (λ copy. copy ≡ of.now) }
+{
+    let from = local(alloc, &of.from)?;
+    let to = optional_name(alloc, &of.to)?;
+    let access = of.access;
+    Ok(Change { from, to, access })
+}
+
+/// A name once more, where there is one.
+fn optional_name(alloc: Global, name: &Option<Name>) -> Result<Option<Name>, NoMemory>
+    ensures { IfOk result (λ copy. copy ≡ name.now) }
+{
+    match name {
+        None => Ok(None),
+        Some(name) => Ok(Some(name.copy(alloc)?)),
+    }
 }
 
 /// The same in the features.
@@ -85,7 +146,9 @@ fn features(
     alloc: Global,
     list: &[Feature],
     by: &Substitution<'_>,
-) -> Result<Items<Feature>, NoMemory> {
+) -> Result<Items<Feature>, NoMemory>
+    ensures { IfOk result (λ copies. copies ≡ map (feature_with (put_in by.now)) list.now) }
+{
     let mut copies = Items::new(alloc);
     for f in list {
         copies.push(feature(alloc, f, by)?)?;
@@ -94,7 +157,9 @@ fn features(
 }
 
 /// The same in a feature.
-fn feature(alloc: Global, f: &Feature, by: &Substitution<'_>) -> Result<Feature, NoMemory> {
+fn feature(alloc: Global, f: &Feature, by: &Substitution<'_>) -> Result<Feature, NoMemory>
+    ensures { IfOk result (λ copy. copy ≡ feature_with (put_in by.now) f.now) }
+{
     Ok(Feature {
         name: local(alloc, &f.name)?,
         access: f.access,
@@ -109,20 +174,30 @@ fn formals(
     alloc: Global,
     list: &[Formal],
     by: &Substitution<'_>,
-) -> Result<Items<Formal>, NoMemory> {
+) -> Result<Items<Formal>, NoMemory>
+    ensures { IfOk result (λ copies. copies ≡ map (formal_with (put_in by.now)) list.now) }
+{
     let mut copies = Items::new(alloc);
-    for formal in list {
-        copies.push(Formal {
-            mode: formal.mode,
-            local: local(alloc, &formal.local)?,
-            ty: subst_with(alloc, &formal.ty, by)?,
-        })?;
+    for one in list {
+        copies.push(formal(alloc, one, by)?)?;
     }
     Ok(copies)
 }
 
+/// The same in an argument of a feature.
+fn formal(alloc: Global, of: &Formal, by: &Substitution<'_>) -> Result<Formal, NoMemory>
+    ensures { IfOk result (λ copy. copy ≡ formal_with (put_in by.now) of.now) }
+{
+    let mode = of.mode;
+    let local = local(alloc, &of.local)?;
+    let ty = subst_with(alloc, &of.ty, by)?;
+    Ok(Formal { mode, local, ty })
+}
+
 /// The same in what a feature is.
-fn part(alloc: Global, of: &Part, by: &Substitution<'_>) -> Result<Part, NoMemory> {
+fn part(alloc: Global, of: &Part, by: &Substitution<'_>) -> Result<Part, NoMemory>
+    ensures { IfOk result (λ copy. copy ≡ part_with (put_in by.now) of.now) }
+{
     match of {
         Part::Routine(body) => {
             let body = subst_stmts(alloc, body.get().as_slice(), by)?;

@@ -1,5 +1,9 @@
 //! Statements of an instance: one function for each kind of tree.
 
+ghost use Rattle.std.specs.Prelude.{◌≡◌, IfOk, map};
+ghost use Rattle.sa_types.specs.Table.{put_in};
+ghost use Rattle.sa_types.specs.Trees.{arm_with, case_arm_with, stmt_with, type_arm_with};
+
 use crate::expression::{exprs, optional_expr, optional_type, subst_expr};
 use crate::substitution::{Substitution, subst_with};
 use sa_tree::{Arm, CaseArm, Local, NoMemory, Stmt, TypeArm};
@@ -7,8 +11,11 @@ use sqlite_items::Items;
 use std::alloc::Global;
 
 /// The statement with the substitution made in each type that is written in it.
+#[tactic(auto, using(crate::proofs::TreeTypes::statements))]
 #[cycle(statement)]
-fn stmt(alloc: Global, s: &Stmt, by: &Substitution<'_>) -> Result<Stmt, NoMemory> {
+fn stmt(alloc: Global, s: &Stmt, by: &Substitution<'_>) -> Result<Stmt, NoMemory>
+    ensures { IfOk result (λ copy. copy ≡ stmt_with (put_in by.now) s.now) }
+{
     match s {
         Stmt::If(list, rest, pos) => {
             let list = arms(alloc, list.as_slice(), by)?;
@@ -61,12 +68,15 @@ fn stmt(alloc: Global, s: &Stmt, by: &Substitution<'_>) -> Result<Stmt, NoMemory
 }
 
 /// The statements with the substitution made in each type that is written in them. It fails only where memory runs out.
+#[tactic(auto, using(crate::proofs::TreeTypes::statements))]
 #[cycle(statement)]
 pub fn subst_stmts(
     alloc: Global,
     list: &[Stmt],
     by: &Substitution<'_>,
-) -> Result<Items<Stmt>, NoMemory> {
+) -> Result<Items<Stmt>, NoMemory>
+    ensures { IfOk result (λ copies. copies ≡ map (stmt_with (put_in by.now)) list.now) }
+{
     let mut copies = Items::new(alloc);
     for s in list {
         copies.push(stmt(alloc, s, by)?)?;
@@ -75,58 +85,98 @@ pub fn subst_stmts(
 }
 
 /// The same in the arms of an `if`.
+#[tactic(auto, using(crate::proofs::TreeTypes::statements))]
 #[cycle(statement)]
-fn arms(alloc: Global, list: &[Arm], by: &Substitution<'_>) -> Result<Items<Arm>, NoMemory> {
+fn arms(alloc: Global, list: &[Arm], by: &Substitution<'_>) -> Result<Items<Arm>, NoMemory>
+    ensures { IfOk result (λ copies. copies ≡ map (arm_with (put_in by.now)) list.now) }
+{
     let mut copies = Items::new(alloc);
-    for arm in list {
-        let test = subst_expr(alloc, &arm.test, by)?;
-        let body = subst_stmts(alloc, arm.body.as_slice(), by)?;
-        copies.push(Arm { test, body })?;
+    for one in list {
+        copies.push(arm(alloc, one, by)?)?;
     }
     Ok(copies)
 }
 
+/// The same in an arm of an `if`.
+#[tactic(auto, using(crate::proofs::TreeTypes::statements))]
+#[cycle(statement)]
+fn arm(alloc: Global, of: &Arm, by: &Substitution<'_>) -> Result<Arm, NoMemory>
+    ensures { IfOk result (λ copy. copy ≡ arm_with (put_in by.now) of.now) }
+{
+    let test = subst_expr(alloc, &of.test, by)?;
+    let body = subst_stmts(alloc, of.body.as_slice(), by)?;
+    Ok(Arm { test, body })
+}
+
 /// The same in the branches of a `case`.
+#[tactic(auto, using(crate::proofs::TreeTypes::statements))]
 #[cycle(statement)]
 fn case_arms(
     alloc: Global,
     list: &[CaseArm],
     by: &Substitution<'_>,
-) -> Result<Items<CaseArm>, NoMemory> {
+) -> Result<Items<CaseArm>, NoMemory>
+    ensures { IfOk result (λ copies. copies ≡ map (case_arm_with (put_in by.now)) list.now) }
+{
     let mut copies = Items::new(alloc);
-    for arm in list {
-        let values = exprs(alloc, arm.values.as_slice(), by)?;
-        let body = subst_stmts(alloc, arm.body.as_slice(), by)?;
-        copies.push(CaseArm { values, body })?;
+    for one in list {
+        copies.push(case_arm(alloc, one, by)?)?;
     }
     Ok(copies)
 }
 
+/// The same in a branch of a `case`.
+#[tactic(auto, using(crate::proofs::TreeTypes::statements))]
+#[cycle(statement)]
+fn case_arm(alloc: Global, of: &CaseArm, by: &Substitution<'_>) -> Result<CaseArm, NoMemory>
+    ensures { IfOk result (λ copy. copy ≡ case_arm_with (put_in by.now) of.now) }
+{
+    let values = exprs(alloc, of.values.as_slice(), by)?;
+    let body = subst_stmts(alloc, of.body.as_slice(), by)?;
+    Ok(CaseArm { values, body })
+}
+
 /// The same in the branches of a `typecase` or a `protect`.
+#[tactic(auto, using(crate::proofs::TreeTypes::statements))]
 #[cycle(statement)]
 fn type_arms(
     alloc: Global,
     list: &[TypeArm],
     by: &Substitution<'_>,
-) -> Result<Items<TypeArm>, NoMemory> {
+) -> Result<Items<TypeArm>, NoMemory>
+    ensures { IfOk result (λ copies. copies ≡ map (type_arm_with (put_in by.now)) list.now) }
+{
     let mut copies = Items::new(alloc);
-    for arm in list {
-        let ty = subst_with(alloc, &arm.ty, by)?;
-        let body = subst_stmts(alloc, arm.body.as_slice(), by)?;
-        copies.push(TypeArm { ty, body })?;
+    for one in list {
+        copies.push(type_arm(alloc, one, by)?)?;
     }
     Ok(copies)
 }
 
+/// The same in a branch of a `typecase` or a `protect`.
+#[tactic(auto, using(crate::proofs::TreeTypes::statements))]
+#[cycle(statement)]
+fn type_arm(alloc: Global, of: &TypeArm, by: &Substitution<'_>) -> Result<TypeArm, NoMemory>
+    ensures { IfOk result (λ copy. copy ≡ type_arm_with (put_in by.now) of.now) }
+{
+    let ty = subst_with(alloc, &of.ty, by)?;
+    let body = subst_stmts(alloc, of.body.as_slice(), by)?;
+    Ok(TypeArm { ty, body })
+}
+
 /// The name once more.
-pub(crate) fn local(alloc: Global, of: &Local) -> Result<Local, NoMemory> {
+pub(crate) fn local(alloc: Global, of: &Local) -> Result<Local, NoMemory>
+    ensures { IfOk result (λ copy. copy ≡ of.now) }
+{
     Ok(Local {
         name: of.name.copy(alloc)?,
         pos: of.pos,
     })
 }
 
-fn locals(alloc: Global, list: &[Local]) -> Result<Items<Local>, NoMemory> {
+fn locals(alloc: Global, list: &[Local]) -> Result<Items<Local>, NoMemory>
+    ensures { IfOk result (λ copies. copies ≡ list.now) }
+{
     let mut copies = Items::new(alloc);
     for one in list {
         copies.push(local(alloc, one)?)?;
