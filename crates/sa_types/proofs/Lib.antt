@@ -1,3 +1,5 @@
+pub mod AtInstance
+pub mod Others
 pub mod Places
 pub mod Substituting
 pub mod TreeTypes
