@@ -1,5 +1,5 @@
 -- The table of the places of parameters, filled from the last parameter on.
-use Rattle.std.proofs.Common.{◌≡◌, ℕ, ◌+◌, ◌<◌, List, [], Some, Option, None, cond, nat_eq, length, get_or, drop, sym, ap, ◌∙◌, add-one, drop-cons, suc, arith}
+use Rattle.std.proofs.Common.{◌≡◌, ℕ, ◌+◌, ◌<◌, List, Some, cond, nat_eq, length, get_or, drop, sym, ap, ◌∙◌, add-one, drop-cons, suc, arith}
 use Rattle.std.specs.Cmp.Lexicographic.{pointwise}
 use Rattle.std.specs.HashMap.{HashMap, get}
 use Rattle.sa_tree.specs.declared.class.Param.{Param}

@@ -1,5 +1,5 @@
 -- The trees of a class with each of the types that are written in them changed. All else in them stays, positions too.
-use Rattle.std.specs.Prelude.{List, map, Option}
+use Rattle.std.specs.Prelude.{map}
 use Rattle.std.specs.Option.{option_map}
 use Rattle.sa_tree.specs.declared.class.Class.{Class}
 use Rattle.sa_tree.specs.declared.class.Feature.{Feature}

@@ -108,11 +108,7 @@ fn receiver(alloc: Global, on: &Recv, by: &Substitution<'_>) -> Result<Recv, NoM
 /// The same in each argument of a call.
 #[tactic(auto, using(crate::proofs::TreeTypes::expressions))]
 #[cycle(expression)]
-fn arguments(
-    alloc: Global,
-    args: &[Given],
-    by: &Substitution<'_>,
-) -> Result<Items<Given>, NoMemory>
+fn arguments(alloc: Global, args: &[Given], by: &Substitution<'_>) -> Result<Items<Given>, NoMemory>
     ensures { IfOk result (λ copies. copies ≡ map (argument_with (put_in by.now)) args.now) }
 {
     let mut copies = Items::new(alloc);

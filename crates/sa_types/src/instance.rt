@@ -170,11 +170,7 @@ fn feature(alloc: Global, f: &Feature, by: &Substitution<'_>) -> Result<Feature,
 }
 
 /// The same in the arguments of a feature.
-fn formals(
-    alloc: Global,
-    list: &[Formal],
-    by: &Substitution<'_>,
-) -> Result<Items<Formal>, NoMemory>
+fn formals(alloc: Global, list: &[Formal], by: &Substitution<'_>) -> Result<Items<Formal>, NoMemory>
     ensures { IfOk result (λ copies. copies ≡ map (formal_with (put_in by.now)) list.now) }
 {
     let mut copies = Items::new(alloc);
