@@ -9,23 +9,8 @@ use Rattle.sa_tree.specs.Types.{BareTy, Named, Same, Rout, Iter, BareArgs, no_ar
 use Rattle.sa_subtypes.specs.Bounds.{goes_by, rises, stands_as, holds, args_hold, result_holds}
 use Rattle.sa_subtypes.specs.Subtypes.{top, MayStand}
 use Rattle.sa_subtypes.proofs.Chains.{IsNamed, Chain, here, step, Below, above_all, by_chain, by_routine, by_iter, BelowArgs, no_more, by_in, by_once, by_both, by_out, BelowResult, no_results, by_result}
+use Rattle.sa_lineage.proofs.Tests.{or-cases, or_first, or_second, both}
 use Rattle.sa_subtypes.proofs.Walks.{same_mode-self, same_mode-true}
-
-pub or-cases : (a b : Bool) → (a || b) ≡ true → (a ≡ true) ⊎ (b ≡ true)
-or-cases true b h = inl refl
-or-cases false b h = inr h
-
-pub or_first : (a b : Bool) → a ≡ true → (a || b) ≡ true
-or_first true b h = refl
-or_first false b h = absurd (true≢false (sym h))
-
-pub or_second : (a b : Bool) → b ≡ true → (a || b) ≡ true
-or_second true b h = refl
-or_second false b h = h
-
-pub both : (a b : Bool) → a ≡ true → b ≡ true → (a && b) ≡ true
-both true b h k = k
-both false b h k = h
 
 no_first : (a b : Bool) → (a || b) ≡ false → a ≡ false
 no_first true b h = h

@@ -8,14 +8,14 @@ use Rattle.std.proofs.lemmas.List.{append_cancel_left, append_cancel_right, appe
 use Rattle.std.proofs.lemmas.Option.{none-some}
 use Rattle.sa_tree.specs.TypeEquality.{same_type, same_mode, same_type_Decides}
 use Rattle.sa_tree.specs.Types.{BareTy, BareTys, no_types, type, bare_tys}
-use Rattle.sa_subtypes.specs.declared.pattern.Node.{Node}
-use Rattle.sa_subtypes.specs.declared.pattern.Node.TheVariants as node
+use Rattle.sa_pairs.specs.declared.pattern.Node.{Node}
+use Rattle.sa_pairs.specs.declared.pattern.Node.TheVariants as node
 use Rattle.sa_subtypes.specs.Questions.{word_of, IsPairFor, Seen, found, past, unlike, walk_all, sought, is_wanted, seeking, item_seen, first_in, is_number, counts_up, value_below, value_from, same_item, stands, passed_if, comparing, is_past, is_end, both_fit, class_fits, upper_fits, first_fits, pair_fits}
-use Rattle.sa_subtypes.specs.Spelled.{count_types, spelled, spelled_all, Item, a_type, a_mode}
-use Rattle.sa_subtypes.specs.Words.{IsWord, Values, AreWords, put, is_variable, comes}
+use Rattle.sa_pairs.specs.Spelled.{count_types, spelled, spelled_all, Item, a_type, a_mode}
+use Rattle.sa_pairs.specs.Words.{IsWord, Values, AreWords, put, is_variable, comes}
 use Rattle.sa_subtypes.proofs.TypeWords.{no_cons, cons-head, cons-tail, item_head, item_inside, word-head, spelled-word, item-word, item-equal, put-empty, not_empty}
 use Rattle.sa_subtypes.proofs.Walks.{past-equal, found-past, unlike-past, same_mode-self, same_mode-true, head-unbound, IsCut, cut-all, Outcome, outcome-all}
-use Rattle.sa_subtypes.proofs.Words.{put-same, words-equal}
+use Rattle.sa_pairs.proofs.Words.{put-same, words-equal}
 
 -- ---- what stands for a variable as a word
 

@@ -1,27 +1,12 @@
 -- What the tables answer: whether declared edges lead from a class with its arguments to another.
-use Rattle.std.specs.Prelude.{ℕ, zero, suc, ◌-◌, ◌||◌, ◌&&◌, not, Bool, true, false, nat_eq, List, [], ◌∷◌, length, Option, None, Some, slice_get}
-use Rattle.std.specs.Option.{option_map, option_map_or}
-use Rattle.sa_tree.specs.Types.{BareTy, Named, BareTys, no_types, type, bare_tys}
+use Rattle.std.specs.Prelude.{ℕ, zero, suc, ◌-◌, ◌||◌, ◌&&◌, not, Bool, false, nat_eq, List, [], ◌∷◌, length, Option, None, Some, slice_get}
+use Rattle.sa_tree.specs.Types.{BareTy, BareTys, no_types, type, bare_tys}
 use Rattle.sa_tree.specs.TypeEquality.{same_types}
-use Rattle.sa_subtypes.specs.declared.lineage.Above.{Above}
-use Rattle.sa_subtypes.specs.declared.links.Link.{Link}
-use Rattle.sa_subtypes.specs.Lineages.{Tables, depth_at}
+use Rattle.sa_lineage.specs.declared.lineage.Above.{Above}
+use Rattle.sa_lineage.specs.declared.links.Link.{Link}
+use Rattle.sa_lineage.specs.Lineages.{Tables}
+use Rattle.sa_lineage.specs.Lines.{in_line}
 use Rattle.sa_subtypes.specs.Questions.{pair_fits}
-
--- ---- the trees
-
--- the parent of a class, if it has one
-abbrev pub parent_of : Option Link → Option ℕ
-parent_of None = None
-parent_of (Some link) = option_map (λ (number : ℕ). link.parent) link.edge
-
--- whether the second class is the first or above it in its tree, at most so many classes up
-unfoldable pub line_in : List Link → ℕ → ℕ → ℕ → Bool
-line_in links zero lower upper = nat_eq lower upper
-line_in links (suc n) lower upper = nat_eq lower upper || option_map_or (λ parent. line_in links n parent upper) (parent_of (slice_get links lower)) false
-
-abbrev pub in_line : List Link → ℕ → ℕ → Bool
-in_line links lower upper = line_in links (depth_at links lower) lower upper
 
 -- ---- the lists
 

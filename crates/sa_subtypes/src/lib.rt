@@ -5,28 +5,12 @@
 mod beside;
 mod bound_types;
 mod climbing;
-mod comparison;
-mod compose;
-mod covers;
-mod declared;
 mod edges;
-mod entries;
-mod equations;
-mod forms;
-mod header;
 mod leads;
-mod lineage;
-mod links;
 mod making;
-mod names;
-mod pair;
 mod part;
-mod pattern;
 mod question;
 mod relation;
 mod seek;
-mod trial;
-mod work;
-mod written;
 
 pub use edges::Edges;

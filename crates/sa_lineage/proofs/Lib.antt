@@ -1,0 +1,9 @@
+pub mod Climbs
+pub mod Jumps
+pub mod Kept
+pub mod LineTests
+pub mod Lineages
+pub mod Lines
+pub mod Pairs
+pub mod Tests
+pub mod Trials

@@ -1,0 +1,16 @@
+pub mod Compositions
+pub mod Declaring
+pub mod Differences
+pub mod Dressed
+pub mod Equal
+pub mod Headers
+pub mod Joins
+pub mod Numbers
+pub mod Owns
+pub mod Patterns
+pub mod Places
+pub mod Readings
+pub mod Renumbering
+pub mod Rounds
+pub mod Spelling
+pub mod Words

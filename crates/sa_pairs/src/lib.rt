@@ -1,0 +1,22 @@
+//! The edges that the classes of a program declare, as pairs of a type and a type above it, both with variables, and the pair
+//! that two pairs give one after the other.
+#![tactic(auto)]
+
+mod composition;
+mod declared;
+mod equations;
+mod header;
+mod names;
+mod pair;
+mod pattern;
+mod work;
+mod written;
+
+pub use composition::{compose, composed};
+pub use declared::{Edge, check_supertypes, edges_of, lowers, uppers};
+pub use equations::word_end;
+pub use names::{Names, Row};
+pub use pair::{Pairs, Shape, renumbered, try_equal};
+pub use pattern::Node;
+pub use work::Work;
+pub use written::{Written, written_edges};
