@@ -35,6 +35,7 @@ pub(crate) struct State {
 
 impl State {
     /// Runs the instructions of the last activation. Where none is open, there is nothing to run.
+    #[inline(always)]
     pub(crate) fn run(&mut self, code: &Code, before: u64, fuel: u64) -> Stretch
         ensures steps { before ≤ result.steps }
         ensures within { result.steps ≤ max before fuel }

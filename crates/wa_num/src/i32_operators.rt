@@ -233,7 +233,7 @@ fn rotr(a: u32, b: u32) -> u32
 /// # Errors
 ///
 /// `DivZero` for a division or a remainder by zero, and `Overflow` for the signed quotient of the least number by -1.
-#[inline]
+#[inline(always)]
 #[tactic(auto, unfolding(wa_syntax::specs::Numeric::i32_result))]
 pub fn i32_op(op: u8, a: u32, b: u32) -> Result<u32, TrapKind>
     requires { IsI32Operator op }

@@ -260,7 +260,7 @@ fn extend_i32_u(a: u64) -> u64
 /// # Errors
 ///
 /// `DivZero` for a division or a remainder by zero, and `Overflow` for the signed quotient of the least number by -1.
-#[inline]
+#[inline(always)]
 #[tactic(auto, unfolding(wa_syntax::specs::Numeric::i64_result))]
 pub fn i64_op(op: u8, a: u64, b: u64) -> Result<u64, TrapKind>
     requires { IsI64Operator op }
