@@ -1,12 +1,12 @@
 -- What the answer of a run says of it, from what a call of the machine made.
-use Rattle.std.proofs.Common.{◌≡◌, ◌≢◌, ◌⊎◌, inl, inr, ℕ, ◌+◌, ◌≤◌, List, [], ◌∷◌, ◌++◌, take, Option, Some, None, refl, sym, ap, subst, ◌∙◌, zero-add, arith, append_assoc, append-nil}
+use Rattle.std.proofs.Common.{◌≡◌, ◌≢◌, ◌⊎◌, inl, inr, ℕ, ◌≤◌, List, [], ◌∷◌, ◌++◌, take, Option, Some, None, refl, sym, ap, subst, ◌∙◌, zero-add, arith, append_assoc, append-nil}
 use Rattle.std.specs.Prelude.{option_map}
 use Rattle.std.proofs.lemmas.Option.{none-some, same_Some}
 use Rattle.sa_outside.specs.declared.source.Take.{Take}
 use Rattle.sa_outside.specs.declared.source.Take.TheVariants as taken
 use Rattle.sa_outside.specs.Input.{Gives}
 use Rattle.sa_outside.specs.Input as source
-use Rattle.sa_outside.specs.Output.{Took, TookFront}
+use Rattle.sa_outside.specs.Output.{Took}
 use Rattle.wa_syntax.specs.declared.module.Module.{Module}
 use Rattle.wa_syntax.specs.Binary.{SpellsModule}
 use Rattle.wa_syntax.specs.Machine.{Input, Halt}
@@ -20,7 +20,6 @@ use Rattle.wa_exec.specs.declared.halt.Halt as machine
 use Rattle.wa_exec.specs.declared.halt.StartFault.{StartFault}
 use Rattle.wa_exec.specs.declared.halt.StartFault.TheVariants as start
 use Rattle.wa_exec.specs.Goes.{first}
-use Rattle.wa_exec.specs.Links.{IsUnstartable}
 use Rattle.wa_exec.specs.Machines.{Flat, Stands}
 use Rattle.wa_exec.specs.Outside.{Any, Fails, Did, Makes, Sides}
 use Rattle.wa_exec.specs.Reading.{Gave, Reads}

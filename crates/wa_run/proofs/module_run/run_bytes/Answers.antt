@@ -1,4 +1,4 @@
-use Rattle.std.proofs.Common.{refl, sym, []}
+use Rattle.std.proofs.Common.{refl}
 use Rattle.wa_decode.proofs.OneModule.{one-module}
 use Rattle.wa_exec.specs.Outside.{sides}
 use Rattle.wa_run.proofs.Runs.{before-run, nothing-passed, passed-spelled, run-told}
@@ -23,3 +23,8 @@ pub returns-in-Err-clause-ran : goal.returns-in-Err-clause-ran
 returns-in-Err-clause-ran g c =
     let here = sides (g.I.Source.input c.args.input.now) (g.O.Sink.output c.args.out.now) in
     nothing-passed here here _ refl refl (λ m spelled. before-run m c.args.fuel 0 c.in-Err.answer c.in-Err.ensures.before)
+
+pub returns-in-Err-clause-whole : goal.returns-in-Err-clause-whole
+returns-in-Err-clause-whole g c =
+    let here = sides (g.I.Source.input c.args.input.now) (g.O.Sink.output c.args.out.now) in
+    run-told c.args.bytes.now c.args.fuel (record { answer = c.in-Err.answer; steps = 0 }) here here (returns-in-Err-clause-ran g c)

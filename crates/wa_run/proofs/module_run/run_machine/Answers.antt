@@ -1,4 +1,4 @@
-use Rattle.std.proofs.Common.{rules, ◌≡◌, ◌≤◌, ℕ, Some, refl, sym, subst}
+use Rattle.std.proofs.Common.{rules, ◌≤◌, ℕ, Some, refl, sym, subst}
 use Rattle.sa_outside.proofs.Growth.{Grew-trans}
 use Rattle.wa_code.specs.Codes.{row_of}
 use Rattle.wa_exec.specs.Linking.{flat_of}
