@@ -2,7 +2,7 @@
 //! `main`.
 
 ghost use Rattle.std.specs.Prelude.{◌≡◌, ◌≤◌, ◌++◌, ◌||◌, [], ◌∷◌, if◌then◌else◌, bytes_eq, codes, slice_get, IfOk, IfErr, IfSome, IsNone, Some, None, length, map, option_map};
-ghost use Rattle.wa_exec.specs.Linking.{are_same};
+ghost use Rattle.wa_code.specs.Codes.{are_same};
 ghost use Rattle.wa_exec.specs.Links.{Names, function_of, host_called};
 ghost use Rattle.wa_syntax.specs.declared.module.ValTy.TheVariants.{I32};
 ghost use Rattle.wa_syntax.specs.Hosts.{from_to, host_named, host_of, is_type, type_of};

@@ -1,4 +1,4 @@
-use Rattle.std.proofs.Common.{◌≡◌, Err, Some, ap, length, subst, ◌∙◌, rules}
+use Rattle.std.proofs.Common.{◌≡◌, Err, Some, length, subst, rules}
 use Rattle.wa_syntax.specs.declared.module.Module.{Module}
 use Rattle.wa_syntax.specs.Runs.{main_of}
 use Rattle.wa_syntax.specs.ValidModule.{IsValid}
