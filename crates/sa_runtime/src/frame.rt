@@ -35,8 +35,9 @@ const GO_INSIDE: &[Part] = &[
     Line(&[Get(OTHER), Set(FRAME), Br(1)]),
 ];
 
-/// What `RELEASE` does with a frame. Each frame comes behind those of the instances inside it, and these in the order of their list. The
-/// link to the instance around a frame is read before the frame is given back, since the pool's link then stands there.
+/// What `RELEASE` does with a frame. Each frame comes behind those of the instances inside it, and these in the order of
+/// their list. The link to the instance around a frame is read before the frame is given back, since the pool's link then
+/// stands there.
 const RELEASE_BODY: &[Part] = &[
     Line(&[Get(FRAME), I32(0), Memory(I32_STORE, SIBLING_AT)]),
     Loop(&[

@@ -7,6 +7,7 @@ use Rattle.sa_tree.specs.declared.class.Flat.{Flat}
 use Rattle.sa_tree.specs.declared.ty.Ty.{Ty}
 use Rattle.sa_tree.specs.Types.{BareTy, Named, Same, Rout, Iter, BareTys, no_types, type, bare, all_bare}
 use Rattle.sa_tree.proofs.BareTypes.{bare-Named}
+use Rattle.sa_types.specs.Instances.{own_type, at_instance}
 use Rattle.sa_types.specs.Substitution.{place_of}
 use Rattle.sa_pairs.specs.declared.pattern.Node.{Node}
 use Rattle.sa_pairs.specs.declared.pattern.Node.TheVariants as node
@@ -15,7 +16,7 @@ use Rattle.sa_pairs.specs.Spelled.{count_types, read_type, read_types}
 use Rattle.sa_pairs.specs.Patterns.{pair_nodes, below_nodes, above_nodes, IsNamedIn, head_name}
 use Rattle.sa_pairs.specs.Numbers.{class_place}
 use Rattle.sa_pairs.specs.Edges.{EdgeNodes, number_alone, class_number, edge_up, edge_down, edge_below, edge_above, edges_in, where_own, edges_at, edges_upto, declared_edges}
-use Rattle.sa_subtypes.specs.Subtypes.{class_named, IsClass, own_type, at_instance, IsClassIn, DeclaresBelow, DeclaresAbove, IsEdge}
+use Rattle.sa_subtypes.specs.Subtypes.{class_named, IsClass, IsClassIn, DeclaresBelow, DeclaresAbove, IsEdge}
 use Rattle.sa_subtypes.proofs.ClassPlaces.{IsNumbered, named-numbered, numbered-named, place_of-within}
 use Rattle.sa_pairs.proofs.Dressed.{count-all_bare, dress_all, all_bare-dressed, length-dressed}
 use Rattle.sa_subtypes.proofs.Instances.{bare-at_instance}

@@ -8,9 +8,9 @@ use Rattle.sa_tree.specs.declared.class.Kind.{Kind}
 use Rattle.sa_tree.specs.declared.class.Kind.TheVariants as kind
 use Rattle.sa_tree.specs.declared.ty.Mode.TheVariants.{In, Out, Inout, Once}
 use Rattle.sa_tree.specs.declared.ty.Ty.{Ty}
-use Rattle.sa_tree.specs.declared.ty.Ty.TheVariants as ty
 use Rattle.sa_tree.specs.Types.{BareTy, Named, Same, Rout, Iter, no_types, type, BareArgs, no_args, arg, BareResult, no_result, gives, bare}
-use Rattle.sa_types.specs.Substitution.{given_for, place_of, substituted}
+use Rattle.sa_types.specs.Instances.{own_type, at_instance}
+use Rattle.sa_types.specs.Substitution.{place_of}
 
 -- ---- what the classes declare
 
@@ -22,14 +22,6 @@ class_named (c ∷ more) name = cond (pointwise nat_eq c.name.name name) (Some c
 -- the class is the one of its name
 abbrev pub IsClass : Flat → Class → Type 0
 IsClass flat c = class_named flat.classes c.name.name ≡ Some c
-
--- the type that a class is at these types
-abbrev pub own_type : Class → List Ty → Ty
-own_type c given = ty.Named c.name.name given c.name.pos
-
--- a type of a class's header where the class is taken at these types
-abbrev pub at_instance : Class → List Ty → Ty → Ty
-at_instance c given = substituted (given_for c.params given) (own_type c given)
 
 -- a type of a class's header is a class: SAME, or the name of a class that is no parameter
 abbrev pub IsClassIn : Flat → Class → BareTy → Type 0

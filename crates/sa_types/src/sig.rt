@@ -2,8 +2,6 @@
 
 ghost use Rattle.std.specs.Prelude.{◌≡◌};
 ghost use Rattle.sa_types.specs.Abstract.{begins_dollar, is_abstract_type};
-ghost use Rattle.std.specs.Prelude.{◌≡◌};
-ghost use Rattle.sa_types.specs.Abstract.{begins_dollar, is_abstract_type};
 
 use sa_tree::{Class, ModeTy, Name, Ty};
 use sqlite_items::Items;
