@@ -1,5 +1,5 @@
 -- What `exec` shows of the run of its module.
-use Rattle.std.specs.Prelude.{◌≡◌, ℕ, ◌%◌, ◌^◌, List, Option, None, Some, ⊤}
+use Rattle.std.specs.Prelude.{◌≡◌, ℕ, ◌%◌, ◌^◌, List, Option, Some, ⊤}
 use Rattle.sa_outside.specs.Files.{Files}
 use Rattle.sa_read.specs.Read.{HasFile}
 use Rattle.sa_words.specs.Line.{Exec, Line}

@@ -1,9 +1,9 @@
 -- Going up in a tree to a depth.
-use Rattle.std.proofs.Common.{◌≡◌, ◌⊎◌, inl, inr, ℕ, zero, suc, ◌+◌, ◌<◌, ◌≤◌, List, Option, Some, None, slice_get, length, get_or, refl, sym, ap, subst, ◌∙◌, arith}
+use Rattle.std.proofs.Common.{◌≡◌, ◌⊎◌, inl, inr, ℕ, ◌<◌, ◌≤◌, List, Some, None, slice_get, length, get_or, refl, ap, subst, arith}
 use Rattle.std.specs.Option.{option_map_or}
 use Rattle.std.proofs.lemmas.Option.{slice_get_cases, slice_get_read, slice_get_within}
 use Rattle.sa_lineage.specs.declared.links.Link.{Link}
-use Rattle.sa_lineage.specs.Lineages.{Line, here, up, IsBelow, IsRoot, IsLinked, AreLinked, IsClimbed, IsHigher, depth_at}
+use Rattle.sa_lineage.specs.Lineages.{Line, here, up, IsBelow, IsLinked, AreLinked, IsClimbed, IsHigher, depth_at}
 use Rattle.sa_lineage.proofs.Lines.{same-link, line-over, line-one, line-above, line-same, line-leap, line-to}
 
 -- the class is above the other, and not above this depth if the other isn't

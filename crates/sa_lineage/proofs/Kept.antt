@@ -1,10 +1,10 @@
 -- The edges of the tables are the declared ones, where they were tried.
-use Rattle.std.proofs.Common.{◌≡◌, ℕ, zero, suc, ◌+◌, ◌<◌, ◌≤◌, List, [], ◌∷◌, Option, Some, length, map, get_or, slice_get, refl, sym, ap, subst, ◌∙◌, arith}
+use Rattle.std.proofs.Common.{◌≡◌, ℕ, ◌+◌, ◌<◌, ◌≤◌, List, Some, length, get_or, slice_get, sym, ap, subst, ◌∙◌, arith}
 use Rattle.sa_pairs.specs.declared.declared.Edge.{Edge}
 use Rattle.sa_pairs.specs.declared.pattern.Node.{Node}
 use Rattle.sa_pairs.specs.declared.written.Written.{Written}
-use Rattle.sa_pairs.specs.Edges.{EdgeNodes, edge_of}
-use Rattle.sa_lineage.specs.Kept.{IsEdgeOf, IsWrittenAt, AreWritten}
+use Rattle.sa_pairs.specs.Edges.{edge_of}
+use Rattle.sa_lineage.specs.Kept.{IsWrittenAt, AreWritten}
 use Rattle.sa_lineage.specs.Lineages.{Tables}
 use Rattle.sa_pairs.specs.Words.{SameInstances}
 use Rattle.sa_lineage.proofs.Trials.{all-more, all-of}

@@ -1,12 +1,12 @@
 -- What the tables say is what the edges lead to, where the tables were tried.
-use Rattle.std.proofs.Common.{◌≡◌, ◌⊎◌, inl, inr, ℕ, zero, suc, ◌+◌, ◌<◌, ◌≤◌, List, Option, Some, None, slice_get, refl, sym, ap, subst, ◌∙◌, arith}
+use Rattle.std.proofs.Common.{◌≡◌, ◌⊎◌, inl, inr, ℕ, zero, suc, ◌<◌, List, Some, None, slice_get, refl, sym, ap, subst, ◌∙◌, arith}
 use Rattle.std.proofs.lemmas.Option.{none-some}
 use Rattle.sa_pairs.specs.declared.declared.Edge.{Edge}
 use Rattle.sa_lineage.specs.declared.lineage.Above.{Above}
 use Rattle.sa_lineage.specs.declared.links.Link.{Link}
 use Rattle.sa_pairs.specs.declared.pattern.Node.{Node}
 use Rattle.sa_pairs.specs.Words.{IsInstance, IsComposed}
-use Rattle.sa_lineage.specs.Lineages.{Tables, At, class_at, AreArgs, pair_of, Step, Leads, by_edge, by_edges, Line, here, up, IsBelow, IsRoot, IsLinked, KeepsArgs, InList, HasForm, GivesPair, GoesOn, IsCovered, IsCovering, IsListed, IsKeptEdge, IsOwn, HasOwn, GoesOnWith, IsSound, AreTried, InLine, ByList, IsFound}
+use Rattle.sa_lineage.specs.Lineages.{Tables, At, class_at, AreArgs, pair_of, Step, Leads, by_edge, by_edges, Line, here, up, IsBelow, IsRoot, IsLinked, KeepsArgs, InList, HasForm, GoesOn, IsCovered, IsCovering, IsListed, IsKeptEdge, IsOwn, HasOwn, GoesOnWith, IsSound, AreTried, InLine, ByList, IsFound}
 use Rattle.sa_lineage.proofs.Lines.{same-link, line-over, line-one, line-from, line-to, is-below, line-strict, line-root}
 use Rattle.sa_lineage.proofs.Pairs.{form-parts, given-pair, between-composed, kept-instance, kept-parts}
 

@@ -1,8 +1,8 @@
 -- The trees of classes: what is above a class stands in one line, and a jump stays on it.
-use Rattle.std.proofs.Common.{◌≡◌, ◌⊎◌, inl, inr, ℕ, zero, suc, ◌+◌, ◌<◌, ◌≤◌, List, Option, Some, None, slice_get, refl, sym, ap, subst, ◌∙◌, arith}
+use Rattle.std.proofs.Common.{◌≡◌, ◌⊎◌, inl, inr, ℕ, zero, suc, ◌<◌, ◌≤◌, List, Some, slice_get, refl, sym, ap, subst, ◌∙◌, arith}
 use Rattle.std.proofs.lemmas.Option.{none-some}
 use Rattle.sa_lineage.specs.declared.links.Link.{Link}
-use Rattle.sa_lineage.specs.Lineages.{Line, here, up, IsBelow, IsRoot, IsLinked}
+use Rattle.sa_lineage.specs.Lineages.{Line, here, up, IsBelow, IsLinked}
 
 some_links : (l m : Link) → Some l ≡ Some m → l ≡ m
 some_links l m e = cc

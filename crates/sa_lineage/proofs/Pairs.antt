@@ -1,10 +1,10 @@
 -- Pairs of types as lists of nodes: their parts, what two of them give, and those that keep their arguments.
-use Rattle.std.proofs.Common.{◌≡◌, ℕ, zero, suc, ◌+◌, ◌<◌, ◌≤◌, Bool, true, false, true≢false, ◌||◌, cond, nat_eq, List, [], ◌∷◌, ◌++◌, Option, Some, None, refl, sym, ap, subst, ◌∙◌, arith}
+use Rattle.std.proofs.Common.{◌≡◌, ℕ, zero, suc, ◌+◌, ◌≤◌, Bool, true, false, true≢false, ◌||◌, cond, nat_eq, List, [], ◌∷◌, ◌++◌, Option, Some, refl, sym, ap, subst, ◌∙◌, arith}
 use Rattle.std.proofs.lemmas.Bool.{eqb-true, eq-eqb}
 use Rattle.std.proofs.lemmas.Option.{none-some}
 use Rattle.sa_pairs.specs.declared.pattern.Node.{Node}
 use Rattle.sa_pairs.specs.declared.pattern.Node.TheVariants as node
-use Rattle.sa_pairs.specs.Words.{held, behind, is_variable, comes, IsWord, Values, AreWords, put, IsInstance, IsInstanceOf, IsGiven, Follows, IsComposed}
+use Rattle.sa_pairs.specs.Words.{held, behind, comes, IsWord, Values, AreWords, put, IsInstance, IsInstanceOf, IsGiven, Follows, IsComposed}
 use Rattle.sa_lineage.specs.Lineages.{AreArgs, pair_of, HasForm, counts, kept}
 use Rattle.sa_pairs.proofs.Words.{behind_none, behind-split, behind-put, put-append, put-same}
 use Rattle.sa_pairs.proofs.Compositions.{same_words}

@@ -9,7 +9,7 @@ use Rattle.sa_core.specs.declared.feature.SiteCore.{SiteCore}
 use Rattle.sa_core.specs.declared.feature.Target.TheVariants as target
 use Rattle.sa_core.specs.Copy.{expr_list, arg_list, stmt_list, test_list, arm_list}
 use Rattle.sa_core.specs.Tree as tree
-use Rattle.sa_core.specs.Tree.{Expr, VoidOf, Me, Var, Exception, IsVoid, New, NewArray, Elements, Call, IterCall, Bind, Swapped, And, Or, Widen, Arg, Variable, Left, Stmt, Let, Do, If, Loop, Leave, TypeCase, Protect, Return, Yield, Quit, Raise, Stop, Stmts, no_stmts, Else, no_else, otherwise}
+use Rattle.sa_core.specs.Tree.{Expr, VoidOf, Me, Var, Exception, IsVoid, New, Call, IterCall, Bind, Or, Arg, Variable, Left, Stmt, Let, Do, If, Loop, Leave, TypeCase, Protect, Return, Yield, Quit, Raise, Stop, no_stmts, no_else, otherwise}
 use Rattle.sa_meaning.specs.Program.{TypeRow, Feature, Program, bool_type, int_type, str_type, fault_type}
 
 -- ---- words for trees, all of whose forms stand at one place

@@ -1,7 +1,7 @@
 -- Counts of faults over several calls.
-use Rattle.std.proofs.Common.{◌≡◌, ℕ, ◌<◌, ◌≤◌, arith, inl, inr}
+use Rattle.std.proofs.Common.{◌≡◌, ℕ, ◌≤◌, arith, inl, inr}
 use Rattle.std.proofs.lemmas.Bool.{cases_lt}
-use Rattle.sa_outside.specs.Faults.{Rose, last_count}
+use Rattle.sa_outside.specs.Faults.{Rose}
 
 -- a fault after an earlier count
 pub Rose-earlier : (a b c : ℕ) → a ≤ b → Rose b c → Rose a c

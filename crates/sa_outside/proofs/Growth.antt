@@ -1,5 +1,5 @@
 -- Sinks that only grow.
-use Rattle.std.proofs.Common.{◌≡◌, ◌∙◌, ℕ, ap, refl, sym, List, [], ◌++◌, take, Option, None, Some, append-nil, append_assoc}
+use Rattle.std.proofs.Common.{◌∙◌, ℕ, ap, refl, sym, List, [], ◌++◌, take, Option, None, Some, append-nil, append_assoc}
 use Rattle.std.specs.Prelude.{option_map}
 use Rattle.sa_outside.specs.Output.{Grew, Took, TookFront}
 

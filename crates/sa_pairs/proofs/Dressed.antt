@@ -1,5 +1,5 @@
 -- A type of a source for each type without positions.
-use Rattle.std.proofs.Common.{◌≡◌, ℕ, suc, List, [], ◌∷◌, Option, None, Some, length, refl, ap, ◌∙◌}
+use Rattle.std.proofs.Common.{◌≡◌, suc, List, [], ◌∷◌, Option, None, Some, length, refl, ap, ◌∙◌}
 use Rattle.sa_tree.specs.declared.pos.Pos.{Pos}
 use Rattle.sa_tree.specs.declared.ty.ModeTy.{ModeTy}
 use Rattle.sa_tree.specs.declared.ty.Ty.{Ty}

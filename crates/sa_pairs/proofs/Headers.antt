@@ -1,11 +1,11 @@
 -- A type in the header of a class, spelled part by part.
-use Rattle.std.proofs.Common.{◌≡◌, ℕ, suc, ◌+◌, ◌*◌, List, [], ◌∷◌, ◌++◌, Option, None, Some, length, map, refl, sym, ap, ◌∙◌, arith, append_assoc, add-one}
+use Rattle.std.proofs.Common.{◌≡◌, ℕ, suc, ◌+◌, ◌*◌, List, [], ◌∷◌, ◌++◌, Option, None, Some, length, refl, sym, ap, ◌∙◌, arith, append_assoc, add-one}
 use Rattle.std.specs.Prelude.{flat_map}
 use Rattle.sa_tree.specs.declared.pos.Pos.{Pos}
 use Rattle.sa_tree.specs.declared.ty.ModeTy.{ModeTy}
 use Rattle.sa_tree.specs.declared.ty.Ty.{Ty}
 use Rattle.sa_tree.specs.declared.ty.Ty.TheVariants as ty
-use Rattle.sa_tree.specs.Types.{Named, Rout, Iter, BareTys, bare, bare_arg, all_bare, all_bare_args, option_bare}
+use Rattle.sa_tree.specs.Types.{Named, Rout, Iter, all_bare, all_bare_args, option_bare}
 use Rattle.sa_tree.proofs.BareTypes.{bare-Named, bare-Same, bare-Rout, bare-Iter, bare_arg-parts}
 use Rattle.sa_pairs.specs.declared.header.Header.{Header}
 use Rattle.sa_pairs.specs.declared.pattern.Node.{Node}

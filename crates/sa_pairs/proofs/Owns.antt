@@ -1,7 +1,6 @@
 -- The parameters of a class as variables, and the class with them: what they become with words in place of the variables, and how that is read.
 use Rattle.std.proofs.Common.{◌≡◌, ℕ, zero, suc, ◌+◌, ◌<◌, List, [], ◌∷◌, ◌++◌, Some, refl, sym, ap, ◌∙◌, arith, append_assoc}
 use Rattle.sa_tree.specs.Types.{BareTy, Named, Same, BareTys, no_types, type}
-use Rattle.sa_pairs.specs.declared.pattern.Node.{Node}
 use Rattle.sa_pairs.specs.declared.pattern.Node.TheVariants as node
 use Rattle.sa_pairs.specs.Words.{behind, IsWord, Values, AreWords, put}
 use Rattle.sa_pairs.specs.Spelled.{count_types, variables, own_nodes, spelled, spelled_all, types_of, type_of, first_item, read_type, read_types}

@@ -1,16 +1,16 @@
 -- The nodes of a declared edge at an instance: with the words that spell the types of an instance they spell the two types of the edge there, and with any words they are read as the two types at what is read of the words.
-use Rattle.std.proofs.Common.{◌≡◌, ℕ, zero, suc, ◌+◌, ◌<◌, List, [], ◌∷◌, ◌++◌, Option, None, Some, refl, sym, ap, subst, ◌∙◌, arith}
+use Rattle.std.proofs.Common.{◌≡◌, ℕ, ◌+◌, ◌<◌, List, [], ◌∷◌, ◌++◌, Option, None, Some, refl, sym, ap, ◌∙◌, arith}
 use Rattle.std.proofs.lemmas.List.{append-nil, append_cancel_right}
 use Rattle.std.specs.Option.{option_map}
 use Rattle.sa_tree.specs.Types.{BareTy, Named, Same, Rout, Iter, BareTys, no_types, type}
 use Rattle.sa_pairs.specs.declared.pattern.Node.{Node}
 use Rattle.sa_pairs.specs.declared.pattern.Node.TheVariants as node
-use Rattle.sa_pairs.specs.Words.{behind, IsWord, Values, AreWords, put}
+use Rattle.sa_pairs.specs.Words.{behind, Values, AreWords, put}
 use Rattle.sa_pairs.specs.Spelled.{count_types, variables, own_nodes, alone, written, written_all, spelled, spelled_all, standing, instance, instance_all, read_type, read_types}
 use Rattle.sa_pairs.specs.Patterns.{pair_nodes, below_nodes, lower_nodes, above_nodes, IsNamedIn, head_name}
-use Rattle.sa_pairs.proofs.Words.{behind_none, behind-append, behind-put, put-append, put-word}
-use Rattle.sa_pairs.proofs.Spelling.{count-instance_all, written-word, written_all-words, put-written, put-written_all, read-written, read-written_all, spelled-word}
-use Rattle.sa_pairs.proofs.Owns.{type_at, readings, count-readings, type_at-readings, own-word, variables-words, put-variables, put-variables-words, read-variables, spelled-Named, put-own, read-own}
+use Rattle.sa_pairs.proofs.Words.{behind_none, behind-append, behind-put, put-append}
+use Rattle.sa_pairs.proofs.Spelling.{count-instance_all, written_all-words, put-written, put-written_all, read-written, read-written_all, spelled-word}
+use Rattle.sa_pairs.proofs.Owns.{type_at, readings, type_at-readings, own-word, put-variables, put-variables-words, read-variables, put-own, read-own}
 
 -- ---- two ways to part the nodes are one
 

@@ -6,8 +6,8 @@ use Rattle.std.proofs.lemmas.List.{take-append-le, drop-append-le}
 use Rattle.std.proofs.lemmas.Option.{none-some}
 use Rattle.sa_pairs.specs.declared.pattern.Node.{Node}
 use Rattle.sa_pairs.specs.Words.{held, behind, IsWord}
-use Rattle.sa_pairs.specs.Spelled.{Item, a_type, made, read, first_item}
-use Rattle.sa_pairs.proofs.Words.{behind_none, behind-append}
+use Rattle.sa_pairs.specs.Spelled.{Item, made, read, first_item}
+use Rattle.sa_pairs.proofs.Words.{behind-append}
 
 -- a list that isn't empty is not the empty one
 not_empty : (a : Node) (w : List Node) → Some (a ∷ w) ≡ Some [] → ⊥

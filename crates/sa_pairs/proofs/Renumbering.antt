@@ -1,5 +1,5 @@
 -- Variables that are numbered anew: where the new numbers are taken back to the old ones, the instances are the same.
-use Rattle.std.proofs.Common.{◌≡◌, ℕ, List, [], ◌∷◌, sym, ap, refl, ◌∙◌}
+use Rattle.std.proofs.Common.{◌≡◌, ℕ, List, sym, ap, refl, ◌∙◌}
 use Rattle.sa_pairs.specs.declared.pattern.Node.{Node}
 use Rattle.sa_pairs.specs.Words.{AreWords, put, named, IsInstance, SameInstances}
 use Rattle.sa_pairs.proofs.Words.{put-put, put-words}

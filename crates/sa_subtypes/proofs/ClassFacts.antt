@@ -1,5 +1,5 @@
 -- What the table of names says of a class: its number, its name, how many parameters it has, and whether it is immutable.
-use Rattle.std.proofs.Common.{◌≡◌, ℕ, zero, suc, Bool, true, false, List, [], ◌∷◌, Option, Some, None, length, map, slice_get, option_map, refl, sym, ap, ◌∙◌}
+use Rattle.std.proofs.Common.{◌≡◌, ℕ, zero, suc, Bool, false, List, [], ◌∷◌, Option, Some, None, length, map, slice_get, option_map, refl, sym, ap, ◌∙◌}
 use Rattle.std.proofs.lemmas.Option.{none-some}
 use Rattle.std.specs.Option.{option_map_or, option_and_then}
 use Rattle.sa_tree.specs.declared.class.Class.{Class}
@@ -7,7 +7,6 @@ use Rattle.sa_tree.specs.declared.class.Flat.{Flat}
 use Rattle.sa_tree.specs.declared.class.Kind.{Kind}
 use Rattle.sa_tree.specs.Types.{BareTy, Named, Same, Rout, Iter}
 use Rattle.sa_pairs.specs.declared.names.Names.{Names}
-use Rattle.sa_pairs.specs.declared.names.Row.{Row}
 use Rattle.sa_pairs.specs.Numbers.{class_place, number_in, row_of, AreNamesOf, kind_bare, name_of, arity_of}
 use Rattle.sa_subtypes.specs.Subtypes.{class_named, is_immutable_kind, is_immutable_type}
 use Rattle.sa_subtypes.proofs.ClassPlaces.{named-numbered, numbered-named}

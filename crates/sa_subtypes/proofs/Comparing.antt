@@ -1,9 +1,9 @@
 -- Each step of the walks that the code makes.
-use Rattle.std.proofs.Common.{◌≡◌, ℕ, zero, suc, ◌+◌, ◌-◌, ◌*◌, ◌<◌, ◌≤◌, Bool, true, false, ◌&&◌, cond, nat_eq, List, [], ◌∷◌, length, get_or, drop, map, Option, Some, None, refl, sym, ap, subst, ◌∙◌, arith}
+use Rattle.std.proofs.Common.{◌≡◌, ℕ, zero, suc, ◌+◌, ◌-◌, ◌*◌, ◌<◌, ◌≤◌, Bool, true, false, ◌&&◌, cond, nat_eq, List, [], ◌∷◌, length, get_or, drop, map, Option, Some, None, refl, sym, ap, ◌∙◌, arith}
 use Rattle.std.specs.Prelude.{slice_get}
 use Rattle.std.specs.Option.{option_map, option_or}
 use Rattle.std.proofs.lemmas.Bool.Decides.{nat_tests}
-use Rattle.std.proofs.lemmas.List.{drop_more, drop_all, length-map, get_or_read}
+use Rattle.std.proofs.lemmas.List.{drop_more, drop_all, length-map}
 use Rattle.sa_tree.specs.declared.pos.Pos.{Pos}
 use Rattle.sa_tree.specs.declared.ty.Mode.{Mode}
 use Rattle.sa_tree.specs.declared.ty.ModeTy.{ModeTy}
@@ -13,7 +13,7 @@ use Rattle.sa_tree.specs.Types.{BareTy, BareTys, bare, bare_arg, bare_tys, all_b
 use Rattle.sa_tree.proofs.BareTypes.{bare-Named, bare-Same, bare-Rout, bare-Iter, bare_arg-parts}
 use Rattle.sa_pairs.specs.declared.pattern.Node.{Node}
 use Rattle.sa_pairs.specs.declared.pattern.Node.TheVariants as node
-use Rattle.sa_subtypes.specs.Questions.{is_class, is_list, is_routine, is_iter, is_type_head, is_head, Met, a_variable, a_head, another, headed, node_meets, meets, Seen, found, past, unlike, seen_then, met_then, walk_mode, walk_inside, walk_all, walk_args, walk_result, walk, walk_arg, sought, is_wanted, seeking, item_seen, first_in, value_below, value_from, is_number, counts_up, same_item, stands, passed_if, comparing, is_past, is_end, both_fit, class_fits, upper_fits, first_fits, pair_fits}
+use Rattle.sa_subtypes.specs.Questions.{is_class, is_list, is_routine, is_iter, is_type_head, is_head, a_variable, a_head, another, headed, node_meets, meets, Seen, found, past, unlike, seen_then, met_then, walk_mode, walk_inside, walk_all, walk_args, walk_result, walk, walk_arg, sought, is_wanted, seeking, item_seen, first_in, value_below, value_from, is_number, counts_up, same_item, stands, passed_if, comparing, is_past, is_end, both_fit, class_fits, upper_fits, first_fits, pair_fits}
 use Rattle.sa_pairs.specs.Spelled.{count_types, count_args, count_result, Item, a_type, a_mode}
 
 -- ---- the whole

@@ -4,13 +4,12 @@ use Rattle.std.proofs.Math.Path.{fun_ext}
 use Rattle.std.specs.Option.{option_and_then}
 use Rattle.sa_tree.specs.declared.class.Class.{Class}
 use Rattle.sa_tree.specs.declared.pos.Pos.{Pos}
-use Rattle.sa_tree.specs.declared.ty.Mode.{Mode}
 use Rattle.sa_tree.specs.declared.ty.ModeTy.{ModeTy}
 use Rattle.sa_tree.specs.declared.ty.Ty.{Ty}
-use Rattle.sa_tree.specs.declared.ty.Ty.TheOpen.{Ty-F, ModeTy-F}
-use Rattle.sa_tree.specs.declared.ty.Ty.TheFolds.{map-Ty, map-ModeTy, ind-Ty}
+use Rattle.sa_tree.specs.declared.ty.Ty.TheOpen.{Ty-F}
+use Rattle.sa_tree.specs.declared.ty.Ty.TheFolds.{map-Ty, ind-Ty}
 use Rattle.sa_tree.specs.declared.ty.Ty.TheVariants as ty
-use Rattle.sa_tree.specs.declared.ty.Ty.TheViews.{roll-Ty, roll-ModeTy, out-ModeTy, out-roll-ModeTy}
+use Rattle.sa_tree.specs.declared.ty.Ty.TheViews.{roll-Ty}
 use Rattle.sa_tree.specs.Types.{BareTy, Named, Same, Rout, Iter, type, arg, gives, bare, bare_arg, all_bare, all_bare_args, option_bare}
 use Rattle.sa_tree.proofs.BareTypes.{bare-Named, bare-Same, bare-Rout, bare-Iter, bare_arg-parts, by_variants}
 use Rattle.sa_types.specs.Substitution.{place_of, given_for, placed, named_alone, named, substituted, substituted_arg}

@@ -1,20 +1,20 @@
 -- Nodes fit two types exactly where they are those of a pair whose arguments are the types' with words in place of the variables.
-use Rattle.std.proofs.Common.{◌≡◌, ℕ, zero, suc, ◌+◌, Bool, true, false, true≢false, ◌||◌, ◌&&◌, cond, nat_eq, List, [], ◌∷◌, ◌++◌, length, Option, None, Some, refl, sym, ap, subst, ◌∙◌, arith, inl, inr}
+use Rattle.std.proofs.Common.{◌≡◌, ℕ, zero, suc, ◌+◌, Bool, true, false, true≢false, ◌||◌, ◌&&◌, nat_eq, List, [], ◌∷◌, ◌++◌, length, Option, None, Some, refl, sym, ap, subst, ◌∙◌, arith, inl, inr}
 use Rattle.std.specs.Prelude.{◌⊎◌, ◌↔◌, slice_get}
 use Rattle.std.specs.Cmp.{first_so, second_so}
 use Rattle.std.specs.Option.{option_map, option_or}
 use Rattle.std.proofs.lemmas.Bool.{eqb-true, eq-eqb}
-use Rattle.std.proofs.lemmas.List.{append_cancel_left, append_cancel_right, append-nil}
+use Rattle.std.proofs.lemmas.List.{append_cancel_left, append-nil}
 use Rattle.std.proofs.lemmas.Option.{none-some}
-use Rattle.sa_tree.specs.TypeEquality.{same_type, same_mode, same_type_Decides}
-use Rattle.sa_tree.specs.Types.{BareTy, BareTys, no_types, type, bare_tys}
+use Rattle.sa_tree.specs.TypeEquality.{same_type_Decides}
+use Rattle.sa_tree.specs.Types.{BareTy, BareTys, type, bare_tys}
 use Rattle.sa_pairs.specs.declared.pattern.Node.{Node}
 use Rattle.sa_pairs.specs.declared.pattern.Node.TheVariants as node
-use Rattle.sa_subtypes.specs.Questions.{word_of, IsPairFor, Seen, found, past, unlike, walk_all, sought, is_wanted, seeking, item_seen, first_in, is_number, counts_up, value_below, value_from, same_item, stands, passed_if, comparing, is_past, is_end, both_fit, class_fits, upper_fits, first_fits, pair_fits}
+use Rattle.sa_subtypes.specs.Questions.{word_of, IsPairFor, Seen, found, past, unlike, walk_all, sought, seeking, item_seen, first_in, is_number, counts_up, value_below, value_from, same_item, stands, passed_if, comparing, is_past, is_end, both_fit, class_fits, upper_fits, first_fits, pair_fits}
 use Rattle.sa_pairs.specs.Spelled.{count_types, spelled, spelled_all, Item, a_type, a_mode}
 use Rattle.sa_pairs.specs.Words.{IsWord, Values, AreWords, put, is_variable, comes}
-use Rattle.sa_subtypes.proofs.TypeWords.{no_cons, cons-head, cons-tail, item_head, item_inside, word-head, spelled-word, item-word, item-equal, put-empty, not_empty}
-use Rattle.sa_subtypes.proofs.Walks.{past-equal, found-past, unlike-past, same_mode-self, same_mode-true, head-unbound, IsCut, cut-all, Outcome, outcome-all}
+use Rattle.sa_subtypes.proofs.TypeWords.{cons-head, item_head, item_inside, word-head, spelled-word, item-word, item-equal, put-empty, not_empty}
+use Rattle.sa_subtypes.proofs.Walks.{past-equal, unlike-past, same_mode-self, same_mode-true, head-unbound, IsCut, cut-all, Outcome, outcome-all}
 use Rattle.sa_pairs.proofs.Words.{put-same, words-equal}
 
 -- ---- what stands for a variable as a word

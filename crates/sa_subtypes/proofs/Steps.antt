@@ -1,10 +1,9 @@
 -- The edges of the tables are the edges of the relation: one or more edges of the tables lead from a class at the words of its arguments to another exactly where edges of the relation lead from type to type.
-use Rattle.std.proofs.Common.{◌≡◌, ◌⊎◌, inl, inr, ℕ, List, [], ◌∷◌, ◌++◌, Some, slice_get, refl, sym, ap, subst, ◌∙◌}
+use Rattle.std.proofs.Common.{◌≡◌, ◌⊎◌, inl, inr, ℕ, List, Some, slice_get, refl, sym, ap, subst, ◌∙◌}
 use Rattle.sa_tree.specs.declared.class.Class.{Class}
 use Rattle.sa_tree.specs.declared.class.Flat.{Flat}
 use Rattle.sa_tree.specs.Types.{BareTy, Named, BareTys}
 use Rattle.sa_pairs.specs.declared.declared.Edge.{Edge}
-use Rattle.sa_pairs.specs.declared.pattern.Node.{Node}
 use Rattle.sa_pairs.specs.Spelled.{count_types, spelled_all, read_types}
 use Rattle.sa_pairs.specs.Edges.{EdgeNodes}
 use Rattle.sa_lineage.specs.Kept.{IsEdgeOf}

@@ -1,5 +1,5 @@
 -- The words of types: each is one word, and types with equal words are equal.
-use Rattle.std.proofs.Common.{◌≡◌, ℕ, zero, suc, ◌+◌, Bool, true, false, true≢false, ◌||◌, List, [], ◌∷◌, ◌++◌, None, Some, length, refl, sym, ap, subst, ◌∙◌, arith, append_assoc, inl, inr}
+use Rattle.std.proofs.Common.{◌≡◌, ℕ, zero, suc, ◌+◌, List, [], ◌∷◌, ◌++◌, Some, length, refl, sym, ap, subst, ◌∙◌, arith, append_assoc, inl, inr}
 use Rattle.std.specs.Prelude.{◌⊎◌}
 use Rattle.std.proofs.lemmas.List.{append_cancel_left, append-nil}
 use Rattle.std.proofs.lemmas.Option.{none-some}
@@ -9,7 +9,7 @@ use Rattle.sa_pairs.specs.declared.pattern.Node.{Node}
 use Rattle.sa_pairs.specs.declared.pattern.Node.TheVariants as node
 use Rattle.sa_subtypes.specs.Questions.{spelled_args, spelled_result, word_of}
 use Rattle.sa_pairs.specs.Spelled.{count_types, count_args, count_result, spelled, spelled_all, Item, a_type, a_mode}
-use Rattle.sa_pairs.specs.Words.{held, behind, IsWord, Values, AreWords, value_of, put, is_variable, comes}
+use Rattle.sa_pairs.specs.Words.{held, behind, IsWord, Values, AreWords, value_of, put}
 use Rattle.sa_pairs.proofs.Words.{behind_none, behind-append, behind-split, words-equal}
 
 -- ---- lists of nodes

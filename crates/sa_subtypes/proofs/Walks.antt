@@ -1,5 +1,5 @@
 -- A walk over nodes beside types: it comes behind the nodes that become the types with words in place of variables, or to an item that is looked for.
-use Rattle.std.proofs.Common.{◌≡◌, ℕ, ◌+◌, Bool, true, false, true≢false, ◌||◌, ◌&&◌, cond, nat_eq, List, [], ◌∷◌, ◌++◌, Option, None, Some, refl, sym, ap, subst, ◌∙◌, append_assoc, inl, inr}
+use Rattle.std.proofs.Common.{◌≡◌, ℕ, ◌+◌, Bool, true, false, true≢false, ◌||◌, ◌&&◌, nat_eq, List, [], ◌∷◌, ◌++◌, Some, refl, sym, ap, subst, ◌∙◌, append_assoc, inl, inr}
 use Rattle.std.specs.Prelude.{◌⊎◌}
 use Rattle.std.specs.Cmp.{first_so, second_so}
 use Rattle.std.specs.Cmp.Lexicographic.{pointwise, bytes_decides}
@@ -14,7 +14,7 @@ use Rattle.sa_pairs.specs.declared.pattern.Node.TheVariants as node
 use Rattle.sa_subtypes.specs.Questions.{spelled_args, spelled_result, word_of, is_class, is_list, is_routine, is_iter, is_passed, is_head, Met, a_variable, a_head, another, headed, meets, Seen, found, past, unlike, seen_then, met_then, walk_mode, walk_inside, walk_all, walk_args, walk_result}
 use Rattle.sa_pairs.specs.Spelled.{count_types, count_args, count_result, spelled, spelled_all, Item, a_type, a_mode}
 use Rattle.sa_pairs.specs.Words.{behind, Values, AreWords, value_of, put, is_variable, comes}
-use Rattle.sa_subtypes.proofs.TypeWords.{item_head, item_inside, word-head, inside, spelled-word, item-word, all-words, args-words, put-empty, put-split, word-cases}
+use Rattle.sa_subtypes.proofs.TypeWords.{item_head, item_inside, word-head, inside, spelled-word, args-words, put-empty, put-split, word-cases}
 use Rattle.sa_pairs.proofs.Words.{put-append}
 
 -- ---- what is seen

@@ -3,7 +3,7 @@ use Rattle.std.specs.Prelude.{Bool, true, false, cond, not, ◌&&◌, ◌||◌}
 use Rattle.sa_tree.specs.declared.ty.Mode.{Mode}
 use Rattle.sa_tree.specs.declared.ty.Mode.TheVariants.{In, Out, Inout, Once}
 use Rattle.sa_tree.specs.TypeEquality.{same_mode, same_type}
-use Rattle.sa_tree.specs.Types.{BareTy, Named, Same, Rout, Iter, BareArgs, no_args, arg, BareResult, no_result, gives}
+use Rattle.sa_tree.specs.Types.{BareTy, Rout, Iter, BareArgs, no_args, arg, BareResult, no_result, gives}
 
 -- by the mode of an argument: the types are the same, the one goes as the bound types go, or it goes the other way round
 abbrev pub goes_by : Mode → Bool → Bool → Bool → Bool

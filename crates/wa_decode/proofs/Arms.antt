@@ -1,9 +1,9 @@
 -- Values whose first byte says what they are.
-use Rattle.std.proofs.Common.{◌≡◌, ℕ, ◌≤◌, List, [], ◌∷◌, ◌++◌, length, slice_range, refl, sym, ap, subst, ◌∙◌}
-use Rattle.std.specs.Prelude.{Result, Ok, Err, IfOk, MatchResult}
+use Rattle.std.proofs.Common.{◌≡◌, ℕ, List, [], ◌∷◌, slice_range, refl, sym, ap, subst, ◌∙◌}
+use Rattle.std.specs.Prelude.{Ok, Err}
 use Rattle.wa_syntax.specs.Formats.{Format, ◌then◌, exactly, byte}
 use Rattle.wa_decode.specs.declared.fault.DecodeFault.{DecodeFault}
-use Rattle.wa_decode.specs.declared.fault.DecodeFault.TheVariants.{NoMemory, Malformed}
+use Rattle.wa_decode.specs.declared.fault.DecodeFault.TheVariants.{Malformed}
 use Rattle.wa_decode.specs.Reading.{Spelled, Reads}
 use Rattle.wa_decode.proofs.Places.{join, split}
 use Rattle.wa_decode.proofs.Reading.{same_read, none_read, after_read, nothing}

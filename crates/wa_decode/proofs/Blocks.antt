@@ -1,15 +1,15 @@
 -- Instructions that hold others, and instructions by their opcode.
-use Rattle.std.proofs.Common.{◌≡◌, ℕ, zero, suc, ◌+◌, ◌-◌, ◌<◌, ◌≤◌, ◌⊎◌, List, [], ◌∷◌, ◌++◌, length, drop, slice_get, slice_range, Option, Some, refl, sym, ap, subst, ◌∙◌, inl, inr, arith}
+use Rattle.std.proofs.Common.{◌≡◌, ℕ, zero, suc, ◌+◌, ◌-◌, ◌<◌, ◌≤◌, List, [], ◌∷◌, ◌++◌, drop, slice_get, slice_range, Option, Some, refl, sym, ap, subst, ◌∙◌, inl, inr, arith}
 use Rattle.std.proofs.lemmas.List.{drop_more}
 use Rattle.std.proofs.lemmas.List.Folds.{drop_split}
 use Rattle.std.proofs.lemmas.Result.{IfOk-weaker, err_from_is_err_and}
-use Rattle.std.specs.Prelude.{Result, Ok, Err, IsErrAnd, Bool, true, false, IsTrue, ◌↔◌}
+use Rattle.std.specs.Prelude.{Result, Ok, Err, IsErrAnd, Bool, false, IsTrue, ◌↔◌}
 use Rattle.wa_syntax.specs.declared.instr.Instr.{Instr, out-Instr}
 use Rattle.wa_syntax.specs.declared.instr.Instr.TheOpen.{Instr-F}
 use Rattle.wa_syntax.specs.declared.instr.Instr.TheViews.{roll-Instr}
 use Rattle.wa_syntax.specs.declared.module.ValTy.{ValTy}
 use Rattle.wa_syntax.specs.BinaryInstructions.{blocktype, conditional, instr_over, instr}
-use Rattle.wa_syntax.specs.Formats.{Format, ◌then◌, exactly, each, byte}
+use Rattle.wa_syntax.specs.Formats.{Format, ◌then◌, each, byte}
 use Rattle.wa_decode.specs.declared.fault.DecodeFault.{DecodeFault}
 use Rattle.wa_decode.specs.declared.fault.DecodeFault.TheVariants.{NoMemory, Malformed}
 use Rattle.wa_decode.specs.Reading.{Spelled, Reads, ReadsUpTo, Passes, Stops, behind}

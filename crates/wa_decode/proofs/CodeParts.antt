@@ -2,21 +2,21 @@
 use Rattle.std.proofs.Common.{◌≡◌, ℕ, zero, suc, ◌+◌, ◌<◌, ◌≤◌, List, [], ◌∷◌, ◌++◌, length, map, take, get_or, slice_get, slice_range, Some, replicate, refl, sym, ap, subst, ◌∙◌, arith, append_assoc}
 use Rattle.std.proofs.lemmas.List.{append-nil, length-append, length-map, take_more}
 use Rattle.std.proofs.Math.Seq.{take-length}
-use Rattle.std.specs.Prelude.{Result, Ok, Err}
+use Rattle.std.specs.Prelude.{Ok, Err}
 use Rattle.wa_syntax.specs.declared.instr.Instr.{Instr}
 use Rattle.wa_syntax.specs.declared.locals.Run.{Run}
 use Rattle.wa_syntax.specs.declared.module.Func.{Func}
 use Rattle.wa_syntax.specs.declared.module.ValTy.{ValTy}
 use Rattle.wa_syntax.specs.Binary.{run, locals, code}
 use Rattle.wa_syntax.specs.BinaryInstructions.{valtype, expr}
-use Rattle.wa_syntax.specs.Formats.{Format, ◌then◌, each, vec, sized, u32}
+use Rattle.wa_syntax.specs.Formats.{each, vec, sized, u32}
 use Rattle.wa_syntax.specs.Locals.{types_of_runs}
 use Rattle.wa_decode.specs.declared.fault.DecodeFault.{DecodeFault}
 use Rattle.wa_decode.specs.declared.fault.DecodeFault.TheVariants.{NoMemory, Malformed}
 use Rattle.wa_decode.specs.Codes.{runs_of, code_of, codes_of}
 use Rattle.wa_decode.specs.Reading.{Spelled, Reads}
 use Rattle.wa_decode.proofs.Places.{join, split, none_here, none_only, get_or-slice_get}
-use Rattle.wa_decode.proofs.Reading.{pair, as-ok, as-err, same_read, none_read, after_read}
+use Rattle.wa_decode.proofs.Reading.{pair, as-ok, as-err, none_read, after_read}
 use Rattle.wa_decode.proofs.Vectors.{Behind, Row, row-none, row-more, vec-ok, vec-err, each-more}
 
 -- ---- runs of locals

@@ -1,16 +1,15 @@
 -- Instructions whose opcode was read, by what follows it.
-use Rattle.std.proofs.Common.{◌≡◌, ℕ, zero, suc, ◌<◌, ◌≤◌, ◌⊎◌, List, [], ◌∷◌, ◌++◌, length, slice_range, Option, refl, sym, ap, subst, ◌∙◌, inl, inr, arith}
+use Rattle.std.proofs.Common.{◌≡◌, ℕ, zero, suc, ◌<◌, ◌≤◌, ◌⊎◌, List, [], ◌∷◌, ◌++◌, length, slice_range, refl, sym, ap, subst, ◌∙◌, inl, inr, arith}
 use Rattle.std.proofs.lemmas.Bool.{cases_lt}
 use Rattle.std.proofs.lemmas.List.{append-nil}
-use Rattle.std.specs.Prelude.{Result, Ok, Err}
+use Rattle.std.specs.Prelude.{Ok, Err}
 use Rattle.wa_syntax.specs.declared.instr.Instr.{Instr, out-Instr}
 use Rattle.wa_syntax.specs.declared.instr.Instr.TheOpen.{Instr-F}
 use Rattle.wa_syntax.specs.declared.instr.Instr.TheViews.{roll-Instr, roll-out-Instr, out-roll-Instr}
-use Rattle.wa_syntax.specs.declared.module.ValTy.{ValTy}
 use Rattle.wa_syntax.specs.BinaryInstructions.{IsBare, IsOfMemory, IsAccess, instr_over, instr}
 use Rattle.wa_syntax.specs.Formats.{Format, ◌then◌, exactly, each, vec, byte, u32, i32, i64}
 use Rattle.wa_decode.specs.declared.fault.DecodeFault.{DecodeFault}
-use Rattle.wa_decode.specs.declared.fault.DecodeFault.TheVariants.{NoMemory, Malformed}
+use Rattle.wa_decode.specs.declared.fault.DecodeFault.TheVariants.{Malformed}
 use Rattle.wa_decode.specs.Reading.{Spelled, Reads, Passes, behind}
 use Rattle.wa_decode.proofs.Arms.{Arm}
 use Rattle.wa_decode.proofs.OneInstruction.{number, IsOther, IsPlain, Stands, stands-one, first_of, memory_bare, access_range, plain_range, plain_access}

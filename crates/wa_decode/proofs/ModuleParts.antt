@@ -1,6 +1,6 @@
 -- Imports, exports, globals and segments, by what their parts are.
-use Rattle.std.proofs.Common.{◌≡◌, ℕ, ◌<◌, ◌≤◌, List, [], ◌∷◌, ◌++◌, length, refl, sym, ap, subst, ◌∙◌, append_assoc, arith}
-use Rattle.std.specs.Prelude.{Result, Ok, Err}
+use Rattle.std.proofs.Common.{◌≡◌, ℕ, List, ◌++◌, refl, sym, ap, ◌∙◌, append_assoc, arith}
+use Rattle.std.specs.Prelude.{Ok, Err}
 use Rattle.wa_syntax.specs.declared.module.Elem.{Elem}
 use Rattle.wa_syntax.specs.declared.module.Export.{Export}
 use Rattle.wa_syntax.specs.declared.module.ExportKind.{ExportKind}
@@ -18,7 +18,7 @@ use Rattle.wa_syntax.specs.Binary.{tabletype, memtype, globaltype, importdesc, i
 use Rattle.wa_syntax.specs.BinaryInstructions.{init}
 use Rattle.wa_syntax.specs.Formats.{Format, ◌then◌, byte, name, vec, u32, i32, i64}
 use Rattle.wa_decode.specs.declared.fault.DecodeFault.{DecodeFault}
-use Rattle.wa_decode.specs.Reading.{Spelled, Reads, init_value}
+use Rattle.wa_decode.specs.Reading.{Reads, init_value}
 use Rattle.wa_decode.proofs.Arms.{Arm, HasFirst}
 use Rattle.wa_decode.proofs.Reading.{pair, as-ok, as-err}
 use Rattle.wa_decode.proofs.Tails.{Starts, byte_starts, starts-one}

@@ -1,15 +1,15 @@
 -- The spelling of a module and its sections by their places.
-use Rattle.std.proofs.Common.{◌≡◌, ◌≢◌, ℕ, zero, suc, ◌+◌, ◌-◌, ◌<◌, ◌≤◌, ◌⊎◌, List, [], ◌∷◌, ◌++◌, length, map, take, drop, slice_get, slice_range, Bool, true, nat_eq, Option, None, Some, refl, sym, ap, subst, ◌∙◌, inl, inr, arith}
+use Rattle.std.proofs.Common.{◌≡◌, ℕ, zero, suc, ◌+◌, ◌-◌, ◌<◌, ◌≤◌, ◌⊎◌, List, [], ◌∷◌, ◌++◌, length, map, take, drop, slice_get, slice_range, Bool, true, nat_eq, Option, None, Some, refl, sym, ap, subst, ◌∙◌, inl, inr, arith}
 use Rattle.std.proofs.lemmas.List.{drop-take, length-take}
 use Rattle.std.specs.Cmp.Lexicographic.{same_text}
 use Rattle.std.specs.List.{starts_with}
 use Rattle.wa_syntax.specs.declared.module.Module.{Module}
 use Rattle.wa_syntax.specs.Binary.{functype, tabletype, memtype, vecsec, custom, customs, import, global, export, startsec, elem, code, segment, magic, version, SpellsModule}
-use Rattle.wa_syntax.specs.Formats.{Format, ◌then◌, exactly, each, byte, name, sized, u32}
+use Rattle.wa_syntax.specs.Formats.{Format, ◌then◌, each, byte, u32}
 use Rattle.wa_syntax.proofs.Places.{length-slice_range}
 use Rattle.wa_decode.specs.Reading.{Spelled}
 use Rattle.wa_decode.specs.Sections.{meaningless, PastCustoms, IsSection, IsSections}
-use Rattle.wa_decode.proofs.Places.{join, split, same_fronts, slice_range-append, byte_only, slice_get-get_or}
+use Rattle.wa_decode.proofs.Places.{join, split, slice_range-append, byte_only, slice_get-get_or}
 use Rattle.wa_decode.proofs.Sections.{there_starts, customs-none, customs-here, customs-front}
 use Rattle.wa_decode.proofs.Sized.{slice_range-rest}
 use Rattle.wa_decode.proofs.Tails.{Starts, Passing, passing-customs, passing-section, Optional, optional-vecsec, optional-startsec, byte_starts, starts-one}

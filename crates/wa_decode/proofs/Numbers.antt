@@ -1,14 +1,13 @@
 -- The readers of numbers, as readers of formats.
-use Rattle.std.proofs.Common.{◌≡◌, ℕ, ◌<◌, ◌≤◌, ◌⊎◌, ℤ, List, [], ◌∷◌, length, slice_range, Option, Some, None, w32, w64, refl, sym, ap, subst, ◌∙◌, inl, inr, arith}
+use Rattle.std.proofs.Common.{◌≡◌, ℕ, ◌<◌, ◌≤◌, ℤ, List, [], Option, Some, None, w32, w64, refl, sym, ap, subst, ◌∙◌, inl, inr, arith}
 use Rattle.std.proofs.lemmas.Option.{some_pair_parts}
 use Rattle.std.specs.Int.{cast_unsigned}
-use Rattle.std.specs.Prelude.{Result, Ok, Err, IfOk, MatchResult}
-use Rattle.wa_syntax.specs.Formats.{Format, u32, i32, i64}
+use Rattle.std.specs.Prelude.{Ok, Err}
+use Rattle.wa_syntax.specs.Formats.{u32, i32, i64}
 use Rattle.wa_syntax.specs.Leb128.{IsUnsigned, IsSigned, Spells}
 use Rattle.wa_syntax.proofs.Places.{slice_range-cases}
-use Rattle.wa_decode.specs.declared.fault.DecodeFault.{DecodeFault}
-use Rattle.wa_decode.specs.declared.fault.DecodeFault.TheVariants.{NoMemory, Malformed}
-use Rattle.wa_decode.specs.Reading.{Spelled, Reads}
+use Rattle.wa_decode.specs.declared.fault.DecodeFault.TheVariants.{Malformed}
+use Rattle.wa_decode.specs.Reading.{Reads}
 use Rattle.wa_decode.proofs.Reading.{nothing}
 
 -- what has no empty spelling ends behind its place

@@ -1,12 +1,12 @@
 -- No spelling of an instruction begins another's, and none begins with an `end` or an `else`.
-use Rattle.std.proofs.Common.{◌≡◌, ℕ, zero, suc, ◌+◌, ◌<◌, ◌≤◌, ◌⊎◌, List, [], ◌∷◌, ◌++◌, length, Option, None, Some, refl, sym, ap, subst, ◌∙◌, inl, inr, arith, append_assoc}
+use Rattle.std.proofs.Common.{◌≡◌, ℕ, zero, suc, ◌+◌, ◌≤◌, ◌⊎◌, List, [], ◌∷◌, ◌++◌, Option, refl, sym, ap, subst, ◌∙◌, inl, inr, arith, append_assoc}
 use Rattle.wa_syntax.specs.declared.instr.Instr.{Instr, out-Instr}
 use Rattle.wa_syntax.specs.declared.instr.Instr.TheOpen.{Instr-F}
 use Rattle.wa_syntax.specs.declared.instr.Instr.TheViews.{roll-Instr, roll-out-Instr}
 use Rattle.wa_syntax.specs.declared.module.ValTy.{ValTy}
-use Rattle.wa_syntax.specs.BinaryInstructions.{valtype, blocktype, IsBare, IsOfMemory, IsAccess, plain, access, conditional, instr_over, instr, max_nesting, expr}
-use Rattle.wa_syntax.specs.Formats.{Format, ◌then◌, exactly, each, vec, byte, u32, i32, i64}
-use Rattle.wa_decode.proofs.OneSpelling.{IsOne, one-byte, one-pair, one-as, one-u32, one-i32, one-i64, one-vec, one-blocktype, one-behind, same_byte, same_back}
+use Rattle.wa_syntax.specs.BinaryInstructions.{blocktype, IsBare, IsOfMemory, IsAccess, plain, conditional, instr_over, instr, max_nesting, expr}
+use Rattle.wa_syntax.specs.Formats.{Format, ◌then◌, each, byte}
+use Rattle.wa_decode.proofs.OneSpelling.{IsOne, one-byte, one-pair, one-as, one-u32, one-i32, one-i64, one-vec, one-blocktype, one-behind, same_back}
 use Rattle.wa_decode.proofs.Reading.{pair, same_pair}
 use Rattle.wa_decode.proofs.Tails.{Starts, byte_starts, starts-one}
 

@@ -1,5 +1,5 @@
 -- No bytes spell two modules.
-use Rattle.std.proofs.Common.{◌≡◌, ◌≢◌, ℕ, ◌+◌, ◌-◌, ◌<◌, ◌≤◌, ◌⊎◌, List, [], ◌∷◌, ◌++◌, length, map, drop, slice_get, slice_range, Option, None, Some, refl, sym, ap, subst, ◌∙◌, inl, inr, arith}
+use Rattle.std.proofs.Common.{◌≡◌, ◌≢◌, ℕ, ◌+◌, ◌-◌, List, [], ◌∷◌, ◌++◌, length, map, drop, slice_get, slice_range, Option, None, Some, refl, sym, ap, subst, ◌∙◌, inl, inr, arith}
 use Rattle.std.proofs.lemmas.List.{length-map}
 use Rattle.std.proofs.lemmas.List.Folds.{drop_split}
 use Rattle.wa_syntax.specs.declared.instr.Instr.{Instr}
@@ -14,21 +14,21 @@ use Rattle.wa_syntax.specs.declared.module.Limits.{Limits}
 use Rattle.wa_syntax.specs.declared.module.Module.{Module}
 use Rattle.wa_syntax.specs.declared.module.Segment.{Segment}
 use Rattle.wa_syntax.specs.declared.module.ValTy.{ValTy}
-use Rattle.wa_syntax.specs.Binary.{functype, tabletype, memtype, vecsec, custom, customs, import, global, export, startsec, elem, run, locals, code, segment, SpellsModule}
-use Rattle.wa_syntax.specs.BinaryInstructions.{valtype, expr}
+use Rattle.wa_syntax.specs.Binary.{vecsec, custom, customs, startsec, run, locals, code, SpellsModule}
+use Rattle.wa_syntax.specs.BinaryInstructions.{expr}
 use Rattle.wa_syntax.specs.Formats.{Format, ◌then◌, exactly, each, vec, byte, name, sized, u32}
 use Rattle.wa_syntax.specs.Locals.{types_of_runs}
 use Rattle.wa_syntax.proofs.Places.{length-slice_range}
 use Rattle.wa_decode.specs.Codes.{codes_of, codesec}
 use Rattle.wa_decode.specs.Reading.{Spelled, counted}
-use Rattle.wa_decode.specs.Sections.{meaningless, PastCustoms, IsSection, IsSections}
+use Rattle.wa_decode.specs.Sections.{PastCustoms, IsSection, IsSections}
 use Rattle.wa_decode.proofs.Modules.{module-spelled}
 use Rattle.wa_decode.proofs.OneInstruction.{one-expr}
 use Rattle.wa_decode.proofs.OneSpelling.{IsOne, one-byte, one-pair, one-as, one-vec, one-sized, one-u32, one-valtype, one-functype, one-limits, one-tabletype, one-import, one-export, one-global, one-elem, one-segment}
-use Rattle.wa_decode.proofs.Places.{join, split, byte_only, none_only}
+use Rattle.wa_decode.proofs.Places.{split, byte_only, none_only}
 use Rattle.wa_decode.proofs.Reading.{pair}
 use Rattle.wa_decode.proofs.SectionRow.{coded}
-use Rattle.wa_decode.proofs.Sections.{HasContent, content-vecsec, content-startsec, content-codesec, start_content, Passed, content_at, bare_at, section_at, customs-none, past-split, vecsec-bare, startsec-bare, codesec-bare}
+use Rattle.wa_decode.proofs.Sections.{HasContent, content-vecsec, content-startsec, content-codesec, start_content, Passed, content_at, bare_at, customs-none, past-split, vecsec-bare, startsec-bare, codesec-bare}
 use Rattle.wa_decode.proofs.Sized.{vec-from_counted}
 
 -- ---- at places

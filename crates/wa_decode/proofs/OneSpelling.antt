@@ -1,6 +1,5 @@
 -- No spelling of a value begins another's, and no bytes spell two values: by the productions, up to those of types, imports, exports and initial values.
-use Rattle.std.proofs.Common.{◌≡◌, ℕ, ◌+◌, ◌<◌, ◌≤◌, ◌⊎◌, ℤ, List, [], ◌∷◌, ◌++◌, length, Bool, true, false, Option, None, Some, refl, sym, ap, subst, ◌∙◌, inl, inr, arith, append_assoc}
-use Rattle.std.proofs.lemmas.List.{append-nil, length-append}
+use Rattle.std.proofs.Common.{◌≡◌, ℕ, ◌+◌, List, [], ◌∷◌, ◌++◌, length, Bool, true, false, Option, None, Some, refl, sym, ap, subst, ◌∙◌, arith, append_assoc}
 use Rattle.wa_syntax.specs.declared.module.Elem.{Elem}
 use Rattle.wa_syntax.specs.declared.module.Export.{Export}
 use Rattle.wa_syntax.specs.declared.module.ExportKind.{ExportKind}
@@ -17,9 +16,9 @@ use Rattle.wa_syntax.specs.declared.module.Limits.{Limits}
 use Rattle.wa_syntax.specs.declared.module.Segment.{Segment}
 use Rattle.wa_syntax.specs.declared.module.ValTy.{ValTy}
 use Rattle.wa_syntax.specs.declared.module.ValTy.TheVariants.{I32, I64}
-use Rattle.wa_syntax.specs.Binary.{functype, limits, limits_of, memtype, tabletype, mut, globaltype, importdesc, import, exportdesc, export, global, elem, segment, custom}
+use Rattle.wa_syntax.specs.Binary.{functype, limits, limits_of, tabletype, mut, globaltype, importdesc, import, exportdesc, export, global, elem, segment}
 use Rattle.wa_syntax.specs.BinaryInstructions.{valtype, blocktype, init}
-use Rattle.wa_syntax.specs.Formats.{Format, ◌then◌, exactly, each, vec, byte, name, sized, u32, i32, i64}
+use Rattle.wa_syntax.specs.Formats.{Format, ◌then◌, each, vec, byte, name, sized, u32, i32, i64}
 use Rattle.wa_syntax.proofs.OneSpelling.{unsigned, signed}
 use Rattle.wa_decode.proofs.Places.{same_fronts}
 use Rattle.wa_decode.proofs.Reading.{pair, same_pair}

@@ -1,12 +1,12 @@
 -- Readers one behind another.
-use Rattle.std.proofs.Common.{◌≡◌, ℕ, ◌+◌, ◌≤◌, ◌<◌, List, [], ◌∷◌, length, get_or, slice_get, slice_range, Some, refl, sym, ap, subst, ◌∙◌, arith}
-use Rattle.std.specs.Prelude.{Result, Ok, Err, IfOk, IsErrAnd, MatchResult}
+use Rattle.std.proofs.Common.{◌≡◌, ℕ, ◌+◌, ◌<◌, List, [], ◌∷◌, length, get_or, slice_get, slice_range, Some, refl, sym, ap, subst, ◌∙◌}
+use Rattle.std.specs.Prelude.{Result, Ok, Err, IsErrAnd}
 use Rattle.std.proofs.lemmas.Result.{IfOk-weaker, err_from_is_err_and}
-use Rattle.wa_syntax.specs.Formats.{Format, ◌then◌, exactly, byte}
+use Rattle.wa_syntax.specs.Formats.{Format, ◌then◌, byte}
 use Rattle.wa_decode.specs.declared.fault.DecodeFault.{DecodeFault}
 use Rattle.wa_decode.specs.declared.fault.DecodeFault.TheVariants.{NoMemory, Malformed}
 use Rattle.wa_decode.specs.Reading.{Spelled, Reads, Passes}
-use Rattle.wa_decode.proofs.Places.{join, split, Split, byte_here, byte_only, get_or-slice_get}
+use Rattle.wa_decode.proofs.Places.{join, split, byte_here, byte_only, get_or-slice_get}
 
 -- what is spelled where the value was read is that value
 pub same_read : {V : Type 0} {B : V → Format} {bytes : List ℕ} {at mid end : ℕ} {v w : V} → Reads B bytes at (Ok (v, mid)) → Spelled (B w) bytes at end → (v ≡ w) × (mid ≡ end)

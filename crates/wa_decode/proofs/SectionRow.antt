@@ -1,6 +1,6 @@
 -- The reader of the sections of a module.
-use Rattle.std.proofs.Common.{◌≡◌, ℕ, List, map, Option, refl, sym, ap, subst, ◌∙◌}
-use Rattle.std.specs.Prelude.{Result, Ok, Err, IfOk, MatchResult}
+use Rattle.std.proofs.Common.{◌≡◌, ℕ, List, map, Option, refl, sym, ap, subst}
+use Rattle.std.specs.Prelude.{Result, Ok, Err}
 use Rattle.wa_syntax.specs.declared.module.Elem.{Elem}
 use Rattle.wa_syntax.specs.declared.module.Export.{Export}
 use Rattle.wa_syntax.specs.declared.module.Func.{Func}
@@ -13,7 +13,6 @@ use Rattle.wa_syntax.specs.declared.module.Segment.{Segment}
 use Rattle.wa_syntax.specs.Binary.{functype, tabletype, memtype, vecsec, import, global, export, startsec, elem, code, segment}
 use Rattle.wa_syntax.specs.Formats.{u32}
 use Rattle.wa_decode.specs.declared.fault.DecodeFault.{DecodeFault}
-use Rattle.wa_decode.specs.declared.fault.DecodeFault.TheVariants.{NoMemory}
 use Rattle.wa_decode.specs.Codes.{codesec}
 use Rattle.wa_decode.specs.Sections.{IsSection, IsSections, ReadsTo}
 use Rattle.wa_decode.proofs.Reading.{same_pair}

@@ -1,13 +1,13 @@
 -- Values one after another up to an `end` or an `else`, with which none of them begins.
 use Rattle.std.proofs.Common.{◌≡◌, ℕ, ◌≤◌, List, [], ◌∷◌, ◌++◌, length, refl, sym, ap, subst, ◌∙◌, append_assoc}
 use Rattle.std.proofs.lemmas.List.{append-nil}
-use Rattle.std.specs.Prelude.{Result, Ok, Err, IfOk, MatchResult}
-use Rattle.wa_syntax.specs.Formats.{Format, ◌then◌, exactly, each, byte}
+use Rattle.std.specs.Prelude.{Ok, Err}
+use Rattle.wa_syntax.specs.Formats.{Format, each}
 use Rattle.wa_decode.specs.declared.fault.DecodeFault.{DecodeFault}
 use Rattle.wa_decode.specs.declared.fault.DecodeFault.TheVariants.{NoMemory}
 use Rattle.wa_decode.specs.Reading.{Spelled, Reads, ReadsUpTo, Stops}
-use Rattle.wa_decode.proofs.Places.{join, split, none_here, none_only}
-use Rattle.wa_decode.proofs.Reading.{same_read, none_read, after_read}
+use Rattle.wa_decode.proofs.Places.{split, none_here, none_only}
+use Rattle.wa_decode.proofs.Reading.{none_read, after_read}
 use Rattle.wa_decode.proofs.Vectors.{Behind, each-more}
 
 -- no value begins with an `end` or an `else`

@@ -2,8 +2,8 @@
 use Rattle.std.proofs.Common.{◌≡◌, ℕ, ◌+◌, ◌-◌, ◌<◌, ◌≤◌, List, [], ◌∷◌, ◌++◌, length, take, drop, slice_range, refl, sym, ap, subst, ◌∙◌, arith}
 use Rattle.std.proofs.lemmas.List.{length-drop, length-take, drop-take}
 use Rattle.std.proofs.Math.Seq.{take-length}
-use Rattle.std.specs.Prelude.{Result, Ok, Err, IfOk, MatchResult}
-use Rattle.wa_syntax.specs.Formats.{Format, ◌then◌, exactly, each, vec, byte, sized, u32}
+use Rattle.std.specs.Prelude.{Ok, Err}
+use Rattle.wa_syntax.specs.Formats.{Format, exactly, each, vec, byte, sized, u32}
 use Rattle.wa_decode.specs.declared.fault.DecodeFault.{DecodeFault}
 use Rattle.wa_decode.specs.declared.fault.DecodeFault.TheVariants.{NoMemory, Malformed}
 use Rattle.wa_decode.specs.Reading.{Spelled, Reads, counted}

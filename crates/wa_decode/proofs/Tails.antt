@@ -1,7 +1,7 @@
 -- Sections behind one another. Those that mean nothing may stand between any two, so what is spelled behind a place is the same after they were passed over.
-use Rattle.std.proofs.Common.{◌≡◌, ◌≢◌, ℕ, ◌<◌, ◌≤◌, ◌⊎◌, List, [], ◌∷◌, ◌++◌, length, refl, sym, ap, subst, ◌∙◌, inl, inr, arith, append_assoc}
+use Rattle.std.proofs.Common.{◌≡◌, ℕ, ◌<◌, ◌⊎◌, List, [], ◌∷◌, ◌++◌, refl, sym, ap, subst, ◌∙◌, inl, inr, arith, append_assoc}
 use Rattle.wa_syntax.specs.Binary.{section, vecsec, custom, customs, startsec}
-use Rattle.wa_syntax.specs.Formats.{Format, ◌then◌, exactly, each, byte}
+use Rattle.wa_syntax.specs.Formats.{Format, ◌then◌, each, byte}
 use Rattle.std.specs.Prelude.{Option, None, Some}
 
 -- the bytes begin with this one

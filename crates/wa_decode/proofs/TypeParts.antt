@@ -1,6 +1,6 @@
 -- Types, by what their parts are.
-use Rattle.std.proofs.Common.{◌≡◌, ℕ, List, [], ◌∷◌, Bool, true, false, Option, None, Some, refl, sym, ap, subst, ◌∙◌}
-use Rattle.std.specs.Prelude.{Result, Ok, Err, is_some}
+use Rattle.std.proofs.Common.{◌≡◌, ℕ, List, [], ◌∷◌, Bool, true, false, Option, None, Some, refl, ap, subst, ◌∙◌}
+use Rattle.std.specs.Prelude.{Ok, Err, is_some}
 use Rattle.wa_syntax.specs.declared.module.FuncTy.{FuncTy}
 use Rattle.wa_syntax.specs.declared.module.GlobalTy.{GlobalTy}
 use Rattle.wa_syntax.specs.declared.module.Limits.{Limits}
@@ -10,7 +10,7 @@ use Rattle.wa_syntax.specs.Binary.{functype, limits, limits_of, mut, globaltype}
 use Rattle.wa_syntax.specs.BinaryInstructions.{valtype, blocktype}
 use Rattle.wa_syntax.specs.Formats.{Format, ◌then◌, byte, vec, u32}
 use Rattle.wa_decode.specs.declared.fault.DecodeFault.{DecodeFault}
-use Rattle.wa_decode.specs.Reading.{Spelled, Reads, Passes}
+use Rattle.wa_decode.specs.Reading.{Spelled, Reads}
 use Rattle.wa_decode.specs.declared.fault.DecodeFault.TheVariants.{NoMemory}
 use Rattle.wa_decode.proofs.Places.{join, split}
 use Rattle.wa_decode.proofs.Reading.{IsOneByte, pair, as-ok, as-err, same_read, none_read, after_read}

@@ -1,13 +1,13 @@
 -- Values read one after another, and vectors of them.
-use Rattle.std.proofs.Common.{◌≡◌, ℕ, ◌+◌, ◌<◌, ◌≤◌, List, [], ◌∷◌, ◌++◌, length, slice_range, refl, sym, ap, subst, ◌∙◌, arith, append_assoc}
+use Rattle.std.proofs.Common.{◌≡◌, ℕ, ◌+◌, ◌<◌, ◌≤◌, List, [], ◌∷◌, ◌++◌, length, refl, sym, ap, subst, ◌∙◌, arith, append_assoc}
 use Rattle.std.proofs.lemmas.List.{append-nil, length-append}
-use Rattle.std.specs.Prelude.{Result, Ok, Err, IfOk, MatchResult}
-use Rattle.wa_syntax.specs.Formats.{Format, ◌then◌, exactly, each, vec, u32}
+use Rattle.std.specs.Prelude.{Ok, Err}
+use Rattle.wa_syntax.specs.Formats.{Format, each, vec, u32}
 use Rattle.wa_decode.specs.declared.fault.DecodeFault.{DecodeFault}
-use Rattle.wa_decode.specs.declared.fault.DecodeFault.TheVariants.{NoMemory, Malformed}
-use Rattle.wa_decode.specs.Reading.{Spelled, Reads, Passes}
+use Rattle.wa_decode.specs.declared.fault.DecodeFault.TheVariants.{NoMemory}
+use Rattle.wa_decode.specs.Reading.{Spelled, Reads}
 use Rattle.wa_decode.proofs.Places.{join, split, none_here, none_only}
-use Rattle.wa_decode.proofs.Reading.{same_read, none_read, after_read}
+use Rattle.wa_decode.proofs.Reading.{none_read, after_read}
 
 -- what stands behind some first values
 pub record Behind {V : Type 0} (B : V → Format) (bytes : List ℕ) (at end : ℕ) (values all : List V) : Type 0 where

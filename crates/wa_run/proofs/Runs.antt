@@ -4,7 +4,6 @@ use Rattle.std.specs.Prelude.{option_map}
 use Rattle.std.proofs.lemmas.Option.{none-some, same_Some}
 use Rattle.sa_outside.specs.declared.source.Take.{Take}
 use Rattle.sa_outside.specs.declared.source.Take.TheVariants as taken
-use Rattle.sa_outside.specs.Input.{Gives}
 use Rattle.sa_outside.specs.Input as source
 use Rattle.sa_outside.specs.Output.{Took}
 use Rattle.wa_syntax.specs.declared.module.Module.{Module}

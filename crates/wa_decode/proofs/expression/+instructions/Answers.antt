@@ -1,5 +1,4 @@
-use Rattle.std.proofs.Common.{◌-◌, List, [], Option, refl, arith, rules}
-use Rattle.wa_syntax.specs.declared.instr.Instr.{Instr}
+use Rattle.std.proofs.Common.{◌-◌, [], arith, rules}
 use Rattle.wa_syntax.specs.declared.instr.Instr.TheOpen.{Instr-F}
 use Rattle.wa_syntax.specs.declared.instr.Instr.TheVariants as i
 use Rattle.wa_syntax.specs.BinaryInstructions.{instr}

@@ -1,4 +1,4 @@
-use Rattle.std.proofs.Common.{rules, arith}
+use Rattle.std.proofs.Common.{rules}
 use Rattle.wa_syntax.specs.Formats.{u32}
 use Rattle.wa_syntax.specs.declared.module.ExportKind.TheVariants as exported
 use Rattle.wa_decode.proofs.Arms.{arm-ok, arms-none}

@@ -1,6 +1,6 @@
 use Rattle.wa_syntax.specs.declared.instr.Instr.TheOpen.{Instr-F}
 use Rattle.wa_syntax.specs.declared.instr.Instr.TheVariants as i
-use Rattle.std.proofs.Common.{arith, rules}
+use Rattle.std.proofs.Common.{rules}
 use Rattle.wa_decode.proofs.Layers.{constant-none, instr-none, behind-ok, behind-err, instr-ok, instr-err, arm-I32Const, arm-I64Const}
 use Rattle.wa_decode.proofs.Reading.{returned}
 use Rattle.wa_decode.proofs.instruction.constant.Goals as goal

@@ -1,9 +1,6 @@
-use Rattle.std.proofs.Common.{refl, sym, subst, arith, rules}
 use Rattle.wa_syntax.specs.declared.instr.Instr.TheOpen.{Instr-F}
 use Rattle.wa_syntax.specs.declared.instr.Instr.TheVariants as i
-use Rattle.wa_syntax.specs.BinaryInstructions.{instr}
-use Rattle.wa_decode.specs.Reading.{Reads, behind}
-use Rattle.wa_decode.proofs.Layers.{behind-ok, behind-err, index-err, instr-ok, instr-err, instr-none, control-indexed, not_indexed, arm-Br, arm-BrIf, arm-Call, arm-CallIndirect}
+use Rattle.wa_decode.proofs.Layers.{behind-ok, behind-err, index-err, instr-ok, instr-err, control-indexed, arm-Br, arm-BrIf, arm-Call, arm-CallIndirect}
 use Rattle.wa_decode.proofs.Reading.{closed, closed-err, returned}
 use Rattle.wa_decode.proofs.instruction.control.Goals as goal
 

@@ -1,4 +1,4 @@
-use Rattle.std.proofs.Common.{inl, inr, arith}
+use Rattle.std.proofs.Common.{inr}
 use Rattle.wa_syntax.specs.declared.instr.Instr.TheOpen.{Instr-F}
 use Rattle.wa_syntax.specs.declared.instr.Instr.TheVariants as i
 use Rattle.wa_decode.proofs.Layers.{behind-ok, index-err, instr-ok, instr-err, arm-LocalGet, arm-LocalSet, arm-LocalTee, arm-GlobalGet, arm-GlobalSet}

@@ -1,6 +1,5 @@
 use Rattle.wa_decode.proofs.ModuleParts.{init-ok, init-err}
 use Rattle.wa_decode.proofs.Reading.{closed, closed-err, closed-none, returned}
-use Rattle.wa_syntax.specs.Formats.{byte}
 use Rattle.wa_decode.proofs.segment.initial_value.Goals as goal
 
 pub returns-in_err-init-clause-reads : goal.returns-in_err-init-clause-reads

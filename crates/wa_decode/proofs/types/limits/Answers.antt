@@ -1,4 +1,4 @@
-use Rattle.std.proofs.Common.{◌≡◌, true, false, rules}
+use Rattle.std.proofs.Common.{rules}
 use Rattle.wa_decode.proofs.Reading.{returned}
 use Rattle.wa_decode.proofs.TypeParts.{limits-none, limits-min, limits-max, limits-at_least, limits-between}
 use Rattle.wa_decode.proofs.types.limits.Goals as goal
