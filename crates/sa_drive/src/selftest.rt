@@ -1,6 +1,6 @@
 //! The command `selftest`: a generated program is compiled and run, and it is told what came of it.
 
-ghost use Rattle.std.specs.Prelude.{◌≡◌, ◌<◌, ◌++◌, ℕ, [], Option, IfOk, OnOk, decimal, false, is_some, length};
+ghost use Rattle.std.specs.Prelude.{◌≡◌, ◌<◌, ℕ, [], Option, IfOk, false, is_some, length};
 ghost use Rattle.sa_outside.specs.Files.{Files};
 ghost use Rattle.sa_outside.specs.Output.{Grew, Took};
 ghost use Rattle.sa_drive.specs.Answer.{ComesOfSelftest};
@@ -13,8 +13,8 @@ use crate::compile::{Compiled, compile_generated};
 use crate::outcome::Outcome;
 use crate::print::print;
 use crate::run::run_built;
-use itoa::Buffer;
 use sa_compile::Built;
+use sa_gen::add_numbered;
 use sa_outside::{Sink, SureSink, SureSource};
 use sa_tree::Sources;
 use std::alloc::{AllocError, Global};
@@ -98,19 +98,4 @@ fn line(alloc: Global, classes: u32, bytes: u64, status: u8) -> Result<Vec<u8>, 
     add_numbered(&mut line, b"", bytes, b" bytes, status ")?;
     add_numbered(&mut line, b"", status as u64, b"\n")?;
     Ok(line)
-}
-
-/// Adds the digits of a number between two pieces.
-fn add_numbered(
-    line: &mut Vec<u8>,
-    front: &[u8],
-    number: u64,
-    back: &[u8],
-) -> Result<(), AllocError>
-    ensures { OnOk result (line.new.items ≡ line.old.items ++ (front.now ++ decimal number ++ back.now)) }
-{
-    line.extend_from_slice(front)?;
-    line.extend_from_slice(Buffer::new().format(number).as_bytes())?;
-    line.extend_from_slice(back)?;
-    Ok(())
 }

@@ -4,5 +4,5 @@
 mod lines;
 mod no_memory;
 
-pub use lines::generate;
+pub use lines::{add_numbered, generate};
 pub use no_memory::NoMemory;

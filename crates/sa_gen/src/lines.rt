@@ -5,7 +5,7 @@ ghost use Rattle.sa_gen.specs.Generated.{call, generated, link, main};
 
 use crate::no_memory::NoMemory;
 use itoa::Buffer;
-use std::alloc::Global;
+use std::alloc::{AllocError, Global};
 
 /// The line of the first class, C0, whose iter gives the numbers from 1 to its argument.
 const FIRST: &[u8] = b"class C0 is it!(once n:INT):INT is loop yield 1.upto!(n); end; end; end;\n";
@@ -33,7 +33,7 @@ fn add_link(text: &mut Vec<u8>, before: u32) -> Result<(), NoMemory>
     requires { before < 4294967295 }
     ensures { OnOk result (text.new.items ≡ text.old.items ++ link before) }
 {
-    add_numbered(text, b"class C", before + 1, b"")?;
+    add_numbered(text, b"class C", (before + 1) as u64, b"")?;
     add_call(text, before)
 }
 
@@ -44,9 +44,10 @@ fn add_call(text: &mut Vec<u8>, before: u32) -> Result<(), NoMemory>
     add_numbered(
         text,
         b" is it!(once n:INT):INT is loop yield C",
-        before,
+        before as u64,
         b"::it!(n) + 1; end; end; end;\n",
-    )
+    )?;
+    Ok(())
 }
 
 /// Adds the line of MAIN, which calls the iter of the class with this number.
@@ -56,13 +57,23 @@ fn add_main(text: &mut Vec<u8>, last: u32) -> Result<(), NoMemory>
     add_numbered(
         text,
         b"class MAIN is main is s ::= 0; loop s := s + C",
-        last,
+        last as u64,
         b"::it!(3); end; #OUT + s + \"\\n\"; end; end;\n",
-    )
+    )?;
+    Ok(())
 }
 
-/// Adds the digits of a number between two pieces.
-fn add_numbered(text: &mut Vec<u8>, front: &[u8], number: u32, back: &[u8]) -> Result<(), NoMemory>
+/// Adds the decimal digits of a number between two pieces.
+///
+/// # Errors
+///
+/// `AllocError` where the text finds no memory.
+pub fn add_numbered(
+    text: &mut Vec<u8>,
+    front: &[u8],
+    number: u64,
+    back: &[u8],
+) -> Result<(), AllocError>
     ensures { OnOk result (text.new.items ≡ text.old.items ++ (front.now ++ decimal number ++ back.now)) }
 {
     text.extend_from_slice(front)?;
