@@ -4,29 +4,27 @@ use Rattle.std.specs.Prelude.{reverse, if◌then◌else◌}
 use Rattle.std.proofs.lemmas.List.{length-reverse}
 use Rattle.std.proofs.lemmas.Option.{same_Some, none-some}
 use Rattle.wa_syntax.specs.declared.module.ValTy.{ValTy}
-use Rattle.wa_syntax.specs.declared.module.Module.{Module}
 use Rattle.wa_syntax.specs.Instructions.{Sequence}
-use Rattle.wa_syntax.specs.Validity.{Context, AreTyped}
 use Rattle.wa_syntax.specs.Machine.{Entry, Label, Activation, State}
 use Rattle.wa_syntax.specs.Operations.{enter, return_in, return, branch_in, branch}
-use Rattle.wa_sound.specs.Typing.{AreOf, Place, context, global_types, IsTarget, IsInFunction, IsInside, IsAround, IsState}
+use Rattle.wa_sound.specs.Typing.{Setting, AreOf, IsStore, Place, IsCode, IsTarget, IsInFunction, IsInside, IsAround, IsState}
 use Rattle.wa_sound.proofs.Values.{AreOf-none, AreOf-append, AreOf-front}
 use Rattle.wa_sound.proofs.Rules.{Holds, IsSafe}
 
 -- ---- blocks
 
 -- the place in a block at place p
-abbrev in_block : List ValTy → Place → Place
+abbrev pub in_block : List ValTy → Place → Place
 in_block wanted p = record p { labels = wanted ∷ p.labels }
 
-pub enter-safe : (m : Module) (p : Place) (wanted left below : List ValTy) (kept : ℕ) (again : Option Sequence) (body : Sequence) → AreTyped (context m (in_block wanted p)) body [] left → kept ≡ length wanted → IsTarget m (in_block wanted p) wanted left again → IsSafe true m p below (left ++ below) (enter kept again body)
-enter-safe m p wanted left below kept again body typed keeps target = record {
+pub enter-safe : (r : Setting) (p : Place) (wanted left below : List ValTy) (kept : ℕ) (again : Option Sequence) (body : Sequence) → IsCode r (in_block wanted p) body [] left → kept ≡ length wanted → IsTarget r (in_block wanted p) wanted left again → IsSafe true r p below (left ++ below) (enter kept again body)
+enter-safe r p wanted left below kept again body typed keeps target = record {
   holds = λ s h. record {
     place = in_block wanted p;
     types = [];
     operands = AreOf-none;
     locals = h.locals;
-    globals = h.globals;
+    store = h.store;
     around = inr (record {
       wanted = wanted;
       labels = p.labels;
@@ -42,29 +40,29 @@ enter-safe m p wanted left below kept again body typed keeps target = record {
   };
 }
 
-pub either-typed : (c : Context) (b : Bool) (first other : Sequence) (before after : List ValTy) → AreTyped c first before after → AreTyped c other before after → AreTyped c (if b then other else first) before after
-either-typed c true first other before after h k = k
-either-typed c false first other before after h k = h
+pub either-typed : (r : Setting) (p : Place) (b : Bool) (first other : Sequence) (before after : List ValTy) → IsCode r p first before after → IsCode r p other before after → IsCode r p (if b then other else first) before after
+either-typed r p true first other before after h k = k
+either-typed r p false first other before after h k = h
 
 -- ---- returns
 
 -- the values that are kept, on those below
-kept-values : (types below : List ValTy) (ns ks : List ℕ) (more : List ValTy) (kept : ℕ) → AreOf (reverse types ++ more) ns → kept ≡ length types → AreOf below ks → AreOf (reverse types ++ below) (take kept ns ++ ks)
+kept-values : {r : Setting} (types below : List ValTy) (ns ks : List ℕ) (more : List ValTy) (kept : ℕ) → AreOf r (reverse types ++ more) ns → kept ≡ length types → AreOf r below ks → AreOf r (reverse types ++ below) (take kept ns ++ ks)
 kept-values types below ns ks more kept h e k =
     AreOf-append (reverse types) below (take kept ns) ks (AreOf-front (reverse types) more ns kept h (e ∙ sym (length-reverse types))) k
 
-module _ (m : Module) (s : State) (globals : AreOf (global_types m) s.globals) where
-  leave-function : (p : Place) (code : Sequence) (types below : List ValTy) (kept : ℕ) (behind : Sequence) (values locals : List ℕ) (stack : List Entry) → AreOf (reverse p.results ++ below) s.operands → IsInFunction m p code types kept values locals (λ q ts. IsAround m q behind ts stack) → IsState m (record s { code = behind; operands = take kept s.operands ++ values; locals = locals; stack = stack })
+module _ (r : Setting) (s : State) (store : IsStore r s.globals s.memory s.input) where
+  leave-function : (p : Place) (code : Sequence) (types below : List ValTy) (kept : ℕ) (behind : Sequence) (values locals : List ℕ) (stack : List Entry) → AreOf r (reverse p.results ++ below) s.operands → IsInFunction r p code types kept values locals (λ q ts. IsAround r q behind ts stack) → IsState r (record s { code = behind; operands = take kept s.operands ++ values; locals = locals; stack = stack })
   leave-function p code types below kept behind values locals stack are f = record {
     place = f.caller;
     types = reverse p.results ++ f.types_below;
     operands = kept-values p.results f.types_below s.operands values below kept are f.keeps f.values_below;
     locals = f.caller_locals;
-    globals = globals;
+    store = store;
     around = f.outside;
   }
 
-  return_in-safe : (stack : List Entry) (p : Place) (code : Sequence) (types below : List ValTy) → AreOf (reverse p.results ++ below) s.operands → IsInside m p code types stack → Holds (λ u. IsState m) (return_in stack s)
+  return_in-safe : (stack : List Entry) (p : Place) (code : Sequence) (types below : List ValTy) → AreOf r (reverse p.results ++ below) s.operands → IsInside r p code types stack → Holds (λ u. IsState r) (return_in stack s)
   return_in-safe [] p code types below are inside = absurd inside
   return_in-safe (Label kept again behind values ∷ stack) p code types below are inside =
       return_in-safe stack (record p { labels = inside.labels }) behind (inside.left ++ inside.types_below) below are inside.outside
@@ -73,7 +71,7 @@ module _ (m : Module) (s : State) (globals : AreOf (global_types m) s.globals) w
 
   -- ---- branches
 
-  branch_in-safe : (label : ℕ) (stack : List Entry) (p : Place) (code : Sequence) (types wanted below : List ValTy) → slice_get p.labels label ≡ Some wanted → AreOf (reverse wanted ++ below) s.operands → AreOf p.locals s.locals → IsInside m p code types stack → Holds (λ u. IsState m) (branch_in label stack s)
+  branch_in-safe : (label : ℕ) (stack : List Entry) (p : Place) (code : Sequence) (types wanted below : List ValTy) → slice_get p.labels label ≡ Some wanted → AreOf r (reverse wanted ++ below) s.operands → AreOf r p.locals s.locals → IsInside r p code types stack → Holds (λ u. IsState r) (branch_in label stack s)
   branch_in-safe label [] p code types wanted below there are locals inside = absurd inside
   branch_in-safe zero (Label kept None behind values ∷ stack) p code types wanted below there are locals inside =
       let same : inside.wanted ≡ wanted = same_Some inside.wanted wanted (sym (ap (λ (ls : List (List ValTy)). slice_get ls zero) inside.label) ∙ there) in
@@ -83,15 +81,15 @@ module _ (m : Module) (s : State) (globals : AreOf (global_types m) s.globals) w
         types = reverse wanted ++ inside.types_below;
         operands = kept-values wanted inside.types_below s.operands values below kept are (inside.keeps ∙ ap length same) inside.values_below;
         locals = locals;
-        globals = globals;
-        around = inr (subst (λ (ts : List ValTy). IsInside m (record p { labels = inside.labels }) behind (ts ++ inside.types_below) stack) left inside.outside);
+        store = store;
+        around = inr (subst (λ (ts : List ValTy). IsInside r (record p { labels = inside.labels }) behind (ts ++ inside.types_below) stack) left inside.outside);
       }
   branch_in-safe zero (Label kept (Some body) behind values ∷ stack) p code types wanted below there are locals inside = record {
     place = p;
     types = [];
     operands = AreOf-append [] [] (take kept s.operands) [] (AreOf-front [] (reverse wanted ++ below) s.operands kept are (inside.keeps ∙ ap length inside.target.0)) AreOf-none;
     locals = locals;
-    globals = globals;
+    store = store;
     around = inr (record {
       wanted = inside.wanted;
       labels = inside.labels;
@@ -107,15 +105,15 @@ module _ (m : Module) (s : State) (globals : AreOf (global_types m) s.globals) w
   }
   branch_in-safe zero (Activation kept behind values locals ∷ stack) p code types wanted below there are mine inside =
       let same : p.results ≡ wanted = same_Some p.results wanted (sym (ap (λ (ls : List (List ValTy)). slice_get ls zero) inside.label) ∙ there) in
-      leave-function p code types below kept behind values locals stack (subst (λ (ts : List ValTy). AreOf (reverse ts ++ below) s.operands) (sym same) are) inside
+      leave-function p code types below kept behind values locals stack (subst (λ (ts : List ValTy). AreOf r (reverse ts ++ below) s.operands) (sym same) are) inside
   branch_in-safe (suc label) (Label kept again behind values ∷ stack) p code types wanted below there are locals inside =
       branch_in-safe label stack (record p { labels = inside.labels }) behind (inside.left ++ inside.types_below) wanted below
       (sym (ap (λ (ls : List (List ValTy)). slice_get ls (suc label)) inside.label) ∙ there) are locals inside.outside
   branch_in-safe (suc label) (Activation kept behind values locals ∷ stack) p code types wanted below there are mine inside =
       absurd (none-some wanted (sym (ap (λ (ls : List (List ValTy)). slice_get ls (suc label)) inside.label) ∙ there))
 
-pub return-safe : (m : Module) (p : Place) (below after : List ValTy) → IsSafe true m p (reverse p.results ++ below) after return
-return-safe m p below after = record { holds = λ s h. return_in-safe m s h.globals s.stack p s.code after below h.operands h.within }
+pub return-safe : (r : Setting) (p : Place) (below after : List ValTy) → IsSafe true r p (reverse p.results ++ below) after return
+return-safe r p below after = record { holds = λ s h. return_in-safe r s h.store s.stack p s.code after below h.operands h.within }
 
-pub branch-safe : (m : Module) (p : Place) (label : ℕ) (wanted below after : List ValTy) → slice_get p.labels label ≡ Some wanted → IsSafe true m p (reverse wanted ++ below) after (branch label)
-branch-safe m p label wanted below after there = record { holds = λ s h. branch_in-safe m s h.globals label s.stack p s.code after wanted below there h.operands h.locals h.within }
+pub branch-safe : (r : Setting) (p : Place) (label : ℕ) (wanted below after : List ValTy) → slice_get p.labels label ≡ Some wanted → IsSafe true r p (reverse wanted ++ below) after (branch label)
+branch-safe r p label wanted below after there = record { holds = λ s h. branch_in-safe r s h.store label s.stack p s.code after wanted below there h.operands h.locals h.within }

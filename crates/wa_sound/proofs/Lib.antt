@@ -1,8 +1,12 @@
 pub mod Branches
 pub mod Calls
+pub mod First
 pub mod Linked
+pub mod Memory
 pub mod Opcodes
+pub mod Operators
 pub mod Plain
+pub mod Ranges
 pub mod Rules
 pub mod Runs
 mod Samples

@@ -1,16 +1,53 @@
 -- Well-typed states of the machine (appendix A.2 of the WebAssembly Core Specification 1.0): what stands in a state has the types
 -- that validity says.
-use Rattle.std.specs.Prelude.{ℕ, ◌≡◌, List, [], ◌∷◌, ◌++◌, length, map, reverse, ◌⊎◌, Option, Some, None}
+use Rattle.std.specs.Prelude.{ℕ, ◌<◌, ◌≤◌, ◌/◌, ◌^◌, ◌≡◌, List, [], ◌∷◌, ◌++◌, length, map, reverse, All, ◌⊎◌, Option, Some, None}
 use Rattle.wa_syntax.specs.declared.module.ValTy.{ValTy}
 use Rattle.wa_syntax.specs.declared.module.Module.{Module}
 use Rattle.wa_syntax.specs.Instructions.{Sequence, nothing}
 use Rattle.wa_syntax.specs.Validity.{Context, AreTyped}
 use Rattle.wa_syntax.specs.ValidModule.{context_of}
-use Rattle.wa_syntax.specs.Machine.{Entry, Label, Activation, State}
+use Rattle.wa_syntax.specs.Machine.{Input, Entry, Label, Activation, State}
+use Rattle.wa_syntax.specs.Operations.{width_of, page}
+use Rattle.wa_syntax.specs.Steps.{most_pages}
+use Rattle.wa_sound.specs.Ranges.{IsByte, AreConstants, IsInRange}
+use mir.Val.{bits}
 
--- there are as many values as types, since the bits of a value don't tell its type
-pub record AreOf (types : List ValTy) (values : List ℕ) : Type 0 where
-  pub each : length values ≡ length types
+-- what a run is of: a module, its input, and the types of the operands that its outermost function leaves, the top one first
+pub record Setting : Type 0 where
+  pub program : Module
+  pub input : Input
+  pub ends : List ValTy
+
+-- the numbers that the run begins with are within their widths
+abbrev pub BeginsInRange : Setting → Type 0
+BeginsInRange r = IsInRange r.program r.input
+
+-- a value of a type is its bits as a number, below 2 to its width if the run begins in range
+abbrev pub IsOf : Setting → ValTy → ℕ → Type 0
+IsOf r t n = BeginsInRange r → n < 2 ^ bits (width_of t)
+
+-- each value is of the type at its place
+abbrev pub EachIsOf : Setting → List ValTy → List ℕ → Type 0
+EachIsOf r [] [] = Unit {0}
+EachIsOf r [] (n ∷ values) = ⊥
+EachIsOf r (t ∷ types) [] = ⊥
+EachIsOf r (t ∷ types) (n ∷ values) = IsOf r t n × EachIsOf r types values
+
+-- values of these types, one of each
+pub record AreOf (r : Setting) (types : List ValTy) (values : List ℕ) : Type 0 where
+  pub each : EachIsOf r types values
+
+-- the types of the globals
+abbrev pub global_types : Module → List ValTy
+global_types m = map (λ g. g.val) (context_of m).globals
+
+-- The globals are of their types. If the run begins in range, the memory and what is left of the input are bytes, and the memory
+-- has no more pages than it may.
+pub record IsStore (r : Setting) (globals memory : List ℕ) (input : Input) : Type 0 where
+  pub globals_are : AreOf r (global_types r.program) globals
+  pub bytes : BeginsInRange r → All IsByte memory
+  pub pages : BeginsInRange r → length memory / page ≤ most_pages r.program
+  pub input_is : BeginsInRange r → All IsByte input.bytes
 
 -- a place in a function: the types of its locals, what branches to the labels around it want, and the results of the function
 pub record Place : Type 0 where
@@ -22,70 +59,64 @@ pub record Place : Type 0 where
 abbrev pub context : Module → Place → Context
 context m p = record (context_of m) { locals = p.locals; labels = p.labels; results = p.results }
 
--- the types of the globals
-abbrev pub global_types : Module → List ValTy
-global_types m = map (λ g. g.val) (context_of m).globals
+-- these instructions at place p lead from operands of the types before to those after, with constants in range if the run begins
+-- in range
+abbrev pub IsCode : Setting → Place → Sequence → (before after : List ValTy) → Type 0
+IsCode r p code before after = AreTyped (context r.program p) code before after × (BeginsInRange r → AreConstants code)
 
 -- a branch to the label of a block goes on behind it, with what the block leaves, and one to a loop's with the loop's
 -- instructions, with nothing
-abbrev pub IsTarget : Module → Place → (wanted left : List ValTy) → Option Sequence → Type 0
-IsTarget m p wanted left None = left ≡ reverse wanted
-IsTarget m p wanted left (Some body) = (wanted ≡ []) × AreTyped (context m p) body [] left
+abbrev pub IsTarget : Setting → Place → (wanted left : List ValTy) → Option Sequence → Type 0
+IsTarget r p wanted left None = left ≡ reverse wanted
+IsTarget r p wanted left (Some body) = (wanted ≡ []) × IsCode r p body [] left
 
 -- From operands of these types the rest of a block at place p leads to its end. Behind it stand the instructions that are outside
 -- its label.
-pub record IsInBlock (m : Module) (p : Place) (code : Sequence) (types : List ValTy) (kept : ℕ) (again : Option Sequence) (below : List ℕ) (Outside : Place → List ValTy → Type 0) : Type 0 where
+pub record IsInBlock (r : Setting) (p : Place) (code : Sequence) (types : List ValTy) (kept : ℕ) (again : Option Sequence) (below : List ℕ) (Outside : Place → List ValTy → Type 0) : Type 0 where
   pub wanted : List ValTy
   pub labels : List (List ValTy)
   pub left : List ValTy
   pub types_below : List ValTy
   pub label : p.labels ≡ wanted ∷ labels
-  pub typed : AreTyped (context m p) code types left
+  pub typed : IsCode r p code types left
   pub keeps : kept ≡ length wanted
-  pub target : IsTarget m p wanted left again
-  pub values_below : AreOf types_below below
+  pub target : IsTarget r p wanted left again
+  pub values_below : AreOf r types_below below
   pub outside : Outside (record p { labels = labels }) (left ++ types_below)
 
 -- From operands of these types the rest of a function's body leads to its end. Behind it stands the caller.
-pub record IsInFunction (m : Module) (p : Place) (code : Sequence) (types : List ValTy) (kept : ℕ) (below locals : List ℕ) (Outside : Place → List ValTy → Type 0) : Type 0 where
+pub record IsInFunction (r : Setting) (p : Place) (code : Sequence) (types : List ValTy) (kept : ℕ) (below locals : List ℕ) (Outside : Place → List ValTy → Type 0) : Type 0 where
   pub caller : Place
   pub types_below : List ValTy
   pub label : p.labels ≡ p.results ∷ []
-  pub typed : AreTyped (context m p) code types (reverse p.results)
+  pub typed : IsCode r p code types (reverse p.results)
   pub keeps : kept ≡ length p.results
-  pub values_below : AreOf types_below below
-  pub caller_locals : AreOf caller.locals locals
+  pub values_below : AreOf r types_below below
+  pub caller_locals : AreOf r caller.locals locals
   pub outside : Outside caller (reverse p.results ++ types_below)
 
--- outside all functions nothing is left to be done
-abbrev pub IsOutside : Sequence → List Entry → Type 0
-IsOutside code stack = (code ≡ nothing) × (stack ≡ [])
+-- outside all functions nothing is left to be done, and the operands are those that the outermost one leaves
+abbrev pub IsOutside : Setting → Sequence → List ValTy → List Entry → Type 0
+IsOutside r code types stack = (code ≡ nothing) × (stack ≡ []) × (types ≡ r.ends)
 
 -- from operands of these types the instructions at place p lead to the end of a function, out of the labels and into the callers
 -- that stand on the stack
-abbrev pub IsInside : Module → Place → Sequence → List ValTy → List Entry → Type 0
-IsInside m p code types [] = ⊥
-IsInside m p code types (Label kept again behind below ∷ stack) =
-    IsInBlock m p code types kept again below (λ q ts. IsInside m q behind ts stack)
-IsInside m p code types (Activation kept behind below locals ∷ stack) =
-    IsInFunction m p code types kept below locals (λ q ts. IsOutside behind stack ⊎ IsInside m q behind ts stack)
+abbrev pub IsInside : Setting → Place → Sequence → List ValTy → List Entry → Type 0
+IsInside r p code types [] = ⊥
+IsInside r p code types (Label kept again behind below ∷ stack) =
+    IsInBlock r p code types kept again below (λ q ts. IsInside r q behind ts stack)
+IsInside r p code types (Activation kept behind below locals ∷ stack) =
+    IsInFunction r p code types kept below locals (λ q ts. IsOutside r behind ts stack ⊎ IsInside r q behind ts stack)
 
 -- outside all functions or inside one
-abbrev pub IsAround : Module → Place → Sequence → List ValTy → List Entry → Type 0
-IsAround m p code types stack = IsOutside code stack ⊎ IsInside m p code types stack
-
--- what an instruction finds at place p: operands of these types, and behind it what takes operands of the types after it
-pub record Finds (m : Module) (p : Place) (before after : List ValTy) (s : State) : Type 0 where
-  pub operands : AreOf before s.operands
-  pub locals : AreOf p.locals s.locals
-  pub globals : AreOf (global_types m) s.globals
-  pub inside : IsInside m p s.code after s.stack
+abbrev pub IsAround : Setting → Place → Sequence → List ValTy → List Entry → Type 0
+IsAround r p code types stack = IsOutside r code types stack ⊎ IsInside r p code types stack
 
 -- a well-typed state
-pub record IsState (m : Module) (s : State) : Type 0 where
+pub record IsState (r : Setting) (s : State) : Type 0 where
   pub place : Place
   pub types : List ValTy
-  pub operands : AreOf types s.operands
-  pub locals : AreOf place.locals s.locals
-  pub globals : AreOf (global_types m) s.globals
-  pub around : IsAround m place s.code types s.stack
+  pub operands : AreOf r types s.operands
+  pub locals : AreOf r place.locals s.locals
+  pub store : IsStore r s.globals s.memory s.input
+  pub around : IsAround r place s.code types s.stack

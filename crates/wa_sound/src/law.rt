@@ -1,6 +1,6 @@
 //! The laws, each as what a function of an empty body ensures.
 
-ghost use Rattle.wa_sound.specs.Law.{NeverStuck, StaysTyped};
+ghost use Rattle.wa_sound.specs.Law.{NeverStuck, StaysTyped, EndsAsMain};
 
 use wa_syntax::Module;
 
@@ -12,4 +12,9 @@ pub fn never_stuck(program: &Module)
 /// Each state that such a run reaches is well typed.
 pub fn stays_typed(program: &Module)
     ensures { StaysTyped program.now }
+{}
+
+/// Such a run ends with a value exactly where `main` has a result.
+pub fn ends_as_main(program: &Module)
+    ensures { EndsAsMain program.now }
 {}
