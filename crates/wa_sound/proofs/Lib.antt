@@ -10,5 +10,6 @@ pub mod Ranges
 pub mod Rules
 pub mod Runs
 mod Samples
+pub mod Spelled
 pub mod Steps
 pub mod Values

@@ -32,7 +32,7 @@ Below-if false h k = k
 
 -- ---- operators of one width
 
-less : (m n : ℕ) → 0 < m → m - suc n < m
+pub less : (m n : ℕ) → 0 < m → m - suc n < m
 less m n h = omega arith
 
 bit-below : (bound : ℕ) (b : Bool) → 1 < bound → from_bool b < bound

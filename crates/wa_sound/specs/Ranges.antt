@@ -31,7 +31,7 @@ IsInitInRange (Init.Const64 n) = n < 2 ^ 64
 IsInitInRange (Init.Global x) = Unit {0}
 
 -- A run begins in range: the constants of the module are below 2 to their widths, its segments and the input are bytes, and the
--- segments fit. So it is with each module that was decoded and whose segments were tested.
+-- segments fit, since one that doesn't would make the memory longer than it may be.
 pub record IsInRange (m : Module) (input : Input) : Type 0 where
   pub bodies : All (λ func. AreConstants (sequence func.body)) m.funcs
   pub globals : All (λ global. IsInitInRange global.init) m.globals

@@ -1,6 +1,6 @@
 //! The laws, each as what a function of an empty body ensures.
 
-ghost use Rattle.wa_sound.specs.Law.{NeverStuck, StaysTyped, EndsAsMain};
+ghost use Rattle.wa_sound.specs.Law.{NeverStuck, StaysTyped, EndsAsMain, SpelledIsInRange};
 
 use wa_syntax::Module;
 
@@ -17,4 +17,9 @@ pub fn stays_typed(program: &Module)
 /// Such a run ends with a value exactly where `main` has a result.
 pub fn ends_as_main(program: &Module)
     ensures { EndsAsMain program.now }
+{}
+
+/// Such a run begins in range where bytes spell the module, the segments fit and the input is of bytes.
+pub fn spelled_is_in_range(program: &Module)
+    ensures { SpelledIsInRange program.now }
 {}

@@ -4,4 +4,4 @@
 
 mod law;
 
-pub use law::{ends_as_main, never_stuck, stays_typed};
+pub use law::{ends_as_main, never_stuck, spelled_is_in_range, stays_typed};
