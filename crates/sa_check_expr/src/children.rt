@@ -5,11 +5,11 @@
 //! form alone waits for its type.
 
 use crate::rows::typed;
+use sa_calls::{ReadyArg, ReadyExpr};
 use sa_choice::{
     BAD_BIND, Built, NARROWED, NOT_ASSIGNABLE, Place, Variable, View, held, position, refused,
     variable_named, written,
 };
-use sa_forms::{ReadyArg, ReadyExpr};
 use sa_tree::{Expr, FrontFault, Given, Mode, Pos, Ty};
 use std::alloc::Global;
 

@@ -1,9 +1,9 @@
 //! The row of a form with what stands inside it, typed or refused: of several refusals inside the first one counts.
 
+use sa_calls::{ReadyArg, ReadyExpr, Receiver, call_form, settled};
 use sa_choice::{Built, Place, Typed, View, character, exception, int, me, text, truth, written};
 use sa_forms::{
-    ReadyArg, ReadyExpr, Receiver, binary, bind_form, call_form, connected, create, index, is_void,
-    new_array, new_object, settled, unary,
+    binary, bind_form, connected, create, index, is_void, new_array, new_object, unary,
 };
 use sa_tree::{Expr, FrontFault, Name, Op, Pos, Recv, Ty};
 use std::alloc::Global;

@@ -1,9 +1,9 @@
 //! `while!`, `until!` and `break!` as statements.
 
 use crate::children::arguments;
+use sa_calls::{leave_form, leave_of};
 use sa_choice::{Built, Place, View};
 use sa_core::ExprCore;
-use sa_forms::{leave_form, leave_of};
 use sa_tree::{Expr, FrontFault};
 use std::alloc::Global;
 

@@ -1,8 +1,8 @@
 //! What a call is made on, typed.
 
 use crate::children::ready;
+use sa_calls::Receiver;
 use sa_choice::{Built, Place, View, held, written};
-use sa_forms::Receiver;
 use sa_tree::{Expr, FrontFault, Recv};
 use std::alloc::Global;
 

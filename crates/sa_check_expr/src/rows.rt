@@ -8,10 +8,10 @@ use crate::inside::{
 };
 use crate::part::parts;
 use crate::receiver::{operand, receiver_of};
+use sa_calls::Receiver;
 use sa_choice::{
     BAD_BIND, Built, Place, Typed, View, position, refused, variable_named, variable_value,
 };
-use sa_forms::Receiver;
 use sa_program::{BOOL, INT};
 use sa_tree::{Expr, FrontFault, Op, Pos};
 use std::alloc::Global;

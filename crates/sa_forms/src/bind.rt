@@ -1,10 +1,6 @@
 //! Binds: a call some of whose arguments are given later.
 
-use crate::iter::is_iter_name;
-use crate::leaving::leave_of;
-use crate::passing::{PassedArgs, passed, seen_arguments};
-use crate::ready::ReadyArg;
-use crate::receiver::Receiver;
+use sa_calls::{PassedArgs, ReadyArg, Receiver, is_iter_name, leave_of, passed, seen_arguments};
 use sa_choice::{
     BAD_BIND, Built, Candidate, Place, Typed, View, bound_candidate, described_choice, description,
     first_iter, held, number_of, position, refused, variable_named,

@@ -1,8 +1,6 @@
 //! New objects, those that a class creates, and the test for void.
 
-use crate::calls::call;
-use crate::ready::{ReadyArg, ReadyExpr};
-use crate::receiver::Receiver;
+use sa_calls::{ReadyArg, ReadyExpr, Receiver, call};
 use sa_choice::{
     Built, NO_CONTEXT, NONE_FITS, Place, Typed, UNKNOWN_NAME, View, WRONG_TYPE, held, kind_of,
     of_type, refused,

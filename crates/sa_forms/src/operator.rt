@@ -4,10 +4,8 @@
 //! has a feature of that name, seen or not. Elsewhere `a <= b` means `~(b < a)`, `a > b` means `b < a`, `a >= b` means
 //! `~(a < b)` and `a /= b` means `~(a = b)`. Operands are evaluated from left to right all the same.
 
-use crate::calls::call;
-use crate::ready::{ReadyArg, ReadyExpr};
-use crate::receiver::Receiver;
 use crate::swapped::swapped;
+use sa_calls::{ReadyArg, ReadyExpr, Receiver, call};
 use sa_choice::{Built, Place, Typed, View, WRONG_TYPE, first_iter, kind_of, refused};
 use sa_core::ExprCore;
 use sa_program::BOOL;

@@ -1,7 +1,6 @@
 //! Comparisons that are called on their second operand.
 
-use crate::ready::ReadyExpr;
-use crate::receiver::Receiver;
+use sa_calls::{ReadyExpr, Receiver};
 use sa_choice::{
     Built, NO_CONTEXT, NONE_FITS, Typed, UNKNOWN_NAME, View, WRONG_TYPE, chosen, first_iter, held,
     kind_of, refused, type_of, widened,

@@ -20,7 +20,7 @@ const ITER_IN_ITER: u8 = 36;
 const IN_PROTECT: u8 = 38;
 
 /// Whether a name is that of an iter.
-pub(crate) fn is_iter_name(name: &[u8]) -> bool {
+pub fn is_iter_name(name: &[u8]) -> bool {
     matches!(name, [.., b'!'])
 }
 

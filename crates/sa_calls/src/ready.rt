@@ -45,7 +45,7 @@ impl ReadyExpr {
     }
 
     /// The first iter call in one that has a type by itself.
-    pub(crate) fn iter(&self) -> Option<Pos> {
+    pub fn iter(&self) -> Option<Pos> {
         match self {
             ReadyExpr::Typed(value, _) => value.iter,
             _ => None,
@@ -53,7 +53,7 @@ impl ReadyExpr {
     }
 
     /// The expression, where it has a type by itself.
-    pub(crate) fn into_core(self) -> Result<ExprCore, NoMemory> {
+    pub fn into_core(self) -> Result<ExprCore, NoMemory> {
         match self {
             ReadyExpr::Typed(value, _) => Ok(value.core),
             _ => Err(NoMemory),

@@ -10,7 +10,7 @@ use sqlite_items::Items;
 use std::alloc::Global;
 
 /// What the choice sees of the arguments of a call. A contextual one has no type yet.
-pub(crate) fn seen_arguments(
+pub fn seen_arguments(
     alloc: Global,
     view: &View<'_>,
     built: &Built,
@@ -77,7 +77,7 @@ fn seen_type(
 
 /// The arguments of a call at their parameters.
 #[derive(Drop)]
-pub(crate) struct PassedArgs {
+pub struct PassedArgs {
     pub args: Items<ArgCore>,
     /// The first iter call in them.
     pub iter: Option<Pos>,
@@ -111,7 +111,7 @@ impl PassedArgs {
 /// The arguments of a call at the parameters of what it chose, contextual ones from left to right. A contextual one that
 /// has another type than its parameter doesn't fit any more: E31 at the call.
 #[cycle(settle)]
-pub(crate) fn passed(
+pub fn passed(
     alloc: Global,
     view: &View<'_>,
     built: &Built,

@@ -1,0 +1,19 @@
+//! The rows of calls, asked once their arguments are typed, and the forms that wait for the type of their place.
+#![tactic(auto)]
+
+mod calls;
+mod constant;
+mod iter;
+mod leaving;
+mod passing;
+mod ready;
+mod receiver;
+mod settle;
+
+pub use calls::{call, call_form};
+pub use iter::is_iter_name;
+pub use leaving::{leave_form, leave_of};
+pub use passing::{PassedArgs, passed, seen_arguments};
+pub use ready::{ReadyArg, ReadyExpr};
+pub use receiver::Receiver;
+pub use settle::settled;
