@@ -6,10 +6,11 @@ use crate::size::{
     size_of_formals, size_of_optional_type, size_of_stmts, size_of_type, size_of_value,
 };
 use crate::weights::{Weights, size_of_bytes};
+use sa_instance::{subst_expr, subst_stmts};
 use sa_tree::{
     Access, Body, Expr, Feature, Formal, Local, Name, NoMemory, Param, Part, Shared, Ty,
 };
-use sa_types::{Substitution, subst_expr, subst_stmts, subst_with};
+use sa_types::{Substitution, subst_with};
 use sqlite_items::Items;
 use std::alloc::Global;
 

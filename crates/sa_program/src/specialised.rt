@@ -4,9 +4,10 @@ use crate::program::Program;
 use crate::type_list::{TypeList, first_terms, given};
 use sa_class_table::there;
 use sa_graph::word;
+use sa_instance::instance_of;
 use sa_subtypes::Edges;
 use sa_tree::{Class, Flat, FrontFault, Kind, Local, Name, NoMemory, Pos, Ty};
-use sa_types::{Instance, instance_of};
+use sa_types::Instance;
 use sqlite_items::Items;
 use std::alloc::Global;
 

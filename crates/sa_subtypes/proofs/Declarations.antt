@@ -7,7 +7,7 @@ use Rattle.sa_tree.specs.declared.class.Flat.{Flat}
 use Rattle.sa_tree.specs.declared.ty.Ty.{Ty}
 use Rattle.sa_tree.specs.Types.{BareTy, Named, Same, Rout, Iter, BareTys, no_types, type, bare, all_bare}
 use Rattle.sa_tree.proofs.BareTypes.{bare-Named}
-use Rattle.sa_types.specs.Instances.{own_type, at_instance}
+use Rattle.sa_types.specs.AtTypes.{own_type, at_instance}
 use Rattle.sa_types.specs.Substitution.{place_of}
 use Rattle.sa_pairs.specs.declared.pattern.Node.{Node}
 use Rattle.sa_pairs.specs.declared.pattern.Node.TheVariants as node

@@ -9,7 +9,7 @@ use Rattle.sa_tree.specs.declared.class.Kind.TheVariants as kind
 use Rattle.sa_tree.specs.declared.ty.Mode.TheVariants.{In, Out, Inout, Once}
 use Rattle.sa_tree.specs.declared.ty.Ty.{Ty}
 use Rattle.sa_tree.specs.Types.{BareTy, Named, Same, Rout, Iter, no_types, type, BareArgs, no_args, arg, BareResult, no_result, gives, bare}
-use Rattle.sa_types.specs.Instances.{own_type, at_instance}
+use Rattle.sa_types.specs.AtTypes.{own_type, at_instance}
 use Rattle.sa_types.specs.Substitution.{place_of}
 
 -- ---- what the classes declare

@@ -1,5 +1,2 @@
-pub mod AtInstance
-pub mod Others
 pub mod Places
 pub mod Substituting
-pub mod TreeTypes

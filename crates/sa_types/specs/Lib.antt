@@ -1,5 +1,4 @@
 pub mod Abstract
-pub mod Instances
+pub mod AtTypes
 pub mod Substitution
 pub mod Table
-pub mod Trees

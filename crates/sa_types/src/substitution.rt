@@ -131,7 +131,7 @@ fn alone(alloc: Global, name: &Name, pos: Pos, by: &Substitution<'_>) -> Result<
 /// The same in each of these types.
 #[tactic(auto, using(crate::proofs::Substituting::substituting))]
 #[cycle(subst)]
-pub(crate) fn subst_types(
+pub fn subst_types(
     alloc: Global,
     types: &[Ty],
     by: &Substitution<'_>,

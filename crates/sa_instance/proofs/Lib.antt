@@ -1,0 +1,3 @@
+pub mod AtInstance
+pub mod Others
+pub mod TreeTypes
