@@ -31,15 +31,14 @@ use wa_valid::Valid;
 
 /// A module that is run. Contracts see how many steps it has made and whether it has halted.
 #[derive(Drop)]
-pub struct Machine<'a> {
-    module: &'a Module,
+pub struct Machine {
     linked: Linked,
     state: State,
     steps: u64,
     halt: Option<Halt>,
 }
 
-impl<'a> Model for Machine<'a> {
+impl Model for Machine {
     ghost use Rattle.wa_exec.specs.Progress.{Progress};
 
     ghost Value = { Progress };
@@ -47,14 +46,14 @@ impl<'a> Model for Machine<'a> {
     ghost view = { λ m. record { steps = m.steps; halt = m.halt; linked = m.linked; state = m.state } };
 }
 
-impl<'a> Machine<'a> {
+impl Machine {
     /// A machine at the beginning of a run of the module: its start function, if it has one, and then `main`.
     ///
     /// # Errors
     ///
     /// `Unlinked` where an import is none of the functions of the host, or `main` is missing; `Segment` where a segment
     /// doesn't fit; and `NoMemory`.
-    pub fn new(alloc: Global, v: &'a Valid) -> Result<Machine<'a>, StartFault>
+    pub fn new(alloc: Global, v: &Valid) -> Result<Machine, StartFault>
         ensures first { IfOk result (λ machine. (machine.steps ≡ 0) × (machine.halt ≡ None)) }
         ensures runs { IfOk result (λ machine. Runs v.now machine) }
         ensures begins { IfOk result (λ machine. (input : Input) → Stands v.now (row_of machine.linked.code) (flat_of machine.state) (first v.now input)) }
@@ -68,7 +67,6 @@ impl<'a> Machine<'a> {
         let linked = Linked::new(Code::new(alloc, v)?, callees)?;
         let state = beginning(alloc, v, main)?;
         Ok(Machine {
-            module,
             linked,
             state,
             steps: 0,
@@ -81,11 +79,6 @@ impl<'a> Machine<'a> {
         ensures { result ≡ self.now.steps }
     {
         self.steps
-    }
-
-    /// The module.
-    pub fn module(&self) -> &'a Module {
-        self.module
     }
 
     /// Runs until the steps have reached the fuel or the run halts. A machine that has halted answers its halt again, and

@@ -102,7 +102,7 @@ fn run_valid<I: Source, O: Sink>(
 
 /// Runs a machine that has made no step.
 fn run_machine<I: Source, O: Sink>(
-    mut machine: Machine<'_>,
+    mut machine: Machine,
     fuel: u64,
     host: &mut Host,
     input: &mut I,
@@ -117,7 +117,7 @@ fn run_machine<I: Source, O: Sink>(
     ensures output { Grew (O.output out.old) (O.output out.new) }
     ensures source { I.faults input.old ≤ I.faults input.new }
     ensures sink { O.faults out.old ≤ O.faults out.new }
-    ensures ran { (m : Module) → IsValid m → IsLinked m → Runs m machine.entry → ((input : Input) → Stands m (row_of machine.entry.linked.code) (flat_of machine.entry.state) (first m input)) → host.old ≡ [] → HasRunModule m fuel result (sides (I.input input.old) (O.output out.old)) (sides (I.input input.new) (O.output out.new)) }
+    ensures ran { (m : Module) → IsValid m → IsLinked m → Runs m machine → ((input : Input) → Stands m (row_of machine.linked.code) (flat_of machine.state) (first m input)) → host.old ≡ [] → HasRunModule m fuel result (sides (I.input input.old) (O.output out.old)) (sides (I.input input.new) (O.output out.new)) }
 {
     let halt = machine.step_until(fuel, host, input, out);
     Run {
