@@ -15,6 +15,3 @@ mod value;
 
 pub use fault::DecodeFault;
 pub use module::decode;
-
-#[cfg(test)]
-mod tests;

@@ -16,6 +16,3 @@ mod variable;
 
 pub use fault::ValidFault;
 pub use valid::{Valid, validate};
-
-#[cfg(test)]
-mod tests;

@@ -1,7 +1,7 @@
 //! Small modules and bodies, each with what the standard says of it. V8 says the same of each that isn't marked.
 
-use crate::tests::build::Part::{self, *};
-use crate::tests::build::Step::{self, *};
+use crate::validation::build::Part::{self, *};
+use crate::validation::build::Step::{self, *};
 use wa_syntax::Init;
 use wa_syntax::ValTy::{I32, I64};
 use wa_syntax::opcode::*;

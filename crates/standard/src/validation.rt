@@ -1,12 +1,14 @@
+//! Which modules and bodies are valid (chapter 3).
+
 mod build;
 mod cases;
 
-use crate::{ValidFault, validate};
 use build::Part::{self, *};
 use cases::{BODIES, MODULES};
 use std::alloc::Global;
 use std::test::Fail;
 use wa_syntax::{Init, ValTy};
+use wa_valid::{ValidFault, validate};
 
 /// What validation says of the module of these parts.
 fn verdict(alloc: Global, parts: &[Part]) -> Result<Result<(), Option<u32>>, Fail> {

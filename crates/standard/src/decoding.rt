@@ -1,6 +1,8 @@
-use crate::{DecodeFault, decode};
+//! Which bytes spell a module (chapter 5).
+
 use std::alloc::Global;
 use std::test::Fail;
+use wa_decode::{DecodeFault, decode};
 use wa_syntax::ExportKind;
 
 /// What a module begins with.
