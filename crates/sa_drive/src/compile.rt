@@ -15,6 +15,7 @@ use sa_outside::Store;
 use sa_prelude::text;
 use sa_read::{Program, ReadFault, classes, read_program};
 use sa_tree::{Class, FrontFault, Name, NoMemory, Sources};
+use sa_words::ROOM;
 use sqlite_items::Items;
 use std::alloc::Global;
 
@@ -26,9 +27,6 @@ pub enum Goal {
     /// Its module, with so many KiB of room for objects.
     Module(u32),
 }
-
-/// The room in KiB where none is given.
-const ROOM: u32 = 65_536;
 
 /// The texts of a program, and its module or the cause why there is none. Where only a check was asked for, the module is
 /// empty.

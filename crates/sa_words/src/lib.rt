@@ -14,3 +14,4 @@ mod subcommand;
 pub use command::{Build, Check, Command, Exec, Run};
 pub use fault::WordsFault;
 pub use read::command_of;
+pub use subcommand::ROOM;

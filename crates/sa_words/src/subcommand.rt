@@ -9,10 +9,11 @@ use crate::number::{number_in, number_or};
 use clap::ArgMatches;
 use std::alloc::{AllocError, Global};
 
-/// The fuel and the room where none is given.
+/// The fuel in steps where none is given.
 const MOST_FUEL: u64 = u64::MAX;
 
-const ROOM: u64 = 65_536;
+/// The room in KiB where none is given.
+pub const ROOM: u32 = 65_536;
 
 const LEAST_ROOM: u64 = 64;
 
@@ -46,7 +47,12 @@ fn fuel(matches: &ArgMatches<'_>) -> Option<u64>
 fn room(matches: &ArgMatches<'_>) -> Option<u32>
     ensures { result ≡ room_in (rows_of (found_of matches.now)) }
 {
-    let room = number_or(ROOM, value(matches, "room"), LEAST_ROOM, MOST_ROOM)?;
+    let room = number_or(
+        u64::from(ROOM),
+        value(matches, "room"),
+        LEAST_ROOM,
+        MOST_ROOM,
+    )?;
     Some(room as u32)
 }
 
