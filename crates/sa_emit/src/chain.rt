@@ -2,7 +2,8 @@
 
 use crate::heads::DEEPEST;
 use crate::held::{held, sum};
-use sa_emit_step::{Around, NOT_A_HEAD, add_jump, add_leaving, add_step, local_of};
+use sa_emit_step::{add_leaving, add_step};
+use sa_emit_value::{Around, NOT_A_HEAD, add_jump, local_of};
 use sa_flat::{FlatExit, FlatStep};
 use sqlite_items::Items;
 use std::alloc::Global;

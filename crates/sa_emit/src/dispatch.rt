@@ -3,7 +3,7 @@
 
 use crate::chain::{add_head, add_repeating};
 use crate::held::{held, number, sum};
-use sa_emit_step::{Around, BLOCK};
+use sa_emit_value::{Around, BLOCK};
 use sqlite_items::Items;
 use std::alloc::Global;
 use wa_syntax::{Instr, NoMemory, opcode};

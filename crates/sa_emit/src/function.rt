@@ -6,9 +6,8 @@ use crate::entrances::{Entrance, entrances};
 use crate::heads::{Heads, heads_of};
 use crate::pool::has_frames;
 use sa_dispatch::Rows;
-use sa_emit_step::{
-    Around, Below, Role, add_iter_prologue, add_prologue, add_suspension, locals_of,
-};
+use sa_emit_step::{add_iter_prologue, add_suspension};
+use sa_emit_value::{Around, Below, Role, add_prologue, locals_of};
 use sa_flat::{FlatBody, FlatProgram};
 use sa_runtime::layout::BODY_TYPE;
 use sqlite_items::Items;

@@ -3,7 +3,7 @@
 
 use crate::entrances::Entrance;
 use crate::held::{held, number};
-use sa_emit_step::NOT_A_HEAD;
+use sa_emit_value::NOT_A_HEAD;
 use sa_flat::{FlatBody, FlatExit};
 use sqlite_items::Items;
 use std::alloc::Global;

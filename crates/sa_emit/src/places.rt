@@ -3,7 +3,7 @@
 
 use crate::held::{held, number, sum};
 use sa_dispatch::Rows;
-use sa_emit_step::NOT_PLACED;
+use sa_emit_value::NOT_PLACED;
 use sa_flat::{Callee, FlatProgram};
 use sqlite_items::Items;
 use std::alloc::Global;

@@ -7,7 +7,7 @@ use crate::module::module;
 use crate::places::places_of;
 use crate::pool::{slot_bytes, slot_words};
 use sa_dispatch::Rows;
-use sa_emit_step::Below;
+use sa_emit_value::Below;
 use sa_flat::FlatProgram;
 use sa_runtime::layout::FIRST_BODY;
 use sa_tree::Pos;

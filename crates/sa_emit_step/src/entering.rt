@@ -1,13 +1,10 @@
 //! Steps of bodies that were made for an implementation by an iter. Such a body is no activation: it takes the frame of the
 //! instance at a start, hands it out, and runs the iter's body on it, at the depth of its caller.
 
-use crate::area::{add_answers, add_handed};
-use crate::around::{Around, FRAME};
-use crate::calls::{add_deeper, add_too_deep, function_of};
-use crate::choice::{add_if, add_if_else};
-use crate::failing::add_handed_on;
 use crate::frames::{add_frame_self, add_is_frame};
 use crate::outcome::{add_is_raised, add_is_suspended, add_quit};
+use sa_emit_call::{add_deeper, add_too_deep, function_of};
+use sa_emit_value::{Around, FRAME, add_answers, add_handed, add_handed_on, add_if, add_if_else};
 use sa_flat::FlatArg;
 use sa_runtime::layout::{END_FRAME, FRAME_OUT, NEW_FRAME, RAISED, TOO_DEEP, TOO_MANY_FRAMES};
 use sa_runtime::line::{Op, add_line};

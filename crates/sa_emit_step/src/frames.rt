@@ -1,10 +1,8 @@
 //! The frames of instances: each site has that of its instance in a local, or 0 where it has none.
 
-use crate::around::Around;
-use crate::calls::add_depth_test;
-use crate::choice::add_if;
-use crate::failing::add_fail_if;
 use crate::outcome::Site;
+use sa_emit_call::add_depth_test;
+use sa_emit_value::{Around, add_fail_if, add_if};
 use sa_runtime::layout::{FRAME_SELF_AT, NEW_FRAME, RELEASE, TOO_MANY_FRAMES};
 use sa_runtime::line::{Op, add_line};
 use sqlite_items::Items;

@@ -1,9 +1,7 @@
 //! The exits that leave a body.
 
-use crate::area::add_copies_back;
-use crate::around::{Around, Role};
-use crate::failing::add_fail;
 use crate::suspension::add_suspend;
+use sa_emit_value::{Around, Role, add_copies_back, add_fail};
 use sa_flat::FlatExit;
 use sa_runtime::layout::{
     ENDED, EXCEPTION, EXCEPTION_KIND, EXCEPTION_PLACE, RAISED, RESULT, RETURNED,

@@ -3,11 +3,8 @@
 //! Who takes a frame gives it back when the body ends: the site where it calls the body of a feature itself, and else what it
 //! calls. The local of the site is cleared before a raise goes on, so that what ends the instances of the loop finds none there.
 
-use crate::area::add_answers;
-use crate::around::{ADDRESS, Around, STATUS};
-use crate::choice::{add_if, add_if_else};
-use crate::dispatch::add_handed_on_fault;
-use crate::failing::{add_raise, deeper};
+use sa_emit_call::add_handed_on_fault;
+use sa_emit_value::{ADDRESS, Around, STATUS, add_answers, add_if, add_if_else, add_raise, deeper};
 use sa_flat::{CallPlan, Raised};
 use sa_runtime::layout::{CALLED_AT, END_FRAME, FRAME_OUT, RAISED, SITE_AT, SUSPENDED};
 use sa_runtime::line::{Op, add_line};

@@ -3,14 +3,12 @@
 //! The order at a start is: the fault of a void receiver, then that of the depth, then that of too many instances, then the
 //! arguments go into the area. A resumption reads neither the receiver nor the arguments that are `once`.
 
-use crate::area::{ARGUMENTS, add_handed, add_self};
-use crate::around::{ADDRESS, Around, DEPTH};
-use crate::calls::{add_deeper, add_depth_test, function_of};
-use crate::dispatch::{Class, add_chosen, is_plain};
-use crate::failing::add_void_test;
 use crate::frames::add_new_frame;
 use crate::outcome::{Called, Site, add_resumed, add_started};
-use crate::values::add_type_of;
+use sa_emit_call::{Class, add_chosen, add_deeper, add_depth_test, function_of, is_plain};
+use sa_emit_value::{
+    ADDRESS, ARGUMENTS, Around, DEPTH, add_handed, add_self, add_type_of, add_void_test,
+};
 use sa_flat::{CallPlan, Callee};
 use sa_runtime::layout::{BOUND_CALL, CALLED_AT};
 use sa_runtime::line::{Op, add_line};

@@ -1,15 +1,13 @@
 //! One step, as the instructions that its own function adds.
 
-use crate::around::Around;
-use crate::attributes::add_init_shared;
-use crate::binding::{add_bind, add_widen_for};
-use crate::calls::add_call;
 use crate::entering::{add_enter, add_has_frame};
-use crate::failing::{UNCAUGHT, add_void_test};
 use crate::frames::{add_has_entry, add_release};
-use crate::objects::{add_new, add_new_array, add_put_item, add_unwrap, add_widen};
 use crate::sites::{add_resume, add_start};
-use crate::values::{add_const, add_is_void, add_me, add_move, add_type_is};
+use sa_emit_call::{add_bind, add_call, add_widen_for};
+use sa_emit_value::{
+    Around, UNCAUGHT, add_const, add_init_shared, add_is_void, add_me, add_move, add_new,
+    add_new_array, add_put_item, add_type_is, add_unwrap, add_void_test, add_widen,
+};
 use sa_flat::{FlatStep, Raised};
 use sa_runtime::line::{Op, add_line};
 use sqlite_items::Items;

@@ -3,10 +3,10 @@
 //! The function of an iter's body is entered alike at a start and at a resumption: the frame alone tells which it is, by the
 //! number of the head to go on in, which is 0 at a start. No suspension goes on in the first head.
 
-use crate::area::{add_copies_back, add_formals, add_once_formals};
-use crate::around::{ADDRESS, Around, BLOCK, FRAME, ME, held, local_of, site_local};
-use crate::choice::{add_if, add_if_else};
-use crate::failing::{deeper, head_of};
+use sa_emit_value::{
+    ADDRESS, Around, BLOCK, FRAME, ME, add_copies_back, add_formals, add_if, add_if_else,
+    add_once_formals, deeper, head_of, held, local_of, site_local,
+};
 use sa_flat::FlatBody;
 use sa_runtime::layout::{
     BLOCK_AT, FIRST_KEPT_AT, FRAME_SELF_AT, INSIDE_AT, RESULT, SIBLING_AT, SITE_AT, SUSPENDED,

@@ -63,13 +63,17 @@ pub enum Role {
 /// What stands around a step.
 #[derive(Clone, Copy)]
 pub struct Around<'a> {
+    /// The program that the step stands in.
     pub flat: &'a FlatProgram,
+    /// The implementations of its signatures.
     pub rows: &'a Rows,
     /// The body that the step stands in.
     pub body: &'a FlatBody,
+    /// What this body was made for.
     pub role: Role,
     /// The address of each text.
     pub texts: &'a [u32],
+    /// For each type the concrete types at or below it.
     pub below: &'a Below,
     /// For each block of the body its number in the dispatch, or `NOT_A_HEAD`.
     pub heads: &'a [u32],

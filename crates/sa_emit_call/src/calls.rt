@@ -1,13 +1,11 @@
 //! Calls, by what they reach.
 
-use crate::area::{add_answers, add_arguments};
-use crate::around::{Around, DEPTH, held};
-use crate::attributes::{add_get, add_get_shared, add_set, add_set_shared};
 use crate::binding::add_bound_call;
-use crate::builtins::add_builtin;
-use crate::choice::add_if;
 use crate::dispatch::add_dispatch;
-use crate::failing::{add_fail_if, add_raise, deeper};
+use sa_emit_value::{
+    Around, DEPTH, add_answers, add_arguments, add_builtin, add_fail_if, add_get, add_get_shared,
+    add_if, add_raise, add_set, add_set_shared, deeper, held,
+};
 use sa_flat::{CallPlan, Callee, Fail};
 use sa_runtime::layout::{BODY_TYPE, FIRST_BODY, GREATEST_DEPTH, TOO_DEEP};
 use sa_runtime::line::{Op, add_line};

@@ -1,8 +1,7 @@
 //! The words of a bind, which the call of its values reads: what is called, and which arguments the values keep.
 
-use crate::around::{Around, NOT_PLACED, held};
-use crate::attributes::{is_immutable, shared_at};
 use crate::dispatch::is_plain;
+use sa_emit_value::{Around, NOT_PLACED, held, is_immutable, shared_at};
 use sa_flat::{BindEntry, Callee};
 use sa_prelude::BuiltinFeature;
 use sa_runtime::layout::{

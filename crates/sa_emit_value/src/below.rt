@@ -10,7 +10,9 @@ use wa_syntax::NoMemory;
 /// Types whose numbers follow one another.
 #[derive(Clone, Copy)]
 pub struct TypeSpan {
+    /// The least of the numbers.
     pub least: u32,
+    /// The greatest of the numbers, which is the least where there is one type.
     pub greatest: u32,
 }
 

@@ -2,16 +2,14 @@
 //! receiver follows, and then the arguments that are kept. Where the receiver's class chooses what is called, its place in the
 //! table stands in the high half of the receiver's word, since the receiver is an address then.
 
-use crate::area::{ARGUMENTS, add_answers, add_handed};
-use crate::around::{ADDRESS, Around, DEPTH, STATUS, held};
-use crate::below::{TypeSpan, spans_of};
-use crate::choice::{add_if, add_if_else};
 use crate::dispatch::{add_unreturned, target_of};
 use crate::entry::{entry_words, given};
-use crate::failing::{NO_ROOM, add_fail_if, add_void_test, deeper};
-use crate::objects::add_widened;
-use crate::values::{add_span_test, add_type_of};
 use sa_dispatch::Span;
+use sa_emit_value::{
+    ADDRESS, ARGUMENTS, Around, DEPTH, NO_ROOM, STATUS, TypeSpan, add_answers, add_fail_if,
+    add_handed, add_if, add_if_else, add_span_test, add_type_of, add_void_test, add_widened,
+    deeper, held, spans_of,
+};
 use sa_flat::{BindEntry, CallPlan, Callee, Fail, FlatArg};
 use sa_runtime::layout::{ALLOCATE, BOUND, BOUND_CALL, RESULT, attribute_at, header};
 use sa_runtime::line::{Op, add_line};

@@ -3,13 +3,12 @@
 //! A signature is plain where its implementations are bodies of features. Else each is a body that was made for it alone:
 //! that one is no activation, so no depth is tested before it, and it hands its faults on.
 
-use crate::area::{add_answers, add_arguments};
-use crate::around::{ADDRESS, Around, STATUS, held};
 use crate::calls::{add_as_deep, add_deeper, add_depth_test, add_indirect_call, function_of};
-use crate::choice::add_if;
-use crate::failing::{add_fail_if, add_raise, add_void_test, deeper};
-use crate::values::add_type_of;
 use sa_dispatch::Span;
+use sa_emit_value::{
+    ADDRESS, Around, STATUS, add_answers, add_arguments, add_fail_if, add_if, add_raise,
+    add_type_of, add_void_test, deeper, held,
+};
 use sa_flat::{CallPlan, Fail};
 use sa_runtime::layout::{FAULT_KIND, HANDED_ON};
 use sa_runtime::line::{Op, add_line};

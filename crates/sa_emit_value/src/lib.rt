@@ -1,0 +1,39 @@
+//! What stands around a step of a flat body, and the steps that call no body, as instructions of WebAssembly.
+//!
+//! What is named `add_..` adds its instructions to the list `code`, where `inside` is the number of the label of the dispatch.
+//! The answer is `NoMemory` where memory has run out, and also where a number that a step has names nothing.
+#![tactic(auto)]
+
+mod area;
+mod around;
+mod attributes;
+mod below;
+mod builtins;
+mod choice;
+mod failing;
+mod inline;
+mod objects;
+mod values;
+
+pub use area::{
+    ARGUMENTS, add_answers, add_arguments, add_copies_back, add_formals, add_handed,
+    add_once_formals, add_prologue, add_self,
+};
+pub use around::{
+    ADDRESS, Around, BLOCK, DEPTH, FRAME, ME, NOT_A_HEAD, NOT_PLACED, Role, STATUS, held, local_of,
+    locals_of, site_local,
+};
+pub use attributes::{
+    add_get, add_get_shared, add_init_shared, add_set, add_set_shared, is_immutable, shared_at,
+};
+pub use below::{Below, TypeSpan, spans_of};
+pub use builtins::add_builtin;
+pub use choice::{add_if, add_if_else};
+pub use failing::{
+    NO_ROOM, UNCAUGHT, add_fail, add_fail_if, add_handed_on, add_jump, add_raise, add_void_test,
+    deeper, head_of, leaves,
+};
+pub use objects::{add_new, add_new_array, add_put_item, add_unwrap, add_widen, add_widened};
+pub use values::{
+    add_const, add_is_void, add_me, add_move, add_span_test, add_type_is, add_type_of,
+};
