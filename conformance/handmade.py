@@ -87,6 +87,7 @@ def format_rows():
     yield Row('an initial value of two constants',
               bare(globals=[bytes([I32, 0]) + i32_const(1) + i32_const(1) + b'\x0b']), 'malformed')
     yield Row('an empty initial value', bare(globals=[bytes([I32, 0, 0x0b])]), 'malformed')
+    yield Row('an initial value without an end', bare(globals=[bytes([I32, 0]) + i32_const(1)]), 'malformed', wabt=False)
 
 
 def limit_rows():

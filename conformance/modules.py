@@ -20,7 +20,7 @@ import tempfile
 import handmade
 import judges
 import maker
-from reader import BODY_WITHOUT_END, Reading
+from reader import BODY_WITHOUT_END, INITIAL_WITHOUT_END, Reading
 
 FUEL = ['--fuel', '20000000']
 INPUT = b'some input\0\xff'
@@ -29,7 +29,7 @@ REFUSED = ('malformed', 'invalid')
 V8_JUDGES_OTHERWISE = {'several results', 'several tables', 'an own global in an offset', 'labels of several types',
                        'many locals', 'a large table', 'flags of a segment'}
 # wabt looks into some custom sections, and lets an offset read imported globals alone. It also takes a body whose last `end`
-# is that of an inner block.
+# is that of an inner block, and an initial expression without `end` that a section ends with.
 WABT_JUDGES_OTHERWISE = {'an own global in an offset', 'labels of several types', 'flags of a segment', 'a custom section'}
 
 
@@ -140,7 +140,7 @@ class Comparison:
     def changed_in(self, tool, otherwise, name, module, reading, valid, found):
         """Compares a verdict with a tool's. A module that breaks a rule of the profile alone is left out where the tool takes
         it."""
-        unended = tool == 'wabt' and reading.malformed == BODY_WITHOUT_END
+        unended = tool == 'wabt' and reading.malformed in (BODY_WITHOUT_END, INITIAL_WITHOUT_END)
         if reading.malformed and reading.later and valid:
             self.tally.leave_out('changed, valid in %s (outside the profile)' % tool)
         elif reading.notes & otherwise or unended:

@@ -4,6 +4,7 @@ blocks and 1,000,000 declared locals of a function. It shares nothing with the d
 MOST_NESTED = 1000
 MOST_LOCALS = 1_000_000
 BODY_WITHOUT_END = 'a body whose blocks are not all ended'
+INITIAL_WITHOUT_END = 'an initial expression that is not ended'
 VALUE_TYPES = {0x7f, 0x7e}
 BLOCK_TYPES = VALUE_TYPES | {0x40}
 ALONE = {0x00, 0x01, 0x0f, 0x1a, 0x1b, *range(0x45, 0x5b), *range(0x67, 0x8b), 0xa7, 0xac, 0xad}
@@ -191,6 +192,7 @@ class Reader:
         opcode = self.byte()
         require(opcode in (0x41, 0x42, 0x23), 'no initial expression', True)
         number = self.unsigned() if opcode == 0x23 else self.signed(32 if opcode == 0x41 else 64)
+        require(self.at < self.limit, INITIAL_WITHOUT_END)
         require(self.byte() == 0x0b, 'no initial expression', True)
         return number if opcode == 0x23 else None
 
