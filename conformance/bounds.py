@@ -12,13 +12,13 @@ routine of 200 variables, expressions and statements that nest as deep as they m
 one, many texts. Without --all one in ten of the table's programs is taken. Prints the greatest count of each kind, each
 program that passes a bound, and a last line 'N passed, M failed'; the status is 1 where any failed."""
 import argparse
+import functools
 import glob
 import os
-import subprocess
 import sys
-import tempfile
 
 import programs
+import report
 from reader import Reader
 
 IMPORTS = 3
@@ -115,46 +115,46 @@ def tried(all_):
         yield name, {'f.sa': text.encode()}, ['-o', 'm', 'f.sa'], True
 
 
-def module_of(program, files, words, folder):
-    """The bytes of a program's module, or None with the line that the program was answered with."""
-    programs.lay(files, folder)
-    ended = subprocess.run([program, 'build', *words], cwd=folder, stdin=subprocess.DEVNULL, stdout=subprocess.PIPE,
-                           stderr=subprocess.PIPE, timeout=120)
-    if ended.returncode != 0:
-        return None, ended.stderr.decode('latin-1').strip()
-    with open(os.path.join(folder, 'm'), 'rb') as file:
-        return file.read(), ''
+def counted(command, tried_program):
+    """The counts of a program's module, or the line with which the program was refused."""
+    _, files, words, _ = tried_program
+    with report.folder_with(files) as folder:
+        left = report.run([command, 'build', *words], folder)
+        if left.status != 0:
+            return left.lines.decode('latin-1').strip()
+        with open(os.path.join(folder, 'm'), 'rb') as file:
+            counter = Counter(file.read())
+    counter.module()
+    return counter.counts()
+
+
+def try_all(command, told, all_=False):
+    """Counts what the modules hold."""
+    every, greatest = list(tried(all_)), {}
+    told.part('bounds of modules', len(every))
+    for (name, _, _, must), counts in zip(every, report.side_by_side(functools.partial(counted, command), every)):
+        if isinstance(counts, str):
+            if must or isinstance(counts, report.Late):
+                told.count(name, counts)
+            else:
+                told.leave_out('programs of cases that are refused, whose modules have no bounds to keep')
+            continue
+        greatest = {kind: max(counts[kind], greatest.get(kind, 0)) for kind in counts}
+        passing = ['%d %s' % (counts[kind], kind) for kind in counts if counts[kind] > MOST[kind]]
+        told.count(name, ', '.join(passing) or None)
+    return greatest
 
 
 def main():
-    parser = argparse.ArgumentParser()
-    parser.add_argument('program')
-    parser.add_argument('--all', action='store_true')
-    options = parser.parse_args()
-    program = os.path.abspath(options.program)
-    passed, failed, greatest = 0, 0, {}
-    for name, files, words, must in tried(options.all):
-        with tempfile.TemporaryDirectory() as folder:
-            spelled, line = module_of(program, files, words, folder)
-        if spelled is None:
-            failed += must
-            if must:
-                print('%s: %s' % (name, line))
-            continue
-        counter = Counter(spelled)
-        counter.module()
-        counts = counter.counts()
-        greatest = {kind: max(counts[kind], greatest.get(kind, 0)) for kind in counts}
-        passing = [kind for kind in counts if counts[kind] > MOST[kind]]
-        for kind in passing:
-            print('%s: %d %s' % (name, counts[kind], kind))
-        failed += bool(passing)
-        passed += not passing
-    for kind, count in greatest.items():
-        print('%s: at most %d of %d' % (kind, count, MOST[kind]))
-    print('%d passed, %d failed' % (passed, failed))
-    sys.exit(failed > 0)
+    words = argparse.ArgumentParser(description=__doc__, formatter_class=argparse.RawDescriptionHelpFormatter)
+    words.add_argument('program')
+    words.add_argument('--all', action='store_true')
+    given = words.parse_args()
+    told = report.Report()
+    for kind, count in try_all(os.path.abspath(given.program), told, given.all).items():
+        told.line('%s: at most %d of %d' % (kind, count, MOST[kind]))
+    return told.close()
 
 
 if __name__ == '__main__':
-    main()
+    sys.exit(main())

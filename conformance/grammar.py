@@ -1,20 +1,22 @@
 #!/usr/bin/env python3
-"""grammar.py PROGRAM [--limit N]: tries the built program on sources that are nearly right.
+"""grammar.py PROGRAM [--limit N]
+
+Tries the program on sources that are nearly right.
 
 The sources are the examples and the files of the cases. Of each one every prefix is checked, and it with each byte
 changed, left out or doubled. N of these texts are tried (2,000 without the option), the same ones in each run, spread
 over all sources; `--limit 0` tries all. Each has to be accepted, or refused with a line inside the text or the prelude.
 Prints each text that differs, and a last line 'N passed, M failed'; the status is 1 where any failed."""
+import argparse
+import functools
 import glob
-import json
 import os
 import random
 import re
-import subprocess
 import sys
-import tempfile
 
-from programs import bytes_of
+import cases
+import report
 
 TOP = os.path.join(os.path.dirname(os.path.abspath(__file__)), '..')
 LONGEST = 2000
@@ -29,15 +31,11 @@ def sources():
     for path in sorted(glob.glob(os.path.join(TOP, 'examples', '*.sa'))):
         with open(path, 'rb') as file:
             yield os.path.basename(path), file.read()
-    for path in sorted(glob.glob(os.path.join(TOP, 'crates', 'cases', 'data', '*.json'))):
-        with open(path, encoding='utf-8') as file:
-            cases = json.load(file)
-        for case in cases:
-            for text in case.get('files', {}).values():
-                source = bytes_of(text)
-                if source not in seen and len(source) <= LONGEST:
-                    seen.add(source)
-                    yield case['name'], source
+    for case in cases.read():
+        for source in case.files.values():
+            if source not in seen and len(source) <= LONGEST:
+                seen.add(source)
+                yield case.name, source
 
 
 def edits(source, chance):
@@ -59,44 +57,38 @@ def texts(limit):
     return every
 
 
-def fault(program, folder, text):
+def fault(command, text):
     """What is wrong with the program's answer, or None."""
-    with open(os.path.join(folder, 'f.sa'), 'wb') as file:
-        file.write(text)
-    try:
-        ended = subprocess.run([program, 'check', 'f.sa'], cwd=folder, stdin=subprocess.DEVNULL, capture_output=True,
-                               timeout=20)
-    except subprocess.TimeoutExpired:
-        return 'it takes more than 20 seconds'
-    answer = ended.stdout, ended.stderr, ended.returncode
-    if answer == (b'accepted\n', b'', 0):
+    with report.folder_with({'f.sa': text}) as folder:
+        left = report.run([command, 'check', 'f.sa'], folder)
+    if left == report.Left(b'accepted\n'):
         return None
-    refused = REFUSED.fullmatch(ended.stderr)
-    if refused and ended.returncode == 120 and not ended.stdout:
+    refused = REFUSED.fullmatch(left.lines)
+    if refused and left.status == 120 and not left.output:
         lines = PRELUDE_LINES if refused.group(1) == b'prelude' else text.count(b'\n') + 1
         if int(refused.group(2)) <= lines:
             return None
-    return 'it left %r' % (answer,)
+    return 'expected that it is accepted or refused inside the text, and came %s, for the text %r' % (left, text)
 
 
-def main(program, limit):
-    passed = failed = 0
-    with tempfile.TemporaryDirectory() as folder:
-        for name, how, text in texts(limit):
-            wrong = fault(program, folder, text)
-            if wrong is None:
-                passed += 1
-            else:
-                failed += 1
-                print('%s: %s: %s\n%r' % (name, how, wrong, text))
-    print('%d passed, %d failed' % (passed, failed))
-    return 1 if failed else 0
+def try_all(command, told, limit=2000):
+    """Tries so many of the texts."""
+    every = texts(limit)
+    told.part('sources that are nearly right', len(every))
+    wrongs = report.side_by_side(functools.partial(fault, command), [text for _, _, text in every])
+    for (name, how, _), wrong in zip(every, wrongs):
+        told.count('%s, %s' % (name, how), wrong)
 
 
-words = sys.argv[1:]
-if len(words) == 1:
-    words += ['--limit', '2000']
-if len(words) != 3 or words[1] != '--limit' or not words[2].isdigit():
-    print(__doc__)
-    sys.exit(2)
-sys.exit(main(os.path.abspath(words[0]), int(words[2])))
+def main():
+    words = argparse.ArgumentParser(description=__doc__, formatter_class=argparse.RawDescriptionHelpFormatter)
+    words.add_argument('program')
+    words.add_argument('--limit', type=int, default=2000)
+    given = words.parse_args()
+    told = report.Report()
+    try_all(os.path.abspath(given.program), told, given.limit)
+    return told.close()
+
+
+if __name__ == '__main__':
+    sys.exit(main())

@@ -65,13 +65,25 @@ def sather(program, folder, module, given=b'', words=()):
     return Run(end_of(line, ended.returncode), ended.stdout, steps)
 
 
+def has_node():
+    """Whether V8 is there."""
+    return shutil.which('node') is not None
+
+
+def tell_missing(told):
+    """Notes in a report which of the tools are missing."""
+    if not has_node():
+        told.lacks('node', 'nothing was compared with V8')
+    if not has_wabt():
+        told.lacks('wabt (wasm-validate, wasm-interp)', 'nothing was compared with it')
+
+
 def v8(tasks, stack=None):
     """Judges modules by one process of node, with so many bytes of stack where they are given. A task is a module, an input,
     and whether to run it. Gives for each whether it is valid, and its run or None; or None for all where node is missing."""
-    node = shutil.which('node')
-    if node is None:
+    if not has_node():
         return None
-    words = [node, os.path.join(HERE, 'v8.js')]
+    words = ['node', os.path.join(HERE, 'v8.js')]
     if stack is not None:
         words.insert(1, '--stack-size=%d' % (stack_within(stack) // 1024))
     lines = [json.dumps({'module': module.hex(), 'input': given.hex(), 'run': run}) for module, given, run in tasks]

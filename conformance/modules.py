@@ -9,17 +9,16 @@ Compares what `PROGRAM exec` says of modules with what the definition says, and 
 - N modules that are these with some bytes changed are malformed where a reader of the format in this folder says so, and
   else valid where V8 and wabt say so.
 
-What V8 and wabt are known to judge otherwise is left out, and counted. A tool that is missing is named. Each difference is
-printed with the module in hex, and the status is 1 where there was one."""
+What V8 and wabt are known to judge otherwise is left out, and counted. A tool that is missing is named. Prints each difference
+with the module in hex, and a last line 'N passed, M failed', where each comparison counts; the status is 1 where any failed."""
 import argparse
 import os
-import shutil
 import sys
-import tempfile
 
 import handmade
 import judges
 import maker
+import report
 from reader import BODY_WITHOUT_END, INITIAL_WITHOUT_END, Reading
 
 FUEL = ['--fuel', '20000000']
@@ -33,41 +32,21 @@ V8_JUDGES_OTHERWISE = {'several results', 'several tables', 'an own global in an
 WABT_JUDGES_OTHERWISE = {'an own global in an offset', 'labels of several types', 'flags of a segment', 'a custom section'}
 
 
-class Tally:
-    """How many comparisons of each kind ran, were left out and differed."""
-
-    def __init__(self):
-        self.ran, self.left_out, self.differences = {}, {}, 0
-
-    def compare(self, kind, shown, module, wanted, found):
-        """Counts a comparison, and prints it where it differs."""
-        self.ran[kind] = self.ran.get(kind, 0) + 1
-        if wanted != found:
-            self.differences += 1
-            print('%s, %s: wanted %s, and it was %s\n  %s' % (kind, shown, wanted, found, module.hex()))
-
-    def leave_out(self, kind):
-        """Counts a comparison that is left out."""
-        self.left_out[kind] = self.left_out.get(kind, 0) + 1
-
-    def print(self):
-        """Prints the counts."""
-        for kind in sorted(self.ran.keys() | self.left_out.keys()):
-            print('%s: %d compared, %d left out' % (kind, self.ran.get(kind, 0), self.left_out.get(kind, 0)))
-        print('%d differences' % self.differences)
-
-
 def verdict(accepted):
     return 'accepted' if accepted else 'refused'
 
 
 class Comparison:
-    """The program, the tools that are there, and the counts."""
+    """The program, the folder in which it runs, and the report."""
 
-    def __init__(self, program, folder):
-        self.program, self.folder = program, folder
+    def __init__(self, program, folder, told):
+        self.program, self.folder, self.told = program, folder, told
         self.wabt = judges.has_wabt()
-        self.tally = Tally()
+
+    def compare(self, kind, shown, module, wanted, found):
+        """Counts a comparison, and tells the module where it differs."""
+        wrong = None if wanted == found else 'expected %s, and came %s; the module is\n  %s' % (wanted, found, module.hex())
+        self.told.count('%s, %s' % (kind, shown), wrong)
 
     def run(self, module, given=b'', words=()):
         return judges.sather(self.program, self.folder, module, given, words)
@@ -79,25 +58,25 @@ class Comparison:
         for place, row in enumerate(rows):
             found = self.run(row.module, row.given, row.words())
             wanted = judges.Run(row.end, row.output, row.steps)
-            self.tally.compare('by hand, the program', row.name, row.module, str(wanted), str(found))
+            self.compare('by hand, the program', row.name, row.module, str(wanted), str(found))
             if answers is not None:
                 self.by_hand_in_v8(row, *answers[place])
             if self.wabt and row.wabt:
                 accepted = verdict(judges.wabt_accepts(self.folder))
-                self.tally.compare('by hand, valid in wabt', row.name, row.module, verdict(row.end not in REFUSED), accepted)
+                self.compare('by hand, valid in wabt', row.name, row.module, verdict(row.end not in REFUSED), accepted)
             elif self.wabt:
-                self.tally.leave_out('by hand, valid in wabt')
+                self.told.leave_out('modules by hand whose validity wabt judges otherwise')
 
     def by_hand_in_v8(self, row, valid, run):
         if not row.v8:
-            self.tally.leave_out('by hand, V8')
+            self.told.leave_out('modules by hand that V8 judges otherwise')
         elif row.end in REFUSED:
-            self.tally.compare('by hand, V8', row.name, row.module, 'refused', verdict(valid))
+            self.compare('by hand, V8', row.name, row.module, 'refused', verdict(valid))
         elif row.end.startswith('unlinked'):
-            self.tally.compare('by hand, V8', row.name, row.module, 'unlinked', run.end if valid else 'refused')
+            self.compare('by hand, V8', row.name, row.module, 'unlinked', run.end if valid else 'refused')
         else:
             wanted = judges.Run(row.end, row.output)
-            self.tally.compare('by hand, V8', row.name, row.module, str(wanted), str(run))
+            self.compare('by hand, V8', row.name, row.module, str(wanted), str(run))
 
     def random(self, rng, count):
         """Modules that are valid by construction."""
@@ -108,16 +87,16 @@ class Comparison:
             found = self.run(module, INPUT, FUEL)
             if answers is not None:
                 valid, run = answers[place]
-                self.tally.compare('random, V8', name, module, str(run) if valid else 'refused', str(found))
+                self.compare('random, V8', name, module, str(run) if valid else 'refused', str(found))
             if self.wabt:
                 self.random_in_wabt(name, module, found)
 
     def random_in_wabt(self, name, module, found):
         run = judges.wabt_run(self.folder)
         if run is None:
-            self.tally.leave_out('random, wabt (it reads input or stops)')
+            self.told.leave_out('random modules that read input or stop, which wabt has no host for')
         else:
-            self.tally.compare('random, wabt', name, module, str(run), str(found))
+            self.compare('random, wabt', name, module, str(run), str(found))
 
     def changed(self, rng, count):
         """Modules with some bytes changed. None of them has a `main`, so one that is valid is not linked."""
@@ -129,7 +108,7 @@ class Comparison:
             found = self.run(module)
             said = 'malformed' if found.end == 'malformed' else 'well formed'
             wanted = 'malformed' if reading.malformed else 'well formed'
-            self.tally.compare('changed, the grammar', '%s (%s)' % (name, reading.malformed), module, wanted, said)
+            self.compare('changed, the grammar', '%s (%s)' % (name, reading.malformed), module, wanted, said)
             accepted = found.end.split()[0] if found.end not in REFUSED else 'refused'
             if answers is not None:
                 self.changed_in('V8', V8_JUDGES_OTHERWISE, name, module, reading, answers[place][0], accepted)
@@ -142,12 +121,24 @@ class Comparison:
         it."""
         unended = tool == 'wabt' and reading.malformed in (BODY_WITHOUT_END, INITIAL_WITHOUT_END)
         if reading.malformed and reading.later and valid:
-            self.tally.leave_out('changed, valid in %s (outside the profile)' % tool)
+            self.told.leave_out('changed modules outside the profile that %s takes' % tool)
         elif reading.notes & otherwise or unended:
-            self.tally.leave_out('changed, valid in %s (judged otherwise)' % tool)
+            self.told.leave_out('changed modules that %s judges otherwise' % tool)
         else:
-            self.tally.compare('changed, valid in %s' % tool, '%s (%s)' % (name, reading.malformed), module,
+            self.compare('changed, valid in %s' % tool, '%s (%s)' % (name, reading.malformed), module,
                                'unlinked' if valid else 'refused', found)
+
+
+def try_all(program, told, count=100, seed=1):
+    """Makes all comparisons, with so many random modules and so many changed ones."""
+    judges.tell_missing(told)
+    told.part('modules by hand, random and changed ones', 0)
+    with report.folder_with({}) as folder:
+        comparison = Comparison(program, folder, told)
+        comparison.by_hand()
+        rng = maker.seeded(seed)
+        comparison.random(rng, count)
+        comparison.changed(rng, count)
 
 
 def main():
@@ -156,18 +147,9 @@ def main():
     words.add_argument('--count', type=int, default=100)
     words.add_argument('--seed', type=int, default=1)
     given = words.parse_args()
-    if shutil.which('node') is None:
-        print('node is missing: nothing is compared with V8')
-    if not judges.has_wabt():
-        print('wabt (wasm-validate, wasm-interp) is missing: nothing is compared with it')
-    with tempfile.TemporaryDirectory() as folder:
-        comparison = Comparison(os.path.abspath(given.program), folder)
-        comparison.by_hand()
-        rng = maker.seeded(given.seed)
-        comparison.random(rng, given.count)
-        comparison.changed(rng, given.count)
-    comparison.tally.print()
-    return 1 if comparison.tally.differences else 0
+    told = report.Report()
+    try_all(os.path.abspath(given.program), told, given.count, given.seed)
+    return told.close()
 
 
 if __name__ == '__main__':

@@ -12,52 +12,31 @@ compiled is run by `PROGRAM run --stats`. Its files are made into a module by `P
 A tool that is missing is named, and what needs it is left out. --only takes the cases whose names hold a word. Prints each
 program that differs, and a last line 'N passed, M failed'; the status is 1 where any failed."""
 import argparse
-import glob
-import json
+import functools
 import os
 import re
-import shutil
-import subprocess
 import sys
-import tempfile
 
+import cases
 import judges
+import report
 
-TABLES = os.path.join(os.path.dirname(os.path.abspath(__file__)), '..', 'crates', 'cases', 'data', '*.json')
 KINDS = ['overflow', 'division by zero', 'void', 'index', 'no branch', 'no return', 'assert', 'uncaught', 'no room',
          'too deep', 'frames']
 NOT_COMPILED = (120, 123, 124, 125)
 FAULT = re.compile(rb'[^\n]+:\d+: fault: ([a-z ]+)\n')
 STACK = 900 * 1024 * 1024   # bytes of V8's stack: 10,000 calls, each with the variables of its routine
-
-
-def bytes_of(text):
-    """The bytes of a text of a case, in which a list stands for its parts and `repeat` for a part several times."""
-    if isinstance(text, str):
-        return text.encode('latin-1')
-    if isinstance(text, dict):
-        part, times = text['repeat']
-        return bytes_of(part) * times
-    return b''.join(bytes_of(part) for part in text)
-
-
-def lay(files, folder):
-    """Puts files into a folder."""
-    for name, text in files.items():
-        path = os.path.join(folder, name)
-        os.makedirs(os.path.dirname(path), exist_ok=True)
-        with open(path, 'wb') as file:
-            file.write(text)
+TASKS = 40                  # modules that one process of V8 judges
+REFUSED = 'refused'         # what is given for a program that isn't compiled
 
 
 class Program:
     """A program of a case: its name, its files, the words behind `run` without `--stats`, and its input."""
 
     def __init__(self, case):
-        self.name = case['name']
-        self.words = [word for word in case['args'][1:] if word != '--stats']
-        self.files = {name: bytes_of(text) for name, text in case['files'].items()}
-        self.input = bytes_of(case.get('stdin', ''))
+        self.name = case.name
+        self.words = [word for word in case.words[1:] if word != '--stats']
+        self.files, self.input = case.files, case.input
 
     def fuel(self):
         """The option of the fuel, as words."""
@@ -76,22 +55,19 @@ class Program:
 
 
 def programs(word):
-    """The programs of the tables whose names hold the word."""
-    for path in sorted(glob.glob(TABLES)):
-        with open(path, encoding='utf-8') as file:
-            cases = json.load(file)
-        for case in cases:
-            if case.get('args', [''])[:1] == ['run'] and case.get('files') and 'failing' not in case and word in case['name']:
-                yield Program(case)
+    """The programs of the table whose names hold the word."""
+    for case in cases.read():
+        if case.words[:1] == ['run'] and case.files and not case.failing and word in case.name:
+            yield Program(case)
 
 
 class Ended:
     """What a process of the program left: its output, its line on err without the statistics, these, and its status."""
 
-    def __init__(self, done):
-        stats = judges.STATS.search(done.stderr)
-        self.output, self.status = done.stdout, done.returncode
-        self.line = done.stderr[:stats.start()] if stats else done.stderr
+    def __init__(self, left):
+        stats = judges.STATS.search(left.lines)
+        self.output, self.status = left.output, left.status
+        self.line = left.lines[:stats.start()] if stats else left.lines
         self.stats = stats.group(0) if stats else b''
 
 
@@ -105,7 +81,8 @@ def built_wrong(built):
 def difference(ran, executed):
     """Where `exec` of the module left something else than `run`, or None."""
     if executed.output != ran.output:
-        return 'run printed %r, and exec %r' % (ran.output, executed.output)
+        one, other = report.shown(ran.output, executed.output), report.shown(executed.output, ran.output)
+        return 'run printed %s, and exec %s' % (one, other)
     if executed.stats != ran.stats:
         return 'run has the statistics %r, and exec %r' % (ran.stats, executed.stats)
     if executed.status != ran.status:
@@ -118,60 +95,62 @@ def difference(ran, executed):
     return None if alike else 'run tells %r, and exec %r' % (ran.line, executed.line)
 
 
-class Comparison:
-    """The program that is tried, the tools that are there, and the counts."""
+def tried(command, program):
+    """The module of a program with how it ends, where the program's own two ways and wabt agree; REFUSED where it isn't compiled;
+    or what is wrong."""
+    def call(words, given=b''):
+        return Ended(report.run([command, *words], folder, input=given))
+    with report.folder_with(program.files) as folder:
+        ran = call(['run', '--stats', *program.words], program.input)
+        if ran.status in NOT_COMPILED and not ran.stats:
+            return REFUSED
+        built = call(['build', *program.words_of_build()])
+        executed = call(['exec', '--stats', *program.fuel(), 'm'], program.input)
+        wrong = built_wrong(built) or difference(ran, executed)
+        if wrong is None and judges.has_wabt() and not judges.wabt_accepts(folder):
+            wrong = 'wabt refuses the module'
+        if wrong is not None:
+            return wrong
+        with open(os.path.join(folder, 'm'), 'rb') as file:
+            return file.read(), judges.Run(judges.end_of(executed.line, executed.status), executed.output)
 
-    def __init__(self, program):
-        self.program = program
-        self.wabt = judges.has_wabt()
-        self.passed = self.failed = self.left_out = 0
-        self.for_v8 = []
 
-    def call(self, folder, words, given=b''):
-        """Runs the program."""
-        done = subprocess.run([self.program, *words], cwd=folder, input=given, capture_output=True, timeout=judges.SECONDS)
-        return Ended(done)
+def answers_of_v8(tasks):
+    """What V8 says of each module, none where node is missing."""
+    if not judges.has_node():
+        return [(True, None)] * len(tasks)
+    parts, answers = [tasks[at:at + TASKS] for at in range(0, len(tasks), TASKS)], []
+    for part, found in zip(parts, report.side_by_side(functools.partial(judges.v8, stack=STACK), parts)):
+        answers += [(True, judges.Run(found))] * len(part) if isinstance(found, str) else found
+    return answers
 
-    def count(self, program, wrong):
-        """Counts a program, and prints what is wrong with it."""
-        if wrong is None:
-            self.passed += 1
+
+def compare_with_v8(told, agreed):
+    """Lets V8 judge the modules, and compares its ends."""
+    tasks = [(module, program.input, not program.fuel()) for program, (module, _) in agreed]
+    for (program, (_, wanted)), (valid, run) in zip(agreed, answers_of_v8(tasks)):
+        if not valid:
+            told.count(program.name, 'V8 refuses the module')
+        elif run is not None and run != wanted:
+            told.count(program.name, 'exec: %s; V8: %s' % (wanted, run))
         else:
-            self.failed += 1
-            print('%s: %s' % (program.name, wrong))
+            told.count(program.name, None)
 
-    def try_program(self, program):
-        """Compares the program's own two ways and asks wabt, and keeps the module for V8."""
-        with tempfile.TemporaryDirectory() as folder:
-            lay(program.files, folder)
-            ran = self.call(folder, ['run', '--stats', *program.words], program.input)
-            if ran.status in NOT_COMPILED and not ran.stats:
-                self.left_out += 1
-                return
-            built = self.call(folder, ['build', *program.words_of_build()])
-            executed = self.call(folder, ['exec', '--stats', *program.fuel(), 'm'], program.input)
-            wrong = built_wrong(built) or difference(ran, executed)
-            if wrong is None and self.wabt and not judges.wabt_accepts(folder):
-                wrong = 'wabt refuses the module'
-            if wrong is not None:
-                self.count(program, wrong)
-                return
-            with open(os.path.join(folder, 'm'), 'rb') as file:
-                module = file.read()
-        self.for_v8.append((program, module, judges.Run(judges.end_of(executed.line, executed.status), executed.output)))
 
-    def compare_with_v8(self):
-        """Lets V8 judge all modules, and compares its ends."""
-        tasks = [(module, program.input, not program.fuel()) for program, module, _ in self.for_v8]
-        answers = judges.v8(tasks, STACK)
-        for place, (program, _, wanted) in enumerate(self.for_v8):
-            valid, run = (True, None) if answers is None else answers[place]
-            if not valid:
-                self.count(program, 'V8 refuses the module')
-            elif run is not None and run != wanted:
-                self.count(program, 'exec: %s; V8: %s' % (wanted, run))
-            else:
-                self.count(program, None)
+def try_all(command, told, word=''):
+    """Tries the programs whose names hold the word."""
+    judges.tell_missing(told)
+    every, agreed = list(programs(word)), []
+    told.part('programs, their modules and other engines', len(every))
+    for place, (program, found) in enumerate(zip(every, report.side_by_side(functools.partial(tried, command), every))):
+        told.tell(place)
+        if found == REFUSED:
+            told.leave_out('programs of cases that are refused, so that they have no module')
+        elif isinstance(found, str):
+            told.count(program.name, found)
+        else:
+            agreed.append((program, found))
+    compare_with_v8(told, agreed)
 
 
 def main():
@@ -179,20 +158,9 @@ def main():
     words.add_argument('program')
     words.add_argument('--only', default='')
     given = words.parse_args()
-    if shutil.which('node') is None:
-        print('node is missing: nothing is compared with V8')
-    if not judges.has_wabt():
-        print('wabt (wasm-validate, wasm-interp) is missing: nothing is compared with it')
-    comparison = Comparison(os.path.abspath(given.program))
-    for program in programs(given.only):
-        try:
-            comparison.try_program(program)
-        except subprocess.TimeoutExpired:
-            comparison.count(program, 'no end within %d seconds' % judges.SECONDS)
-    comparison.compare_with_v8()
-    print('%d programs are refused, and left out' % comparison.left_out)
-    print('%d passed, %d failed' % (comparison.passed, comparison.failed))
-    return 1 if comparison.failed else 0
+    told = report.Report()
+    try_all(os.path.abspath(given.program), told, given.only)
+    return told.close()
 
 
 if __name__ == '__main__':

@@ -1,11 +1,15 @@
 #!/usr/bin/env python3
-"""shell.py PROGRAM: tries the built program from the shell, with real files and streams.
+"""shell.py PROGRAM [--only WORD]
 
-Prints each case that differs, and a last line 'N passed, M failed'; the status is 1 where any failed."""
+Tries the program from the shell, with real files and streams: files that are written, missing or may not be read, folders, and
+streams that are files, full or closed. --only takes the tries whose names hold a word."""
+import argparse
 import os
-import subprocess
+import shutil
 import sys
-import tempfile
+
+import report
+from report import Left
 
 HELLO = b'class MAIN is main is #OUT + "Hello\\n"; end; end;'
 SUM = b'class MAIN is main is #OUT + (1 + 2); end; end;'
@@ -15,73 +19,93 @@ COPY = b'class MAIN is main is loop b ::= #IN.get_byte; while!(b >= 0); #OUT + b
 UNKNOWN = b'class MAIN is\nmain is x ::= y; end; end;'
 SOURCES = {'f.sa': HELLO, 'sum.sa': SUM, 'unknown.sa': UNKNOWN, 'iter.sa': ITER, 'fault.sa': FAULT, 'copy.sa': COPY}
 USAGE = b'usage: sather run, build, check, exec, gen or selftest\n'
+REFUSED = Left(lines=b'unknown.sa:2: E30: unknown name\n', status=120)
+STORE_FAULT = Left(lines=b'store fault\n', status=123)
+OUTPUT_FAULT = Left(lines=b'output fault\n', status=123)
 
 
-def run(words, folder, **streams):
-    """The output, the lines on err and the status of the program."""
-    streams.setdefault('stdout', subprocess.PIPE)
-    streams.setdefault('stdin', subprocess.DEVNULL)
-    ended = subprocess.run([PROGRAM] + words, cwd=folder, stderr=subprocess.PIPE, timeout=60, **streams)
-    return ended.stdout or b'', ended.stderr, ended.returncode
+class Shell:
+    """The program, and the folder in which it runs."""
+
+    def __init__(self, program, folder):
+        self.program, self.folder = program, folder
+
+    def run(self, *words, **how):
+        """What the program left."""
+        return report.run([self.program, *words], self.folder, **how)
+
+    def path(self, name):
+        """The path of a file in the folder."""
+        return os.path.join(self.folder, name)
+
+    def programs(self):
+        """Programs that are checked and run. As each of the parts below: a name, what was left, and what should be."""
+        yield 'a program prints its text', self.run('run', 'f.sa'), Left(b'Hello\n')
+        yield 'without words the usage is told', self.run(), Left(lines=USAGE, status=124)
+        yield 'a program is accepted', self.run('check', 'f.sa'), Left(b'accepted\n')
+        yield 'a program with an iter call is accepted', self.run('check', 'iter.sa'), Left(b'accepted\n')
+        yield 'a program with an iter call prints what is yielded', self.run('run', 'iter.sa'), Left(b'123')
+        yield 'a program prints a sum', self.run('run', 'sum.sa'), Left(b'3')
+        fault = Left(b'a', b'fault.sa:2: fault: division by zero\n', 121)
+        yield 'a fault stops a program at its line', self.run('run', 'fault.sa'), fault
+        yield 'an unknown name is refused by check', self.run('check', 'unknown.sa'), REFUSED
+        yield 'an unknown name is refused by run', self.run('run', 'unknown.sa'), REFUSED
+
+    def files(self):
+        """Files that are missing, folders, and files that may not be read."""
+        yield 'a file that is missing is a store fault', self.run('run', 'g.sa'), STORE_FAULT
+        os.mkdir(self.path('folder'))
+        yield 'a folder is a store fault', self.run('run', 'folder'), STORE_FAULT
+        os.chmod(self.folder, 0o755)
+        os.chmod(self.path('f.sa'), 0)
+        # Root may read every file, and nobody may not enter every folder that the program can stand in.
+        someone = {'user': 65534} if os.geteuid() == 0 else {}
+        shutil.copy(self.program, self.path('program'))
+        left = report.run([self.path('program'), 'run', 'f.sa'], self.folder, **someone)
+        os.chmod(self.path('f.sa'), 0o644)
+        yield 'a file that may not be read is a store fault', left, STORE_FAULT
+
+    def modules(self):
+        """Modules that are written and run."""
+        yield 'a module is written', self.run('build', '-o', 'm', 'f.sa'), Left()
+        told = self.run('run', '--stats', 'f.sa')
+        yield 'the module that is written does what the program does', self.run('exec', '--stats', 'm'), told
+        yield 'the program prints its text with the statistics', Left(told.output, b'', told.status), Left(b'Hello\n')
+        full = self.run('build', '-o', '/dev/full', 'f.sa')
+        yield 'a module that can\'t be written is a store fault', full, STORE_FAULT
+        yield 'a text is no module', self.run('exec', 'f.sa'), Left(lines=b'f.sa: malformed\n', status=126)
+
+    def streams(self):
+        """Streams that are files, full or closed."""
+        with open(self.path('copy.sa'), 'rb') as given:
+            copied = self.run('run', 'copy.sa', stdin=given)
+        yield 'a program copies a file from its input', copied, Left(COPY)
+        with open('/dev/full', 'wb') as full:
+            yield 'a full output is an output fault', self.run('run', 'f.sa', stdout=full), OUTPUT_FAULT
+        closed = report.run(['sh', '-c', 'exec "$0" run f.sa >&-', self.program], self.folder)
+        yield 'a closed output is an output fault', closed, OUTPUT_FAULT
 
 
-def cases(folder):
-    """Each case: its name, what the program left, and what it should leave."""
-    for name, text in SOURCES.items():
-        with open(os.path.join(folder, name), 'wb') as file:
-            file.write(text)
-    os.mkdir(os.path.join(folder, 'folder'))
-    yield 'a program prints its text', run(['run', 'f.sa'], folder), (b'Hello\n', b'', 0)
-    yield 'a file that is missing is a store fault', run(['run', 'g.sa'], folder), (b'', b'store fault\n', 123)
-    yield 'a folder is a store fault', run(['run', 'folder'], folder), (b'', b'store fault\n', 123)
-    yield 'without words the usage is told', run([], folder), (b'', USAGE, 124)
-    yield 'a program is accepted', run(['check', 'f.sa'], folder), (b'accepted\n', b'', 0)
-    yield 'a program with an iter call is accepted', run(['check', 'iter.sa'], folder), (b'accepted\n', b'', 0)
-    yield 'a program with an iter call prints what is yielded', run(['run', 'iter.sa'], folder), (b'123', b'', 0)
-    yield 'a program prints a sum', run(['run', 'sum.sa'], folder), (b'3', b'', 0)
-    fault = b'fault.sa:2: fault: division by zero\n'
-    yield 'a fault stops a program at its line', run(['run', 'fault.sa'], folder), (b'a', fault, 121)
-    with open(os.path.join(folder, 'copy.sa'), 'rb') as given:
-        copied = run(['run', 'copy.sa'], folder, stdin=given)
-    yield 'a program copies a file from its input', copied, (COPY, b'', 0)
-    refused = b'unknown.sa:2: E30: unknown name\n'
-    yield 'an unknown name is refused by check', run(['check', 'unknown.sa'], folder), (b'', refused, 120)
-    yield 'an unknown name is refused by run', run(['run', 'unknown.sa'], folder), (b'', refused, 120)
-    yield 'a module is written', run(['build', '-o', 'm', 'f.sa'], folder), (b'', b'', 0)
-    told = run(['run', '--stats', 'f.sa'], folder)
-    yield 'the module that is written does what the program does', run(['exec', '--stats', 'm'], folder), told
-    yield 'the program prints its text with the statistics', (told[0], told[2]), (b'Hello\n', 0)
-    full = run(['build', '-o', '/dev/full', 'f.sa'], folder)
-    yield 'a module that can\'t be written is a store fault', full, (b'', b'store fault\n', 123)
-    yield 'a text is no module', run(['exec', 'f.sa'], folder), (b'', b'f.sa: malformed\n', 126)
-    os.chmod(folder, 0o755)
-    os.chmod(os.path.join(folder, 'f.sa'), 0)
-    someone = {'user': 65534} if os.geteuid() == 0 else {}
-    left = run(['run', 'f.sa'], folder, **someone)
-    os.chmod(os.path.join(folder, 'f.sa'), 0o644)
-    yield 'a file that may not be read is a store fault', left, (b'', b'store fault\n', 123)
-    with open('/dev/full', 'wb') as full:
-        yield 'a full output is an output fault', run(['run', 'f.sa'], folder, stdout=full), (b'', b'output fault\n', 123)
-    closed = ['sh', '-c', 'exec "$0" run f.sa >&-', PROGRAM]
-    ended = subprocess.run(closed, cwd=folder, stdin=subprocess.DEVNULL, stderr=subprocess.PIPE, timeout=60)
-    yield 'a closed output is an output fault', (b'', ended.stderr, ended.returncode), (b'', b'output fault\n', 123)
+def try_all(program, told, word=''):
+    """Tries what has a name that holds the word."""
+    with report.folder_with(SOURCES) as folder:
+        shell = Shell(program, folder)
+        parts = (shell.programs, shell.files, shell.modules, shell.streams)
+        chosen = [(name, report.difference(wanted, left)) for part in parts for name, left, wanted in part() if word in name]
+    told.part('command lines', len(chosen))
+    for name, wrong in chosen:
+        told.count(name, wrong)
 
 
 def main():
-    passed = failed = 0
-    with tempfile.TemporaryDirectory() as folder:
-        for name, left, wanted in cases(folder):
-            if left == wanted:
-                passed += 1
-            else:
-                failed += 1
-                print('%s: wanted %r, and it left %r' % (name, wanted, left))
-    print('%d passed, %d failed' % (passed, failed))
-    return 1 if failed else 0
+    words = argparse.ArgumentParser(description=__doc__, formatter_class=argparse.RawDescriptionHelpFormatter)
+    words.add_argument('program')
+    words.add_argument('--only', default='')
+    given = words.parse_args()
+    told = report.Report()
+    try_all(os.path.abspath(given.program), told, given.only)
+    return told.close()
 
 
-if len(sys.argv) != 2:
-    print(__doc__)
-    sys.exit(2)
-PROGRAM = os.path.abspath(sys.argv[1])
-sys.exit(main())
+if __name__ == '__main__':
+    sys.exit(main())

@@ -1,0 +1,56 @@
+#!/usr/bin/env python3
+"""examples.py PROGRAM [--only WORD]
+
+Runs the examples: examples/NAME.sa, with examples/NAME.in as its input where that is there, has to print examples/NAME.out, tell
+nothing on err and end with status 0. --only takes the examples whose names hold a word."""
+import argparse
+import functools
+import glob
+import os
+import sys
+
+import report
+
+EXAMPLES = os.path.join(os.path.dirname(os.path.abspath(__file__)), '..', 'examples')
+
+
+def bytes_of(name):
+    """The bytes of a file beside the examples, or None where there is none."""
+    path = os.path.join(EXAMPLES, name)
+    if not os.path.isfile(path):
+        return None
+    with open(path, 'rb') as file:
+        return file.read()
+
+
+def tried(program, name):
+    """What differs in the example, or None."""
+    wanted = bytes_of(name + '.out')
+    if wanted is None:
+        return 'examples/%s.out, what it has to print, is missing' % name
+    with report.folder_with({name + '.sa': bytes_of(name + '.sa')}) as folder:
+        left = report.run([program, 'run', name + '.sa'], folder, input=bytes_of(name + '.in') or b'')
+    return report.difference(report.Left(wanted), left)
+
+
+def try_all(program, told, word=''):
+    """Tries the examples whose names hold the word."""
+    names = [os.path.basename(path).removesuffix('.sa') for path in sorted(glob.glob(os.path.join(EXAMPLES, '*.sa')))]
+    chosen = [name for name in names if word in name]
+    told.part('examples', len(chosen))
+    for name, wrong in zip(chosen, report.side_by_side(functools.partial(tried, program), chosen)):
+        told.count('examples/%s.sa' % name, wrong)
+
+
+def main():
+    words = argparse.ArgumentParser(description=__doc__, formatter_class=argparse.RawDescriptionHelpFormatter)
+    words.add_argument('program')
+    words.add_argument('--only', default='')
+    given = words.parse_args()
+    told = report.Report()
+    try_all(os.path.abspath(given.program), told, given.only)
+    return told.close()
+
+
+if __name__ == '__main__':
+    sys.exit(main())

@@ -1,0 +1,44 @@
+#!/usr/bin/env python3
+"""table.py PROGRAM [--only WORD]
+
+Runs the cases of the table from the shell, each in a folder of its own that holds its files: the output, the lines on err and
+the status have to be those of the case. A case with a device that fails can't be had from the shell, and is left out: the gate
+runs it over objects in memory. --only takes the cases whose names hold a word."""
+import argparse
+import functools
+import os
+import sys
+
+import cases
+import report
+
+
+def tried(program, case):
+    """What differs in the case, or None."""
+    with report.folder_with(case.files) as folder:
+        left = report.run([program, *case.words], folder, input=case.input)
+    return report.difference(report.Left(case.output, case.lines, case.status), left, case.output_may_be_cut)
+
+
+def try_all(program, told, word=''):
+    """Tries the cases whose names hold the word."""
+    every = [case for case in cases.read() if word in case.name]
+    chosen = [case for case in every if not case.failing]
+    told.leave_out('cases with a device that fails, which the shell can\'t make fail', len(every) - len(chosen))
+    told.part('the table of cases', len(chosen))
+    for case, wrong in zip(chosen, report.side_by_side(functools.partial(tried, program), chosen)):
+        told.count('%s (%s)' % (case.name, case.subject), wrong)
+
+
+def main():
+    words = argparse.ArgumentParser(description=__doc__, formatter_class=argparse.RawDescriptionHelpFormatter)
+    words.add_argument('program')
+    words.add_argument('--only', default='')
+    given = words.parse_args()
+    told = report.Report()
+    try_all(os.path.abspath(given.program), told, given.only)
+    return told.close()
+
+
+if __name__ == '__main__':
+    sys.exit(main())
