@@ -122,28 +122,3 @@ impl Rows {
         self.signatures.len() as u32
     }
 }
-
-#[cfg(test)]
-mod tests {
-    use super::*;
-    use std::test::*;
-
-    #[test]
-    fn a_signature_whose_types_lie_far_apart_has_rows_and_no_places(
-        rt: HostRuntime,
-    ) -> Result<(), Fail> {
-        let alloc = rt.alloc();
-        let mut rows = Rows::new(alloc);
-        rows.add(Items::from_slice(alloc, &[3, 4, 10])?)?;
-        rows.add(Items::from_slice(alloc, &[2, 11])?)?;
-        rows.add(Items::from_slice(alloc, &[2, 9])?)?;
-        assert_eq!(rt; rows.row(1, 11), Some(4));
-        assert_eq!(rt; rows.row(1, 3), None);
-        assert_eq!(rt; rows.place(0, 10), Some(7));
-        assert_eq!(rt; rows.place(0, 5), None);
-        assert_eq!(rt; rows.place(1, 11), None);
-        assert_eq!(rt; rows.place(2, 9), Some(15));
-        assert_eq!(rt; rows.size(), 16);
-        Ok(())
-    }
-}

@@ -15,6 +15,3 @@ pub mod word;
 
 pub use lexer::lex;
 pub use token::{Token, TokenKind, slice_of};
-
-#[cfg(test)]
-mod tests;

@@ -6,7 +6,5 @@ mod flow;
 mod keeping;
 mod reading;
 mod sets;
-#[cfg(test)]
-mod tests;
 
 pub use keeping::kept_variables;

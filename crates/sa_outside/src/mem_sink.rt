@@ -72,21 +72,3 @@ impl Sink for MemSink {
         self.sink.put(bytes)
     }
 }
-
-#[cfg(test)]
-mod tests {
-    use super::*;
-    use std::test::Fail;
-
-    #[test]
-    fn the_listed_calls_fail_and_the_others_take_the_bytes(rt: HostRuntime) -> Result<(), Fail> {
-        let alloc = rt.alloc();
-        let mut sink = MemSink::new(alloc, Vec::from_slice(alloc, &[1])?);
-        assert_eq!(rt; sink.put(b"one"), Ok(()));
-        assert_eq!(rt; sink.put(b""), Ok(()));
-        assert_eq!(rt; sink.put(b"two"), Err(Outage::Failed));
-        assert_eq!(rt; sink.put(b"three"), Ok(()));
-        assert_eq!(rt; sink.taken(), b"onethree".as_slice());
-        Ok(())
-    }
-}

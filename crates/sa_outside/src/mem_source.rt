@@ -58,29 +58,3 @@ impl Source for MemSource {
         self.source.take()
     }
 }
-
-#[cfg(test)]
-mod tests {
-    use super::*;
-    use std::test::Fail;
-
-    #[test]
-    fn the_listed_calls_fail_and_the_others_give_the_bytes(rt: HostRuntime) -> Result<(), Fail> {
-        let alloc = rt.alloc();
-        let bytes = Vec::from_slice(alloc, b"ab")?;
-        let failing = Vec::from_slice(alloc, &[1, 4])?;
-        let mut source = MemSource::new(bytes, failing);
-        let answers = [
-            Take::Byte(b'a'),
-            Take::Failed,
-            Take::Byte(b'b'),
-            Take::End,
-            Take::Failed,
-            Take::End,
-        ];
-        for answer in answers {
-            assert_eq!(rt; source.take(), answer);
-        }
-        Ok(())
-    }
-}

@@ -8,6 +8,3 @@ mod source;
 pub use builtins::builtin;
 pub use feature::{BUILTIN_FEATURES, Builtin, BuiltinFeature};
 pub use source::{TEXT, text};
-
-#[cfg(test)]
-mod tests;

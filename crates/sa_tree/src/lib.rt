@@ -8,8 +8,6 @@ mod pos;
 mod refusal;
 mod shared;
 mod stmt;
-#[cfg(test)]
-mod tests;
 mod ty;
 
 pub use class::{Access, Change, Class, Feature, Flat, Formal, Include, Kind, Param, Part};

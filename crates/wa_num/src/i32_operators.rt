@@ -272,6 +272,3 @@ pub fn i32_op(op: u8, a: u32, b: u32) -> Result<u32, TrapKind>
         _ => unreachable!(),
     }
 }
-
-#[cfg(test)]
-mod tests;

@@ -302,6 +302,3 @@ pub fn i64_op(op: u8, a: u64, b: u64) -> Result<u64, TrapKind>
         _ => unreachable!(),
     }
 }
-
-#[cfg(test)]
-mod tests;

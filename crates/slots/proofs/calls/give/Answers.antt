@@ -1,9 +1,0 @@
-use Rattle.std.proofs.Common.{Bool, List, sym, subst}
-use Rattle.slots.specs.Flags.{AreLive}
-use Rattle.slots.proofs.FlagLemmas.{flag-given}
-use Rattle.slots.proofs.calls.give.Goals as goal
-
-pub returns : goal.returns
-returns c =
-    subst (λ (flags : List Bool). AreLive c.give.new.self.live flags) (sym c.set.ensures)
-    (flag-given _ _ _ _ c.give.ensures.given c.requires.live)

@@ -1,5 +1,0 @@
-use Rattle.slots.specs.Flags.{AreLive}
-use Rattle.slots.proofs.calls.take_all.Given as goal
-
-abbrev pub invariant-loop : goal.invariant-loop
-invariant-loop l = AreLive l.pool.live l.flags
