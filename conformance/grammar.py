@@ -6,7 +6,6 @@ changed, left out or doubled. N of these texts are tried (2,000 without the opti
 over all sources; `--limit 0` tries all. Each has to be accepted, or refused with a line inside the text or the prelude.
 Prints each text that differs, and a last line 'N passed, M failed'; the status is 1 where any failed."""
 import glob
-import json
 import os
 import random
 import re
@@ -14,7 +13,7 @@ import subprocess
 import sys
 import tempfile
 
-from programs import bytes_of
+import cases
 
 TOP = os.path.join(os.path.dirname(os.path.abspath(__file__)), '..')
 LONGEST = 2000
@@ -29,15 +28,11 @@ def sources():
     for path in sorted(glob.glob(os.path.join(TOP, 'examples', '*.sa'))):
         with open(path, 'rb') as file:
             yield os.path.basename(path), file.read()
-    for path in sorted(glob.glob(os.path.join(TOP, 'crates', 'cases', 'data', '*.json'))):
-        with open(path, encoding='utf-8') as file:
-            cases = json.load(file)
-        for case in cases:
-            for text in case.get('files', {}).values():
-                source = bytes_of(text)
-                if source not in seen and len(source) <= LONGEST:
-                    seen.add(source)
-                    yield case['name'], source
+    for case in cases.read():
+        for source in case.files.values():
+            if source not in seen and len(source) <= LONGEST:
+                seen.add(source)
+                yield case.name, source
 
 
 def edits(source, chance):

@@ -12,8 +12,6 @@ compiled is run by `PROGRAM run --stats`. Its files are made into a module by `P
 A tool that is missing is named, and what needs it is left out. --only takes the cases whose names hold a word. Prints each
 program that differs, and a last line 'N passed, M failed'; the status is 1 where any failed."""
 import argparse
-import glob
-import json
 import os
 import re
 import shutil
@@ -21,24 +19,14 @@ import subprocess
 import sys
 import tempfile
 
+import cases
 import judges
 
-TABLES = os.path.join(os.path.dirname(os.path.abspath(__file__)), '..', 'crates', 'cases', 'data', '*.json')
 KINDS = ['overflow', 'division by zero', 'void', 'index', 'no branch', 'no return', 'assert', 'uncaught', 'no room',
          'too deep', 'frames']
 NOT_COMPILED = (120, 123, 124, 125)
 FAULT = re.compile(rb'[^\n]+:\d+: fault: ([a-z ]+)\n')
 STACK = 900 * 1024 * 1024   # bytes of V8's stack: 10,000 calls, each with the variables of its routine
-
-
-def bytes_of(text):
-    """The bytes of a text of a case, in which a list stands for its parts and `repeat` for a part several times."""
-    if isinstance(text, str):
-        return text.encode('latin-1')
-    if isinstance(text, dict):
-        part, times = text['repeat']
-        return bytes_of(part) * times
-    return b''.join(bytes_of(part) for part in text)
 
 
 def lay(files, folder):
@@ -54,10 +42,10 @@ class Program:
     """A program of a case: its name, its files, the words behind `run` without `--stats`, and its input."""
 
     def __init__(self, case):
-        self.name = case['name']
-        self.words = [word for word in case['args'][1:] if word != '--stats']
-        self.files = {name: bytes_of(text) for name, text in case['files'].items()}
-        self.input = bytes_of(case.get('stdin', ''))
+        self.name = case.name
+        self.words = [word for word in case.words[1:] if word != '--stats']
+        self.files = case.files
+        self.input = case.input
 
     def fuel(self):
         """The option of the fuel, as words."""
@@ -76,13 +64,10 @@ class Program:
 
 
 def programs(word):
-    """The programs of the tables whose names hold the word."""
-    for path in sorted(glob.glob(TABLES)):
-        with open(path, encoding='utf-8') as file:
-            cases = json.load(file)
-        for case in cases:
-            if case.get('args', [''])[:1] == ['run'] and case.get('files') and 'failing' not in case and word in case['name']:
-                yield Program(case)
+    """The programs of the table whose names hold the word."""
+    for case in cases.read():
+        if case.words[:1] == ['run'] and case.files and not case.failing and word in case.name:
+            yield Program(case)
 
 
 class Ended:
