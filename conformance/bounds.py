@@ -108,8 +108,8 @@ def sources_of_files():
 
 def tried(all_):
     """Each program: its name, its files, the words of its build, and whether it has to be compiled."""
-    cases = list(programs.programs(''))
-    for case in cases if all_ else cases[::10]:
+    table = list(programs.programs(''))
+    for case in table if all_ else table[::10]:
         yield case.name, case.files, case.words_of_build(), False
     for name, text in sources_of_files():
         yield name, {'f.sa': text.encode()}, ['-o', 'm', 'f.sa'], True
