@@ -1,14 +1,11 @@
-//! A case as its table gives it.
-//!
-//! A case is an object: `name`; `files`, the bytes of each file by its name; `args`, the words; `stdin`; `stdout` and
-//! `stderr`, what out and err take; `status`. `stdout_front` in place of `stdout` asks only that out took a front of it.
-//! `failing` has the numbers of the calls that fail, from 0, for `store`, `stdin`, `stdout` and `stderr`. Each character
-//! of a text is one byte, by its number. `{"repeat": [text, times]}` is a text that is repeated, and a list of texts stands
-//! for them one after the other. A missing text is empty, a missing list has no items, and a missing status is 0.
+//! A case as the table tells it. The README describes the form.
 
-use anyhow::{Context, Result};
-use serde_json::Value;
+use crate::text::{bytes_of, unescaped};
+use anyhow::{Context, Result, bail};
 use std::alloc::Global;
+
+/// The one file of most cases.
+const PROGRAM: &str = "f.sa";
 
 /// A case: what a call is given, and what it has to leave.
 #[derive(Drop)]
@@ -41,127 +38,217 @@ pub struct Failing {
 }
 
 impl Case {
-    /// Reads a case. It fails where a part has another form than the one told above.
-    pub fn read(alloc: Global, value: &Value) -> Result<Case> {
-        Ok(Case {
-            name: word(alloc, value.get("name").context("a case has a name")?)?,
-            files: files(alloc, value.get("files"))?,
-            words: words(alloc, value.get("args"))?,
-            input: text(alloc, value.get("stdin"))?,
-            failing: Failing::read(alloc, value.get("failing"))?,
-            wanted: Wanted::read(alloc, value)?,
-        })
+    /// Reads a case of a text that begins with its name. Where it tells no command, it has these words. It fails where a line
+    /// has none of the forms that the README describes.
+    pub fn read(alloc: Global, words: &[String], text: &str) -> Result<Case> {
+        let mut parts = text.split("\n--- ");
+        let mut case = Case::told(alloc, words, parts.next().unwrap_or(""))?;
+        for part in parts {
+            case.read_part(alloc, part)?;
+        }
+        Ok(case)
+    }
+
+    /// Reads the case of a program that has a file of its own: its head comment tells it. It fails where that is no case.
+    pub fn of_program(alloc: Global, source: &str) -> Result<Case> {
+        let head = head_comment(alloc, source)?;
+        let text = head
+            .as_str()
+            .strip_prefix("=== ")
+            .context("a program begins with its name")?;
+        let mut case = Case::read(alloc, &[], text)?;
+        case.push_file(alloc, PROGRAM, source.as_bytes())?;
+        Ok(case)
+    }
+
+    /// The case that the lines before the parts tell.
+    fn told(alloc: Global, words: &[String], text: &str) -> Result<Case> {
+        let mut lines = text.lines();
+        let mut case = Case {
+            name: String::from_str(alloc, lines.next().unwrap_or(""))?,
+            files: Vec::new(alloc),
+            words: copied(alloc, words)?,
+            input: Vec::new(alloc),
+            failing: Failing::none(alloc),
+            wanted: Wanted::nothing(alloc),
+        };
+        for line in lines {
+            if !line.is_empty() && !line.starts_with('#') {
+                case.read_line(alloc, line)?;
+            }
+        }
+        Ok(case)
+    }
+
+    fn read_line(&mut self, alloc: Global, line: &str) -> Result<()> {
+        let (word, rest) = line.split_once(' ').unwrap_or((line, ""));
+        match word {
+            "$" => self.words = words_of(alloc, rest)?,
+            "input" => self.input = unescaped(alloc, rest)?,
+            "fails" => self.failing.read(alloc, rest)?,
+            _ => {
+                if !self.wanted.read(alloc, word, rest)? {
+                    self.read_file(alloc, line)?;
+                }
+            }
+        }
+        Ok(())
+    }
+
+    /// Reads a line that is a file: its name and its text.
+    fn read_file(&mut self, alloc: Global, line: &str) -> Result<()> {
+        let (name, text) = line.split_once(':').context("this is no line of a case")?;
+        if !name.ends_with(".sa") {
+            bail!("this is no line of a case: {line}");
+        }
+        self.push_file(alloc, name, text.strip_prefix(' ').unwrap_or(text).as_bytes())
+    }
+
+    /// Reads a part: its heading, and the text behind it.
+    fn read_part(&mut self, alloc: Global, part: &str) -> Result<()> {
+        let (heading, text) = part.split_once('\n').unwrap_or((part, ""));
+        let (name, form) = name_and_form(heading);
+        let bytes = bytes_of(alloc, form, text)?;
+        match name {
+            "stdin" => self.input = bytes,
+            "stdout" => self.wanted.output = bytes,
+            "front of stdout" => {
+                self.wanted.output = bytes;
+                self.wanted.output_may_be_cut = true;
+            }
+            _ => self.files.push((String::from_str(alloc, name)?, bytes))?,
+        }
+        Ok(())
+    }
+
+    fn push_file(&mut self, alloc: Global, name: &str, text: &[u8]) -> Result<()> {
+        let name = String::from_str(alloc, name)?;
+        let mut bytes = Vec::new(alloc);
+        bytes.extend_from_slice(text)?;
+        self.files.push((name, bytes))?;
+        Ok(())
     }
 }
 
 impl Wanted {
-    fn read(alloc: Global, value: &Value) -> Result<Wanted> {
-        let front = value.get("stdout_front");
-        Ok(Wanted {
-            output: text(alloc, front.or(value.get("stdout")))?,
-            output_may_be_cut: front.is_some(),
-            lines: text(alloc, value.get("stderr"))?,
-            status: number(value.get("status"))?,
-        })
+    fn nothing(alloc: Global) -> Wanted {
+        Wanted {
+            output: Vec::new(alloc),
+            output_may_be_cut: false,
+            lines: Vec::new(alloc),
+            status: 0,
+        }
+    }
+
+    /// Reads a line that says what is wanted, by its first word. Gives false where this is no such word.
+    fn read(&mut self, alloc: Global, word: &str, rest: &str) -> Result<bool> {
+        match word {
+            "accepted" => self.output = unescaped(alloc, "accepted\\n")?,
+            "prints" => self.output = unescaped(alloc, rest)?,
+            "may" => {
+                let text = rest.strip_prefix("print ").context("a program may print")?;
+                self.output = unescaped(alloc, text)?;
+                self.output_may_be_cut = true;
+            }
+            "refused" => self.tell_of_program(alloc, rest, 120)?,
+            "fault" => {
+                let (line, kind) = rest.split_once(": ").context("a fault has a line")?;
+                let rest = format!(in alloc; "{line}: fault: {kind}")?;
+                self.tell_of_program(alloc, rest.as_str(), 121)?;
+            }
+            "err" => self.tell(rest)?,
+            "status" => self.status = rest.parse::<u64>().context("a status is a number")?,
+            _ => return Ok(false),
+        }
+        Ok(true)
+    }
+
+    /// Adds a line on err that begins with the program's name, and sets the status.
+    fn tell_of_program(&mut self, alloc: Global, rest: &str, status: u64) -> Result<()> {
+        let line = format!(in alloc; "{PROGRAM}:{rest}")?;
+        self.tell(line.as_str())?;
+        self.status = status;
+        Ok(())
+    }
+
+    /// Adds a line on err.
+    fn tell(&mut self, line: &str) -> Result<()> {
+        self.lines.extend_from_slice(line.as_bytes())?;
+        self.lines.push(b'\n')?;
+        Ok(())
     }
 }
 
 impl Failing {
-    fn read(alloc: Global, value: Option<&Value>) -> Result<Failing> {
-        Ok(Failing {
-            store: numbers(alloc, member(value, "store"))?,
-            input: numbers(alloc, member(value, "stdin"))?,
-            output: numbers(alloc, member(value, "stdout"))?,
-            lines: numbers(alloc, member(value, "stderr"))?,
-        })
-    }
-}
-
-fn member<'a>(value: Option<&'a Value>, name: &str) -> Option<&'a Value> {
-    value?.get(name)
-}
-
-fn files(alloc: Global, value: Option<&Value>) -> Result<Vec<(String, Vec<u8>)>> {
-    let mut files = Vec::new(alloc);
-    if let Some(value) = value {
-        for (name, bytes) in value.as_object().context("files are an object")? {
-            files.push((name.clone()?, text(alloc, Some(bytes))?))?;
+    fn none(alloc: Global) -> Failing {
+        Failing {
+            store: Vec::new(alloc),
+            input: Vec::new(alloc),
+            output: Vec::new(alloc),
+            lines: Vec::new(alloc),
         }
     }
-    Ok(files)
+
+    /// Reads the name of a device and the numbers of the calls of it that fail.
+    fn read(&mut self, alloc: Global, rest: &str) -> Result<()> {
+        let (device, calls) = rest.split_once(' ').context("a device fails at a call")?;
+        let calls = numbers(alloc, calls)?;
+        match device {
+            "store" => self.store = calls,
+            "stdin" => self.input = calls,
+            "stdout" => self.output = calls,
+            "stderr" => self.lines = calls,
+            _ => bail!("no device has the name {device}"),
+        }
+        Ok(())
+    }
 }
 
-fn words(alloc: Global, value: Option<&Value>) -> Result<Vec<String>> {
+/// The words of a command.
+pub fn words_of(alloc: Global, text: &str) -> Result<Vec<String>> {
     let mut words = Vec::new(alloc);
-    if let Some(value) = value {
-        for item in value.as_array().context("words are a list")? {
-            words.push(word(alloc, item)?)?;
-        }
+    for word in text.split_ascii_whitespace() {
+        words.push(String::from_utf8(unescaped(alloc, word)?)?)?;
     }
     Ok(words)
 }
 
-fn word(alloc: Global, value: &Value) -> Result<String> {
-    Ok(String::from_str(alloc, value.as_str().context("a word is a text")?)?)
+fn copied(alloc: Global, words: &[String]) -> Result<Vec<String>> {
+    let mut copies = Vec::new(alloc);
+    for word in words {
+        copies.push(word.clone()?)?;
+    }
+    Ok(copies)
 }
 
-fn numbers(alloc: Global, value: Option<&Value>) -> Result<Vec<u64>> {
+fn numbers(alloc: Global, text: &str) -> Result<Vec<u64>> {
     let mut numbers = Vec::new(alloc);
-    if let Some(value) = value {
-        for item in value.as_array().context("numbers are a list")? {
-            numbers.push(number(Some(item))?)?;
-        }
+    for word in text.split_ascii_whitespace() {
+        numbers.push(word.parse::<u64>().context("a number is whole")?)?;
     }
     Ok(numbers)
 }
 
-fn number(value: Option<&Value>) -> Result<u64> {
-    match value {
-        Some(value) => value.as_u64().context("a number is whole"),
-        None => Ok(0),
+/// The name and the form that a heading tells, the form in parentheses.
+fn name_and_form(heading: &str) -> (&str, Option<&str>) {
+    match heading.strip_suffix(")") {
+        Some(front) => match front.rsplit_once(" (") {
+            Some((name, form)) => (name, Some(form)),
+            None => (heading, None),
+        },
+        None => (heading, None),
     }
 }
 
-fn text(alloc: Global, value: Option<&Value>) -> Result<Vec<u8>> {
-    let Some(value) = value else {
-        return Ok(Vec::new(alloc));
-    };
-    let Some(parts) = value.as_array() else {
-        return part(alloc, value);
-    };
-    let mut text = Vec::new(alloc);
-    for value in parts {
-        text.extend_from_slice(part(alloc, value)?.as_slice())?;
+/// The lines of the comment at the head of a program.
+fn head_comment(alloc: Global, source: &str) -> Result<String> {
+    let mut head = String::new(alloc);
+    for line in source.lines() {
+        let Some(comment) = line.strip_prefix("--") else {
+            break;
+        };
+        head.push_str(comment.strip_prefix(' ').unwrap_or(comment))?;
+        head.push('\n')?;
     }
-    Ok(text)
-}
-
-fn part(alloc: Global, value: &Value) -> Result<Vec<u8>> {
-    match value.get("repeat") {
-        Some(repeat) => {
-            let once = bytes(alloc, repeat.get(0).context("a repeated text")?)?;
-            repeated(alloc, once.as_slice(), number(repeat.get(1))?)
-        }
-        None => bytes(alloc, value),
-    }
-}
-
-fn bytes(alloc: Global, value: &Value) -> Result<Vec<u8>> {
-    let mut bytes = Vec::new(alloc);
-    for character in value.as_str().context("a text")?.chars() {
-        bytes.push(
-            u8::try_from(character)
-                .ok()
-                .context("a character is one byte")?,
-        )?;
-    }
-    Ok(bytes)
-}
-
-fn repeated(alloc: Global, part: &[u8], times: u64) -> Result<Vec<u8>> {
-    let mut bytes = Vec::new(alloc);
-    for _ in 0..times {
-        bytes.extend_from_slice(part)?;
-    }
-    Ok(bytes)
+    Ok(head)
 }
