@@ -36,7 +36,7 @@ def tried(program, name):
 def try_all(program, told, word=''):
     """Tries the examples whose names hold the word."""
     names = [os.path.basename(path).removesuffix('.sa') for path in sorted(glob.glob(os.path.join(EXAMPLES, '*.sa')))]
-    chosen = [name for name in names if word in name]
+    chosen = [name for name in names if word in 'examples/%s.sa' % name]
     told.part('examples', len(chosen))
     for name, wrong in zip(chosen, report.side_by_side(functools.partial(tried, program), chosen)):
         told.count('examples/%s.sa' % name, wrong)

@@ -34,7 +34,7 @@ class Program:
     """A program of a case: its name, its files, the words behind `run` without `--stats`, and its input."""
 
     def __init__(self, case):
-        self.name = case.name
+        self.name = report.label(case)
         self.words = [word for word in case.words[1:] if word != '--stats']
         self.files, self.input = case.files, case.input
 
@@ -57,7 +57,7 @@ class Program:
 def programs(word):
     """The programs of the table whose names hold the word."""
     for case in cases.read():
-        if case.words[:1] == ['run'] and case.files and not case.failing and word in case.name:
+        if case.words[:1] == ['run'] and case.files and not case.failing and word in report.label(case):
             yield Program(case)
 
 
@@ -139,8 +139,9 @@ def compare_with_v8(told, agreed):
 
 def try_all(command, told, word=''):
     """Tries the programs whose names hold the word."""
-    judges.tell_missing(told)
     every, agreed = list(programs(word)), []
+    if every:
+        judges.tell_missing(told)
     told.part('programs, their modules and other engines', len(every))
     for place, (program, found) in enumerate(zip(every, report.side_by_side(functools.partial(tried, command), every))):
         told.tell(place)

@@ -44,6 +44,11 @@ def folder_with(files):
         yield folder
 
 
+def label(case):
+    """The name by which a case of the table is told and found."""
+    return '%s (%s)' % (case.name, case.subject)
+
+
 def shown(text, other):
     """A text as it is shown beside another: of a long one what stands around the first byte that differs."""
     if len(text) <= SHOWN:
@@ -113,10 +118,10 @@ class Report:
 
     def close_part(self):
         """Tells what the part that was begun came to."""
-        if self.name:
-            passed, failed = self.passed - self.before[0], self.failed - self.before[1]
+        passed, failed = self.passed - self.before[0], self.failed - self.before[1]
+        if self.name and passed + failed:
             self.line('%s: %d passed, %d failed, %.0f seconds' % (self.name, passed, failed, time.monotonic() - self.begun))
-            self.name = ''
+        self.name = ''
 
     def tell(self, tried=None):
         """Writes anew how far the part is, on a terminal: by what was counted, or by so many that were tried."""

@@ -3,7 +3,8 @@
 
 Runs the cases of the table from the shell, each in a folder of its own that holds its files: the output, the lines on err and
 the status have to be those of the case. A case with a device that fails can't be had from the shell, and is left out: the gate
-runs it over objects in memory. --only takes the cases whose names hold a word."""
+runs it over objects in memory. --only takes the cases whose names hold a word; the name of a case
+has its subject behind it."""
 import argparse
 import functools
 import os
@@ -22,12 +23,12 @@ def tried(program, case):
 
 def try_all(program, told, word=''):
     """Tries the cases whose names hold the word."""
-    every = [case for case in cases.read() if word in case.name]
+    every = [case for case in cases.read() if word in report.label(case)]
     chosen = [case for case in every if not case.failing]
     told.leave_out('cases with a device that fails, which the shell can\'t make fail', len(every) - len(chosen))
     told.part('the table of cases', len(chosen))
     for case, wrong in zip(chosen, report.side_by_side(functools.partial(tried, program), chosen)):
-        told.count('%s (%s)' % (case.name, case.subject), wrong)
+        told.count(report.label(case), wrong)
 
 
 def main():
