@@ -101,7 +101,11 @@ impl Case {
         if !name.ends_with(".sa") {
             bail!("this is no line of a case: {line}");
         }
-        self.push_file(alloc, name, text.strip_prefix(' ').unwrap_or(text).as_bytes())
+        self.push_file(
+            alloc,
+            name,
+            text.strip_prefix(' ').unwrap_or(text).as_bytes(),
+        )
     }
 
     /// Reads a part: its heading, and the text behind it.

@@ -43,11 +43,19 @@ fn run_table<R: Files + AllocGlobal + Print + Clone + Drop>(rt: &R, alloc: Globa
 }
 
 /// Whether each case of a file of this text is as it should be.
-fn run_file(rt: &(impl AllocGlobal + Print), alloc: Global, path: &str, text: &str) -> Result<bool> {
+fn run_file(
+    rt: &(impl AllocGlobal + Print),
+    alloc: Global,
+    path: &str,
+    text: &str,
+) -> Result<bool> {
     if path.ends_with(".sa") {
         return run_case(rt, alloc, Case::of_program(alloc, text)?);
     }
-    ensure!(path.ends_with(".txt"), "neither a list of cases nor a program");
+    ensure!(
+        path.ends_with(".txt"),
+        "neither a list of cases nor a program"
+    );
     run_list(rt, alloc, List::read(alloc, text)?)
 }
 
