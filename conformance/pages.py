@@ -10,6 +10,7 @@ import re
 import sys
 
 import cases
+import report
 
 DOCS = os.path.join(os.path.dirname(os.path.abspath(__file__)), '..', 'docs')
 PAGES = ['LANGUAGE.md', 'ITERS.md']
@@ -68,25 +69,22 @@ def difference(example, case):
     return None
 
 
-def main():
-    passed = failed = 0
+def try_all(told):
+    """Compares each example of a page with its case, and asks whether each case of the folder is an example of a page."""
     of_pages = {cases.without_head(case.files['f.sa']): case for case in cases.read() if case.subject.startswith('manual/')}
-    used = set()
-    for example in (example for page in PAGES for example in examples(page)):
-        case = of_pages.get(example.program)
-        used.add(example.program)
-        wrong = difference(example, case)
-        if wrong is None:
-            passed += 1
-        else:
-            failed += 1
-            print('%s: %s' % (example.place, wrong))
+    found = [example for page in PAGES for example in examples(page)]
+    told.part('examples of the pages', len(found) + len(of_pages))
+    for example in found:
+        told.count(example.place, difference(example, of_pages.get(example.program)))
+    used = {example.program for example in found}
     for program, case in of_pages.items():
-        if program not in used:
-            failed += 1
-            print('%s: no page has this example' % case.name)
-    print('%d passed, %d failed' % (passed, failed))
-    return 1 if failed else 0
+        told.count(report.label(case), None if program in used else 'no page has this example')
+
+
+def main():
+    told = report.Report()
+    try_all(told)
+    return told.close()
 
 
 if __name__ == '__main__':
