@@ -45,6 +45,10 @@ two_stages_variables : (last_state (outcome sample.widens_in_two_stages no_input
 unfolding outcome resolve or_stuck digits
 two_stages_variables = refl
 
+two_stages_room : (last_state (outcome sample.widens_in_two_stages no_input 39 1000)).room ≡ 15
+unfolding outcome resolve or_stuck digits
+two_stages_room = refl
+
 -- 8 bytes for the object, 32 for the P, and 16 for the INT
 once_first : run_program sample.widens_once_first no_input 56 1000 ≡ Ended (codes "1") 0
 unfolding outcome resolve or_stuck digits
