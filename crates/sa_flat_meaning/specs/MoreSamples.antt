@@ -1,12 +1,10 @@
 -- More small flat programs: initialisers, turns of built-ins that don't succeed, widening in its order, and steps that contradict
 -- their own numbers.
-use Rattle.std.specs.Prelude.{ℕ, true, false, List, [], ◌∷◌, ◌++◌, map, take, length, Some, None, codes}
+use Rattle.std.specs.Prelude.{ℕ, false, List, [], ◌∷◌, ◌++◌, map, take, length, Some, None, codes}
 use Rattle.sa_tree.specs.declared.class.Kind.TheVariants as kind
 use Rattle.sa_tree.specs.declared.ty.Mode.TheVariants.{In, Out, Inout, Once}
 use Rattle.sa_core.specs.declared.feature.Target.TheVariants as target
-use Rattle.sa_flat.specs.declared.body.FlatBody.{FlatBody}
 use Rattle.sa_flat.specs.declared.call.Callee.TheVariants.{Body, Builtin, Get, GetShared, Dispatch, Bound}
-use Rattle.sa_flat.specs.declared.call.CallPlan.{CallPlan}
 use Rattle.sa_flat.specs.declared.program.FlatProgram.{FlatProgram}
 use Rattle.sa_flat.specs.declared.program.Layout.{Layout}
 use Rattle.sa_flat.specs.declared.step.FlatConst.TheVariants as const
@@ -15,7 +13,7 @@ use Rattle.sa_flat.specs.declared.step.FlatStep.{FlatStep}
 use Rattle.sa_flat.specs.declared.step.FlatStep.TheVariants.{Const, Move, Me, Turn, New, Widen, Unwrap, TypeIs, InitShared, Call, Start, Resume, HasFrame, Enter}
 use Rattle.sa_meaning.specs.Value.{bool_type, int_type, str_type}
 use Rattle.sa_meaning.specs.Program.{Signature}
-use Rattle.sa_flat_meaning.specs.Samples.{leaving, fails_to, fails, block, blocks, args, plan, int, of_type, plus, main_type, out_type, own_type, put_int, layout, layouts, body, formal, last_body, program, iter_body, upto, out_of_loop, looping_from, iter_plan}
+use Rattle.sa_flat_meaning.specs.Samples.{leaving, fails_to, fails, block, blocks, args, plan, int, of_type, plus, main_type, out_type, own_type, put_int, layout, layouts, body, formal, program, iter_body, upto, looping_from, iter_plan}
 
 -- the program where the types of its own have these layouts
 abbrev pub with_own : List Layout → FlatProgram → FlatProgram
@@ -42,7 +40,7 @@ initialises = with_own (layout kind.Immutable (int_type ∷ []) ∷ []) (record 
       Turn ∷ of_type 203 own_type ∷ Call (plan (Get 0) own_type 203 [] (Some 204)) ∷ int 205 1 ∷ plus 206 204 205 ∷ InitShared 0 206 ∷
       Turn ∷ of_type 203 own_type ∷ Widen 204 203 own_type fails ∷ InitShared 1 204 ∷
       of_type 203 main_type ∷ Call (plan (Body 0) main_type 203 [] None) ∷ []) (Return None)) [])
-      ∷ []
+      ∷ [];
 })
 
 -- ---- turns of built-ins that don't succeed

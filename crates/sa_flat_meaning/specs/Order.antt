@@ -1,5 +1,5 @@
 -- What steps count, and what they take from the meaning of the language.
-use Rattle.std.specs.Prelude.{ℕ, zero, suc, ◌-◌, pos, true, false, nat_le, if◌then◌else◌, List, [], ◌∷◌, ◌++◌, map, Option, Some, None, is_some}
+use Rattle.std.specs.Prelude.{ℕ, zero, suc, ◌-◌, pos, true, false, nat_le, if◌then◌else◌, [], ◌∷◌, ◌++◌, map, Option, Some, None, is_some}
 use Rattle.sa_flat.specs.declared.program.FlatProgram.{FlatProgram}
 use Rattle.sa_flat.specs.declared.program.Layout.{Layout}
 use Rattle.sa_tree.specs.declared.pos.Pos.{Pos}

@@ -6,7 +6,7 @@ use Rattle.sa_flat.specs.declared.program.FlatProgram.{FlatProgram}
 use Rattle.sa_tree.specs.declared.pos.Pos.{Pos}
 use Rattle.sa_meaning.specs.Value.{Void}
 use Rattle.sa_meaning.specs.Program.{void_of}
-use Rattle.sa_meaning.specs.Sequence.{◌>>=◌, ◌>>◌, pure, stop, at_place, Gives, Stops, Exhausts, Sticks, stuck, last_state}
+use Rattle.sa_meaning.specs.Sequence.{◌>>=◌, ◌>>◌, pure, at_place, Gives, Stops, Exhausts, Sticks, stuck, last_state}
 use Rattle.sa_meaning.specs.State as language
 use Rattle.sa_meaning.specs.Run as whole
 use Rattle.sa_meaning.specs.Run.{End, status_of}

@@ -27,11 +27,7 @@ pub fn place_expr(
     draft: &mut Draft,
     ends: &Ends,
 ) -> Result<Placed, NoMemory> {
-    let around = Around {
-        core,
-        inside,
-        ends,
-    };
+    let around = Around { core, inside, ends };
     let first = draft.open();
     let value = place(alloc, &around, draft, e)?;
     Ok(Placed {

@@ -2,8 +2,8 @@
 //! so the type of the receiver has to be found; only those expressions are looked at that can have a bound type.
 
 use crate::around::{
-    Around, attribute_type, element_type, feature_at, own_feature, shared_type, signature_at, site_called,
-    type_at, var_type,
+    Around, attribute_type, element_type, feature_at, own_feature, shared_type, signature_at,
+    site_called, type_at, var_type,
 };
 use sa_core::{CalledCore, Core, ExprCore, SigCore, Target};
 use sa_flat::{Draft, held};

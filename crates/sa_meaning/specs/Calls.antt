@@ -12,7 +12,7 @@ use Rattle.sa_core.specs.declared.program.ImplCore.{ImplCore}
 use Rattle.sa_prelude.specs.declared.feature.BuiltinFeature.{BuiltinFeature}
 use Rattle.sa_prelude.specs.declared.feature.BuiltinFeature.TheVariants.{SysObEq, ArefAset}
 use Rattle.sa_meaning.specs.Sequence.{resolve, ◌>>=◌, ◌>>◌, pure, look, change, stop, or_stuck, at_place, with_place, stuck}
-use Rattle.sa_meaning.specs.Value.{Value, Void, Int, Truth, Char, Text, Imm, Ref, Bound, Wide, Fields, fields_of, field_list, bool_type, int_type, char_type, str_type, raw_type, is_nothing, as_bound, unwrapped}
+use Rattle.sa_meaning.specs.Value.{Value, Void, Int, Truth, Char, Text, Imm, Ref, Bound, Wide, fields_of, field_list, bool_type, int_type, char_type, str_type, raw_type, is_nothing, as_bound, unwrapped}
 use Rattle.sa_meaning.specs.Program.{Program, Feature, of_type, is_abstract, void_of}
 use Rattle.sa_meaning.specs.State.{Object, Residue, all_of, Empty, Activation, Cause, Broke, Raised, Flow, Done, Returning}
 use Rattle.sa_meaning.specs.Steps.{Eval, turn, charge, object_size, object_at, set_object, void, fault, write, enter, leave, checked_depth}

@@ -9,7 +9,7 @@ use Rattle.sa_core.specs.declared.feature.SiteCore.{SiteCore}
 use Rattle.sa_core.specs.declared.feature.Target.TheVariants as target
 use Rattle.sa_core.specs.Tree as tree
 use Rattle.sa_core.specs.Tree.{Expr, VoidOf, Me, Var, Exception, IsVoid, New, NewArray, Elements, Call, IterCall, Bind, Swapped, And, Or, Widen, Exprs, no_exprs, expr, Arg, Variable, Left, Args, no_args, arg}
-use Rattle.sa_meaning.specs.Sequence.{◌>>=◌, ◌>>◌, pure, look, stop, or_stuck, at_place, stuck}
+use Rattle.sa_meaning.specs.Sequence.{◌>>=◌, ◌>>◌, pure, look, or_stuck, at_place, stuck}
 use Rattle.sa_meaning.specs.Value.{Value, Int, Truth, Char, Text, Ref, Bound, is_void, as_int, as_truth}
 use Rattle.sa_meaning.specs.Program.{Program, void_of}
 use Rattle.sa_meaning.specs.State.{Residue, Sites, Instance, Flow}

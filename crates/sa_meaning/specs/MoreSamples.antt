@@ -21,9 +21,9 @@ initialises = record (program (immutable_row (int_type ∷ []) (ob_type ∷ []) 
     put_int (get_shared 0) ∷ Let 0 (get_shared 1)
     ∷ TypeCase 0 (arm_list ((own_type, 1, stmt_list (put (text (codes "P")) ∷ [])) ∷ [])) (otherwise (stmt_list (put (text (codes "v")) ∷ []))) here ∷ [])
     ∷ [])) {
-  shareds = record { ty = int_type; class = own_type; start = Some (plus (get_x Me) (int 1)) }
-      ∷ record { ty = ob_type; class = own_type; start = Some (tree.Widen own_type Me here) } ∷ []
-}
+      shareds = record { ty = int_type; class = own_type; start = Some (plus (get_x Me) (int 1)) }
+          ∷ record { ty = ob_type; class = own_type; start = Some (tree.Widen own_type Me here) } ∷ [];
+    }
 
 -- ---- widening
 

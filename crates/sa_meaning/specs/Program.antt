@@ -78,8 +78,8 @@ wide_list no_args = []
 wide_list (arg mode ty more) = is_abstract_bare ty ∷ wide_list more
 
 abbrev pub wide_arguments_of : BareTy → List Bool
-wide_arguments_of (Rout args result) = wide_list args
-wide_arguments_of (Iter args result) = wide_list args
+wide_arguments_of (Rout args _) = wide_list args
+wide_arguments_of (Iter args _) = wide_list args
 wide_arguments_of _ = []
 
 abbrev pub has_wide_result : BareTy → Bool

@@ -4,6 +4,8 @@ use Rattle.sa_tree.specs.declared.pos.Pos.{Pos}
 use Rattle.sa_core.specs.declared.feature.Target.{Target}
 use Rattle.sa_core.specs.Tree.{Stmt, Stmts, no_stmts, stmt}
 use Rattle.sa_meaning.specs.Value.{Value}
+-- the bytes that are left, and how many times their end can still be told, where this is limited
+pub use Rattle.wa_syntax.specs.Machine.{Input}
 use Rattle.sa_meaning.specs.Sequence.{Out}
 
 -- ---- objects
@@ -76,11 +78,6 @@ pub data Mark : Type 0 where
   Byte : (byte : ℕ) → Mark
 
 -- ---- the state
-
--- The bytes that are left, and how many times their end can still be told, where this is limited.
-pub record Input : Type 0 where
-  pub bytes : List ℕ
-  pub ends : Option ℕ
 
 pub record State : Type 0 where
   pub objects : List Object

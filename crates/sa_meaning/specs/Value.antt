@@ -109,7 +109,7 @@ abbrev pub raw_type : Value → Option ℕ
 raw_type (Int z) = Some int_type
 raw_type (Truth b) = Some bool_type
 raw_type (Char byte) = Some char_type
-raw_type (Imm ty fields) = Some ty
+raw_type (Imm ty _) = Some ty
 raw_type _ = None
 
 -- the value behind a wide one
