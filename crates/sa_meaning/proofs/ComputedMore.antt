@@ -1,9 +1,9 @@
 -- The other sample programs run.
 use Rattle.std.proofs.Common.{◌≡◌, [], ◌∷◌, None, refl}
-use Rattle.std.specs.Prelude.{pos, false, codes}
+use Rattle.std.specs.Prelude.{pos, codes}
 use Rattle.std.specs.Fmt.{digits}
 use Rattle.sa_meaning.specs.Value.{Void, Int, Ref}
-use Rattle.sa_meaning.specs.Program.{Program}
+use Rattle.sa_meaning.specs.Program.{Program, before}
 use Rattle.sa_meaning.specs.Sequence.{last_state, resolve, or_stuck}
 use Rattle.sa_meaning.specs.State.{Input}
 use Rattle.sa_meaning.specs.Run.{End, Ended, Stopped, Stuck, outcome, run_program}
@@ -71,11 +71,11 @@ unfolding outcome resolve or_stuck digits
 passes_no_room = refl
 
 -- where no fault can be caught
-before_overflow : run_program (record overflows { faults_raise = false }) no_input 65536 1000 ≡ Stopped (codes "a") 1 here
+before_overflow : run_program (before overflows) no_input 65536 1000 ≡ Stopped (codes "a") 1 here
 unfolding outcome resolve or_stuck digits
 before_overflow = refl
 
-before_caught : run_program (record tells_fault { faults_raise = false }) no_input 65536 1000 ≡ Stopped [] 2 here
+before_caught : run_program (before tells_fault) no_input 65536 1000 ≡ Stopped [] 2 here
 unfolding outcome resolve or_stuck digits
 before_caught = refl
 

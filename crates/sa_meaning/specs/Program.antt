@@ -111,6 +111,10 @@ program_of core = record {
   faults_raise = true;
 }
 
+-- where no fault can be caught
+abbrev pub before : Program → Program
+before p = record p { faults_raise = false }
+
 -- ---- types by their numbers
 
 abbrev pub is_abstract_kind : Kind → Bool

@@ -1,11 +1,11 @@
 -- Whole runs.
-use Rattle.std.specs.Prelude.{ℕ, ◌+◌, ◌-◌, ◌%◌, pos, negsuc, false, List, [], ◌∷◌, map, Option, Some, None}
+use Rattle.std.specs.Prelude.{ℕ, ◌+◌, ◌-◌, ◌%◌, pos, negsuc, List, [], ◌∷◌, map, Option, Some, None}
 use Rattle.sa_tree.specs.declared.pos.Pos.{Pos}
 use Rattle.sa_core.specs.declared.program.Core.{Core}
 use Rattle.sa_core.specs.Tree.{Expr}
 use Rattle.sa_meaning.specs.Sequence.{◌>>=◌, ◌>>◌, pure, change, at_place, Gives, Stops, Exhausts, Sticks, last_state}
 use Rattle.sa_meaning.specs.Value.{Value, Void, Int}
-use Rattle.sa_meaning.specs.Program.{Program, SharedRow, program_of, void_of}
+use Rattle.sa_meaning.specs.Program.{Program, SharedRow, program_of, before, void_of}
 use Rattle.sa_meaning.specs.State.{Residue, Empty, Input, State, Event, Mark, Broke, Raised, Failed, InputFailed, Flow, Outcome}
 use Rattle.sa_meaning.specs.Steps.{Eval, turn}
 use Rattle.sa_meaning.specs.Calls.{routine, set_shared}
@@ -86,7 +86,7 @@ run core = run_program (program_of core)
 
 -- the same where no fault can be caught: each one stops the program, and makes no object
 abbrev pub run_before : Core → Input → ℕ → ℕ → End
-run_before core = run_program (record (program_of core) { faults_raise = false })
+run_before core = run_program (before (program_of core))
 
 -- the bytes that are put, whether the run is over or not
 abbrev pub output : Core → Input → ℕ → ℕ → List ℕ
