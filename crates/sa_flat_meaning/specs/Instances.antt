@@ -202,14 +202,14 @@ module _ (p : FlatProgram) (go : ℕ → ℕ → Eval Ending) where
   started at k self given = do
     b ← at_place p.bodies k
     if not b.iter then stuck
-      else (if is_some b.feature then turn (begin at k k self given) else (first_variables p b given >>= run_for at k b self None))
+        else (if is_some b.feature then turn (begin at k k self given) else (first_variables p b given >>= run_for at k b self None))
 
   -- A body that was made for an implementation is entered with void `once` arguments.
   abbrev pub resumed : Station → Frame → List Passed → Eval (Ending × List Value)
   resumed at frame given = do
     b ← at_place p.bodies frame.body
     if is_some b.feature then turn (continue at frame.body frame.number given)
-      else (variables_anew p b given (with_others b (void_formals p b)) >>= run_for at frame.body b frame.self (Some frame.number))
+        else (variables_anew p b given (with_others b (void_formals p b)) >>= run_for at frame.body b frame.self (Some frame.number))
 
   abbrev pub start_of : Station → Callee → Value → List Passed → Eval (Ending × List Value)
   start_of at (Body k) self given = started at k self given
