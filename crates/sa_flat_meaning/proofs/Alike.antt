@@ -1,14 +1,16 @@
 -- Two steps that are put together alike, of which the one runs what follows to a level, and the other to a greater one. The
 -- law of all steps is shown once for each way of putting steps together.
 use Rattle.std.proofs.Common.{◌≡◌, ℕ, zero, suc, ◌-◌, ◌≤◌, nat_le, Bool, true, false, if◌then◌else◌, List, slice_get, Option, Some, None, refl, ap, ◌∙◌, arith}
+use Rattle.sa_meaning.specs.Sequence.{resolved, resolve, ◌>>=◌, ◌>>◌, stop, pure, look, change, or_stuck, at_place, Gives, Stops, Exhausts, stuck, Sticks, with_place}
 use Rattle.sa_meaning.specs.State as language
 use Rattle.sa_meaning.specs.Steps as language_steps
-use Rattle.sa_flat_meaning.specs.Frames.{State, Cause, Stuck, Out, Gives, Stops, Exhausts}
-use Rattle.sa_flat_meaning.specs.Order.{Eval, resolved, resolve, ◌>>=◌, ◌>>◌, stop, pure, look, change, or_stuck, at_place, count, turned, turn, seen, within}
+use Rattle.sa_flat_meaning.specs.Frames.{State, Cause, Faulted, InputFailed, Outcome}
+use Rattle.sa_flat_meaning.specs.Order.{Eval, count, turned, turn, seen, within}
 
 pub data AlikeIn : ℕ → (A : Type 0) → Eval A → Eval A → Type 1 where
   resolves : {level : ℕ} {A B : Type 0} {f g : Eval A} {h i : A → Eval B} {k l : Cause → Eval B} → AlikeIn level A f g → ((a : A) → AlikeIn level B (h a) (i a)) → ((c : Cause) → AlikeIn level B (k c) (l c)) → AlikeIn level B (resolve f h k) (resolve g i l)
   stops : {level : ℕ} {A : Type 0} (c : Cause) → AlikeIn level A (stop c) (stop c)
+  sticks : {level : ℕ} {A : Type 0} → AlikeIn level A stuck stuck
   -- what counts no step
   moves : {level : ℕ} {A : Type 0} (see : State → A) (next : State → State) → ((s : State) → (next s).steps ≡ s.steps) → AlikeIn level A (λ s. Gives (see s) (next s)) (λ s. Gives (see s) (next s))
   turns : {level : ℕ} {A : Type 0} {f g : Eval A} → AlikeIn level A f g → AlikeIn level A (turn f) (turn g)
@@ -17,7 +19,7 @@ pub data AlikeIn : ℕ → (A : Type 0) → Eval A → Eval A → Type 1 where
   -- the step after which what is run to a level follows
   first : {level : ℕ} {A : Type 0} {f g : Eval A} → AlikeIn level A f g → AlikeIn (suc level) A (count 1 >> f) (count 1 >> g)
   -- the level 0
-  ends : {A : Type 0} (g : Eval A) → AlikeIn zero A (stop Stuck) (count 1 >> g)
+  ends : {A : Type 0} (g : Eval A) → AlikeIn zero A stuck (count 1 >> g)
 
 abbrev pub Alike : {A : Type 0} → ℕ → Eval A → Eval A → Type 1
 Alike level f g = AlikeIn level _ f g
@@ -55,32 +57,40 @@ steady_change f a = moves (λ _. tt) f a
 pub steady_or_stuck : {level : ℕ} {A : Type 0} (o : Option A) → Steady level (or_stuck o)
 unfolding or_stuck
 steady_or_stuck (Some a) = steady_pure a
-steady_or_stuck None = stops Stuck
+steady_or_stuck None = sticks
+
+pub steady_stuck : {level : ℕ} {A : Type 0} → Steady {A = A} level stuck
+steady_stuck = sticks
+
+pub steady_with_place : {level : ℕ} {A : Type 0} (list : List A) (place : ℕ) (a : A) → Steady level (with_place list place a)
+steady_with_place list place a = alike_if _ (steady_pure _) sticks
 
 pub steady_at_place : {level : ℕ} {A : Type 0} (list : List A) (place : ℕ) → Steady level (at_place list place)
 steady_at_place list place = steady_or_stuck (slice_get list place)
 
 pub steady_within : {level : ℕ} {A : Type 0} (f : language_steps.Eval A) → Steady level (within f)
 unfolding within
-steady_within f = alike_then (steady_look _) (λ before. alike_then (sees f) (λ a. alike_then (steady_look _) (λ after. alike_before (counts (before - after)) (steady_pure a))))
+steady_within f = sees f
 
 -- ---- with as many levels as steps are left, or more
 
 -- no step is added
-abbrev pub Falls : {A : Type 0} → ℕ → Out A → Type 0
+abbrev pub Falls : {A : Type 0} → ℕ → Outcome A → Type 0
 Falls n (Gives a s) = s.steps ≤ n
 Falls n (Stops c s) = s.steps ≤ n
 Falls n (Exhausts s) = s.steps ≤ n
+Falls n (Sticks s) = s.steps ≤ n
 
-abbrev pub Keeps : {A : Type 0} → State → Out A → Out A → Type 0
+abbrev pub Keeps : {A : Type 0} → State → Outcome A → Outcome A → Type 0
 Keeps s o q = (q ≡ o) × Falls s.steps o
 
-falls_from : {A : Type 0} (n m : ℕ) (o : Out A) → n ≤ m → Falls n o → Falls m o
+falls_from : {A : Type 0} (n m : ℕ) (o : Outcome A) → n ≤ m → Falls n o → Falls m o
 falls_from n m (Gives a s) h e = omega (arith, h, e)
 falls_from n m (Stops c s) h e = omega (arith, h, e)
 falls_from n m (Exhausts s) h e = omega (arith, h, e)
+falls_from n m (Sticks s) h e = omega (arith, h, e)
 
-keeps_resolved : {A B : Type 0} (level : ℕ) (s : State) (o q : Out A) → s.steps ≤ level → Keeps s o q → (h i : A → Eval B) → (k l : Cause → Eval B) → ((a : A) (t : State) → t.steps ≤ level → Keeps t (h a t) (i a t)) → ((c : Cause) (t : State) → t.steps ≤ level → Keeps t (k c t) (l c t)) → Keeps s (resolved o h k) (resolved q i l)
+keeps_resolved : {A B : Type 0} (level : ℕ) (s : State) (o q : Outcome A) → s.steps ≤ level → Keeps s o q → (h i : A → Eval B) → (k l : Cause → Eval B) → ((a : A) (t : State) → t.steps ≤ level → Keeps t (h a t) (i a t)) → ((c : Cause) (t : State) → t.steps ≤ level → Keeps t (k c t) (l c t)) → Keeps s (resolved o h k) (resolved q i l)
 keeps_resolved level s (Gives a t) q few e h i k l m n =
     let r = m a t (omega (arith, few, e.1)) in
     (ap (λ z. resolved z i l) e.0 ∙ r.0, falls_from t.steps s.steps (h a t) e.1 r.1)
@@ -88,33 +98,45 @@ keeps_resolved level s (Stops c t) q few e h i k l m n =
     let r = n c t (omega (arith, few, e.1)) in
     (ap (λ z. resolved z i l) e.0 ∙ r.0, falls_from t.steps s.steps (k c t) e.1 r.1)
 keeps_resolved level s (Exhausts t) q few e h i k l m n = (ap (λ z. resolved z i l) e.0, e.1)
+keeps_resolved level s (Sticks t) q few e h i k l m n = (ap (λ z. resolved z i l) e.0, e.1)
 
 keeps_turned : {A : Type 0} (n : ℕ) (f g : Eval A) (s : State) → ((t : State) → t.steps ≡ s.steps → Keeps t (f t) (g t)) → Keeps s (turned n f s) (turned n g s)
 keeps_turned zero f g s e = (refl, omega arith)
 keeps_turned (suc n) f g s e = e (record s { world = record (s.world) { turns = n } }) refl
 
-falls_seen : {A : Type 0} (s : State) (o : language.Out A) → Falls s.steps (seen s o)
-falls_seen s (language.Gives a w) = omega arith
-falls_seen s (language.Stops (language.Raised exception kind at) w) = omega arith
-falls_seen s (language.Stops (language.Failed kind at) w) = omega arith
-falls_seen s (language.Stops language.InputFailed w) = omega arith
-falls_seen s (language.Stops language.Broke w) = omega arith
-falls_seen s (language.Stops language.Stuck w) = omega arith
-falls_seen s (language.Exhausts w) = omega arith
+falls_if : {A : Type 0} (b : Bool) (n : ℕ) (o q : Outcome A) → Falls n o → Falls n q → Falls n (if b then o else q)
+falls_if true n o q x y = x
+falls_if false n o q x y = y
 
-falls_counted : (b : Bool) (n : ℕ) (s : State) → Falls {A = Unit {0}} s.steps (if b then Gives tt (record s { steps = s.steps - n }) else Stops Stuck s)
+-- the state behind a step of the language that leads to a world
+abbrev behind : State → language.State → State
+behind s w = record s { world = w; steps = s.steps - (s.world.turns - w.turns) }
+
+abbrev enough : State → language.State → Bool
+enough s w = nat_le (s.world.turns - w.turns) s.steps
+
+falls_seen : {A : Type 0} (s : State) (o : language.Outcome A) → Falls s.steps (seen s o)
+falls_seen s (Gives a w) = falls_if (enough s w) s.steps (Gives a (behind s w)) (Sticks s) (omega arith) (omega arith)
+falls_seen s (Stops (language.Raised exception kind at) w) = omega arith
+falls_seen s (Stops (language.Failed kind at) w) = falls_if (enough s w) s.steps (Stops (Faulted kind) (behind s w)) (Sticks s) (omega arith) (omega arith)
+falls_seen s (Stops language.InputFailed w) = falls_if (enough s w) s.steps (Stops InputFailed (behind s w)) (Sticks s) (omega arith) (omega arith)
+falls_seen s (Stops language.Broke w) = omega arith
+falls_seen s (Exhausts w) = falls_if (enough s w) s.steps (Exhausts (behind s w)) (Sticks s) (omega arith) (omega arith)
+falls_seen s (Sticks w) = omega arith
+
+falls_counted : (b : Bool) (n : ℕ) (s : State) → Falls {A = Unit {0}} s.steps (if b then Gives tt (record s { steps = s.steps - n }) else Sticks s)
 falls_counted true n s = omega arith
 falls_counted false n s = omega arith
 
 keeps_first : {A : Type 0} (b : Bool) (level : ℕ) (s : State) (f g : Eval A) → s.steps ≤ suc level → ((t : State) → t.steps ≤ level → Keeps t (f t) (g t)) →
-    Keeps s (resolved {A = Unit {0}} (if b then Gives tt (record s { steps = s.steps - 1 }) else Stops Stuck s) (λ _. f) stop) (resolved {A = Unit {0}} (if b then Gives tt (record s { steps = s.steps - 1 }) else Stops Stuck s) (λ _. g) stop)
+    Keeps s (resolved {A = Unit {0}} (if b then Gives tt (record s { steps = s.steps - 1 }) else Sticks s) (λ _. f) stop) (resolved {A = Unit {0}} (if b then Gives tt (record s { steps = s.steps - 1 }) else Sticks s) (λ _. g) stop)
 keeps_first true level s f g few e =
     let t : State = record s { steps = s.steps - 1 } in
     let r = e t (omega (arith, few)) in
     (r.0, falls_from t.steps s.steps (f t) (omega arith) r.1)
 keeps_first false level s f g few e = (refl, omega arith)
 
-stuck_first : {A : Type 0} (k : ℕ) (s : State) (g : Eval A) → k ≤ 0 → resolved {A = Unit {0}} (if nat_le 1 k then Gives tt (record s { steps = k - 1 }) else Stops Stuck s) (λ _. g) stop ≡ Stops Stuck s
+stuck_first : {A : Type 0} (k : ℕ) (s : State) (g : Eval A) → k ≤ 0 → resolved {A = Unit {0}} (if nat_le 1 k then Gives tt (record s { steps = k - 1 }) else Sticks s) (λ _. g) stop ≡ Sticks s
 stuck_first zero s g few = refl
 stuck_first (suc n) s g few = absurd (omega (arith, few))
 
@@ -123,6 +145,7 @@ pub keeps : {level : ℕ} {A : Type 0} {f g : Eval A} → AlikeIn level A f g �
 unfolding resolve
 keeps (resolves {level = level} {f = f} {g = g} {h = h} {i = i} {k = k} {l = l} a b c) s few = keeps_resolved level s (f s) (g s) few (keeps a s few) h i k l (λ x t less. keeps (b x) t less) (λ x t less. keeps (c x) t less)
 keeps (stops c) s few = (refl, omega arith)
+keeps sticks s few = (refl, omega arith)
 keeps (moves see next a) s few = (refl, omega (arith, a s))
 keeps (turns {f = f} {g = g} a) s few = keeps_turned s.world.turns f g s (λ t e. keeps a t (omega (arith, few, e)))
 keeps (sees f) s few = (refl, falls_seen s (f s.world))

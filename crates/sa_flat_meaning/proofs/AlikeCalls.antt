@@ -1,5 +1,5 @@
 -- What goes through calls is alike where what runs bodies is.
-use Rattle.std.proofs.Common.{ℕ, Bool, List, [], ◌∷◌, map, Option, Some, None, refl}
+use Rattle.std.proofs.Common.{ℕ, Bool, true, false, List, [], ◌∷◌, Option, Some, None, refl}
 use Rattle.sa_tree.specs.declared.ty.Mode.{Mode}
 use Rattle.sa_tree.specs.declared.ty.Mode.TheVariants as mode
 use Rattle.sa_flat.specs.declared.body.FlatBody.{FlatBody}
@@ -10,14 +10,14 @@ use Rattle.sa_flat.specs.declared.call.Fail.{Fail}
 use Rattle.sa_flat.specs.declared.call.FlatArg.{FlatArg}
 use Rattle.sa_flat.specs.declared.call.Raised.{Raised}
 use Rattle.sa_flat.specs.declared.program.FlatProgram.{FlatProgram}
+use Rattle.sa_prelude.specs.declared.feature.BuiltinFeature.{BuiltinFeature}
 use Rattle.sa_meaning.specs.Value.{Value}
-use Rattle.sa_meaning.specs.Calls.{interleaved}
 use Rattle.sa_flat_meaning.specs.Frames as frames
-use Rattle.sa_flat_meaning.specs.Frames.{Activation, Ending, Way, Cause, Faulted, Failed, InputFailed, Stuck}
-use Rattle.sa_flat_meaning.specs.Order.{Eval, read, write, put, this, enter, leave}
+use Rattle.sa_flat_meaning.specs.Frames.{Activation, Ending, Way, Cause, Faulted, Failed, InputFailed}
+use Rattle.sa_flat_meaning.specs.Order.{Eval, if_abstract, read, write, put, put_given, this, enter, leave}
 use Rattle.sa_flat_meaning.specs.Faults.{raised, fault_here, fault, faulted, guarded}
-use Rattle.sa_flat_meaning.specs.Calls.{given_as, given_by_all, copied_back, kept_in, all_given, all_backs, dispatched, bound_to, reached, checked_depth, run_body, call_in, call_body, simply, run_reached, after_call, call, read_all, chosen, bind}
-use Rattle.sa_flat_meaning.proofs.Alike.{Alike, Steady, turns, alike_resolve, alike_then, alike_before, alike_if, steady_stop, steady_pure, steady_look, steady_change, steady_or_stuck, steady_within}
+use Rattle.sa_flat_meaning.specs.Calls.{Passed, given_as, passed, passed_by, copied_back, all_passed, implementation, dispatched, bound_to, reached, first_variables, variables_anew, checked_depth, gives_value, if_of, run_body, call_in, call_body, simply, run_builtin, run_reached, after_call, call, read_all, chosen, bind}
+use Rattle.sa_flat_meaning.proofs.Alike.{Alike, Steady, turns, alike_resolve, alike_then, alike_before, alike_if, steady_stop, steady_pure, steady_look, steady_change, steady_or_stuck, steady_stuck, steady_with_place, steady_within}
 
 -- ---- variables and activations
 
@@ -25,11 +25,19 @@ pub steady_read : {level : ℕ} (var : ℕ) → Steady level (read var)
 steady_read var = alike_then (steady_look _) (λ variables. steady_or_stuck _)
 
 pub steady_write : {level : ℕ} (var : ℕ) (v : Value) → Steady level (write var v)
-steady_write var v = steady_change _ (λ s. refl)
+steady_write var v = alike_then (steady_look _) (λ variables. alike_then (steady_with_place _ _ _) (λ changed. steady_change _ (λ s. refl)))
 
 pub steady_put : {level : ℕ} (var : Option ℕ) (v : Value) → Steady level (put var v)
 steady_put None v = steady_pure _
 steady_put (Some var) v = steady_write var v
+
+pub steady_put_given : {level : ℕ} (var : Option ℕ) (v : Option Value) → Steady level (put_given var v)
+steady_put_given None v = steady_pure _
+steady_put_given (Some var) None = steady_stuck
+steady_put_given (Some var) (Some v) = steady_write var v
+
+pub steady_if_abstract : {level : ℕ} {A : Type 0} (v : Value) {f : Eval A} → Steady level f → Steady level (if_abstract v f)
+steady_if_abstract v a = alike_if _ steady_stuck a
 
 pub steady_this : {level : ℕ} → Steady level this
 steady_this = steady_look _
@@ -56,7 +64,6 @@ module _ (p : FlatProgram) where
   steady_faulted fail (Faulted kind) = steady_fault fail kind
   steady_faulted fail (Failed kind place) = steady_stop _
   steady_faulted fail InputFailed = steady_stop _
-  steady_faulted fail Stuck = steady_stop _
 
   pub alike_guarded : {level : ℕ} (fail : Fail) {f g : Eval Way} → Alike level f g → Alike level (guarded p fail f) (guarded p fail g)
   alike_guarded fail a = alike_resolve a (λ w. steady_pure w) (λ c. steady_faulted fail c)
@@ -72,37 +79,36 @@ steady_given_as mode.Inout (Some var) = alike_then (steady_read var) (λ v. stea
 steady_given_as mode.Once None = steady_pure _
 steady_given_as mode.Once (Some var) = alike_then (steady_read var) (λ v. steady_pure _)
 
-pub steady_given : {level : ℕ} (args : List FlatArg) → Steady level (given_by_all args)
-steady_given [] = steady_pure _
-steady_given (a ∷ more) = alike_then (steady_given_as a.mode a.var) (λ v. alike_then (steady_given more) (λ vs. steady_pure _))
+pub steady_passed : {level : ℕ} (a : FlatArg) → Steady level (passed a)
+steady_passed a = alike_then (steady_given_as a.mode a.var) (λ v. steady_pure _)
 
-pub steady_copied_back : {level : ℕ} (backs : List (Option ℕ)) (values : List Value) → Steady level (copied_back backs values)
-steady_copied_back (var ∷ more) (v ∷ rest) = alike_before (steady_put var v) (steady_copied_back more rest)
+pub steady_passed_by : {level : ℕ} (args : List FlatArg) → Steady level (passed_by args)
+steady_passed_by [] = steady_pure _
+steady_passed_by (a ∷ more) = alike_then (steady_passed a) (λ first. alike_then (steady_passed_by more) (λ rest. steady_pure _))
+
+pub steady_copied_back : {level : ℕ} (given : List Passed) (values : List Value) → Steady level (copied_back given values)
 steady_copied_back [] values = steady_pure _
-steady_copied_back (var ∷ more) [] = steady_pure _
+steady_copied_back (a ∷ more) (v ∷ rest) = alike_before (steady_put a.back v) (steady_copied_back more rest)
+steady_copied_back (a ∷ more) [] = alike_if _ steady_stuck (steady_copied_back more [])
 
-steady_kept_in : {level : ℕ} {A : Type 0} (see : List Bool → List Value → A) (object : ℕ) → Steady level (kept_in see object)
-steady_kept_in see object = alike_then (steady_within _) (λ o. alike_then (steady_or_stuck _) (λ b. steady_pure _))
-
-pub steady_all_given : {level : ℕ} (through : Option ℕ) (given : List (Option Value)) → Steady level (all_given through given)
-steady_all_given None given = steady_pure _
-steady_all_given (Some object) given = steady_kept_in (λ is_open kept. interleaved is_open given (map Some kept)) object
-
-pub steady_all_backs : {level : ℕ} (through : Option ℕ) (backs : List (Option ℕ)) → Steady level (all_backs through backs)
-steady_all_backs None backs = steady_pure _
-steady_all_backs (Some object) backs = steady_kept_in (λ is_open kept. interleaved is_open backs (map (λ _. None) kept)) object
+pub steady_all_passed : {level : ℕ} (through : Option ℕ) (given : List Passed) → Steady level (all_passed through given)
+steady_all_passed None given = steady_pure _
+steady_all_passed (Some object) given = alike_then (steady_within _) (λ o. alike_then (steady_or_stuck _) (λ b. steady_or_stuck _))
 
 -- ---- what a call reaches
 
 module _ (p : FlatProgram) (rows : List (List ℕ)) where
-  steady_dispatched : {level : ℕ} (k class : ℕ) (v : Value) → Steady level (dispatched p rows k class v)
-  steady_dispatched k class v = alike_if _ (steady_stop _) (alike_then (steady_within _) (λ dynamic. alike_then (steady_or_stuck _) (λ ty. alike_then (steady_or_stuck _) (λ row. alike_then (steady_or_stuck _) (λ body. steady_pure _)))))
+  steady_implementation : {level : ℕ} (k : ℕ) (v : Value) → Steady level (implementation p rows k v)
+  steady_implementation k v = alike_then (steady_within _) (λ dynamic. alike_then (steady_or_stuck _) (λ ty. alike_then (steady_or_stuck _) (λ row. alike_then (steady_or_stuck _) (λ body. steady_pure _))))
+
+  steady_dispatched : {level : ℕ} (k : ℕ) (v : Value) → Steady level (dispatched p rows k v)
+  steady_dispatched k v = alike_if _ (steady_stop _) (steady_if_abstract v (steady_implementation k v))
 
   steady_bound_to : {level : ℕ} (object : ℕ) → Steady level (bound_to p rows object)
   steady_bound_to object = alike_then (steady_within _) (λ o. alike_then (steady_or_stuck _) (λ b. alike_then (steady_or_stuck _) (λ receiver. steady_pure _)))
 
   pub steady_reached : {level : ℕ} (callee : Callee) (class : ℕ) (v : Value) → Steady level (reached p rows callee class v)
-  steady_reached (Dispatch k) class v = steady_dispatched k class v
+  steady_reached (Dispatch k) class v = steady_dispatched k v
   steady_reached Bound class v = alike_if _ (steady_stop _) (alike_then (steady_or_stuck _) (λ object. steady_bound_to object))
   steady_reached (Body k) class v = steady_pure _
   steady_reached (Builtin n) class v = steady_pure _
@@ -110,6 +116,12 @@ module _ (p : FlatProgram) (rows : List (List ℕ)) where
   steady_reached (Set a) class v = steady_pure _
   steady_reached (GetShared k) class v = steady_pure _
   steady_reached (SetShared k) class v = steady_pure _
+
+pub steady_first_variables : {level : ℕ} (p : FlatProgram) (b : FlatBody) (given : List Passed) → Steady level (first_variables p b given)
+steady_first_variables p b given = alike_if _ (steady_or_stuck _) steady_stuck
+
+pub steady_variables_anew : {level : ℕ} (p : FlatProgram) (b : FlatBody) (given : List Passed) (variables : List Value) → Steady level (variables_anew p b given variables)
+steady_variables_anew p b given variables = alike_if _ (steady_or_stuck _) steady_stuck
 
 pub steady_checked_depth : {level : ℕ} (caller : Activation) → Steady level (checked_depth caller)
 steady_checked_depth caller = alike_if _ (steady_stop _) (steady_pure _)
@@ -122,37 +134,45 @@ module _ (p : FlatProgram) (level : ℕ) (go to : ℕ → ℕ → Eval Ending) (
       alike_then steady_this (λ caller. alike_before (steady_enter a) (alike_then (alike block 0) (λ ending.
       alike_then (steady_look _) (λ variables. alike_before (steady_leave _ _) (steady_pure _)))))
 
-  alike_call_in : (caller : Activation) (k : ℕ) (b : FlatBody) (self : Value) (given : List (Option Value)) → Alike level (call_in p go caller k b self given) (call_in p to caller k b self given)
+  alike_call_in : (caller : Activation) (k : ℕ) (b : FlatBody) (self : Value) (given : List Value) → Alike level (call_in p go caller k b self given) (call_in p to caller k b self given)
   alike_call_in caller k b self given = alike_if _ (turns (alike_before (steady_checked_depth caller) (alike_run_body _ _))) (alike_run_body _ _)
 
-  alike_call_body : (k : ℕ) (self : Value) (given : List (Option Value)) → Alike level (call_body p go k self given) (call_body p to k self given)
-  alike_call_body k self given = alike_then (steady_or_stuck _) (λ b. alike_then steady_this (λ caller. alike_if _ (steady_stop _) (alike_call_in caller k b self given)))
+  alike_call_body : (k : ℕ) (self : Value) (given : List Passed) → Alike level (call_body p go k self given) (call_body p to k self given)
+  alike_call_body k self given =
+      alike_then (steady_or_stuck _) (λ b. alike_then steady_this (λ caller. alike_then (steady_first_variables p b given) (λ variables. alike_if _ steady_stuck (alike_call_in caller k b self variables))))
 
-  steady_simply : {f : Eval Value} → Steady level f → Alike level (simply p go f) (simply p to f)
-  steady_simply a = alike_then a (λ v. steady_pure _)
+  steady_simply : (gives : Bool) {f : Eval Value} → Steady level f → Alike level (simply p go gives f) (simply p to gives f)
+  steady_simply gives a = alike_then a (λ v. steady_pure _)
 
-  alike_run_reached : (callee : Callee) (class : ℕ) (self : Value) (given : List (Option Value)) → Alike level (run_reached p go callee class self given) (run_reached p to callee class self given)
+  alike_if_of : (class : ℕ) (v : Value) {f g : Eval (Ending × List Value)} → Alike level f g → Alike level (if_of p class v f) (if_of p class v g)
+  alike_if_of class v a = alike_then (steady_within _) (λ dynamic. alike_if _ a steady_stuck)
+
+  alike_run_builtin : (class : ℕ) (self : Value) (given : List Passed) (f : BuiltinFeature) → Alike level (run_builtin p go class self given f) (run_builtin p to class self given f)
+  alike_run_builtin class self given f = alike_if_of class self (steady_simply (gives_value f) (steady_within _))
+
+  alike_run_reached : (callee : Callee) (class : ℕ) (self : Value) (given : List Passed) → Alike level (run_reached p go callee class self given) (run_reached p to callee class self given)
   alike_run_reached (Body k) class self given = alike_call_body k self given
-  alike_run_reached (Builtin n) class self given = steady_simply (alike_then (steady_or_stuck _) (λ f. steady_within _))
-  alike_run_reached (Get a) class self given = steady_simply (steady_within _)
-  alike_run_reached (Set a) class self given = steady_simply (alike_then (steady_or_stuck _) (λ v. steady_within _))
-  alike_run_reached (GetShared k) class self given = steady_simply (steady_within _)
-  alike_run_reached (SetShared k) class self given = steady_simply (alike_before (alike_then (steady_or_stuck _) (λ v. steady_within _)) (steady_pure _))
-  alike_run_reached (Dispatch k) class self given = steady_stop _
-  alike_run_reached Bound class self given = steady_stop _
+  alike_run_reached (Builtin n) class self given = alike_then (steady_or_stuck _) (λ f. alike_run_builtin class self given f)
+  alike_run_reached (Get a) class self [] = alike_if_of class self (steady_simply true (steady_within _))
+  alike_run_reached (Get a) class self (v ∷ given) = steady_stuck
+  alike_run_reached (Set a) class self given = alike_then (steady_or_stuck _) (λ v. alike_if_of class self (steady_simply _ (steady_within _)))
+  alike_run_reached (GetShared k) class self [] = steady_simply true (steady_within _)
+  alike_run_reached (GetShared k) class self (v ∷ given) = steady_stuck
+  alike_run_reached (SetShared k) class self given = alike_then (steady_or_stuck _) (λ v. steady_simply false (alike_before (steady_within _) (steady_pure _)))
+  alike_run_reached (Dispatch k) class self given = steady_stuck
+  alike_run_reached Bound class self given = steady_stuck
 
-  alike_after_call : (plan : CallPlan) (backs : List (Option ℕ)) (r : Ending × List Value) → Alike level (after_call p go plan backs r) (after_call p to plan backs r)
-  alike_after_call plan backs (frames.Returned v, variables) = alike_before (alike_before (steady_put _ _) (steady_copied_back _ _)) (steady_pure _)
-  alike_after_call plan backs (frames.Raised v place kind, variables) = steady_raised _ _ _ _
-  alike_after_call plan backs (frames.Handed kind, variables) = steady_stop _
-  alike_after_call plan backs (frames.Suspended v frame, variables) = steady_stop _
-  alike_after_call plan backs (frames.Ended, variables) = steady_stop _
+  alike_after_call : (plan : CallPlan) (given : List Passed) (r : Ending × List Value) → Alike level (after_call p go plan given r) (after_call p to plan given r)
+  alike_after_call plan given (frames.Returned v, variables) = alike_before (alike_before (steady_put_given plan.value v) (steady_copied_back given variables)) (steady_pure _)
+  alike_after_call plan given (frames.Raised v place kind, variables) = steady_raised _ _ _ _
+  alike_after_call plan given (frames.Handed kind, variables) = steady_stop _
+  alike_after_call plan given (frames.Suspended v frame, variables) = steady_stuck
+  alike_after_call plan given (frames.Ended, variables) = steady_stuck
 
   pub alike_call : (rows : List (List ℕ)) (plan : CallPlan) → Alike level (call p go rows plan) (call p to rows plan)
   alike_call rows plan =
-      alike_then (steady_read _) (λ v. alike_then (steady_given _) (λ given. alike_then (steady_reached p rows _ _ _) (λ r.
-      alike_then (steady_all_given _ _) (λ values. alike_then (steady_all_backs _ _) (λ backs.
-      alike_then (alike_run_reached _ _ _ _) (λ ended. alike_after_call plan backs ended))))))
+      alike_then (steady_read _) (λ v. alike_then (steady_passed_by _) (λ given. alike_then (steady_reached p rows _ _ _) (λ r.
+      alike_then (steady_all_passed _ _) (λ all. alike_then (alike_run_reached _ _ _ _) (λ ended. alike_after_call plan all ended)))))
 
 -- ---- binds
 
@@ -162,8 +182,8 @@ steady_read_all (var ∷ more) = alike_then (steady_read var) (λ v. alike_then 
 
 module _ (p : FlatProgram) (rows : List (List ℕ)) where
   steady_chosen : {level : ℕ} (callee : Callee) (class : ℕ) (v : Value) → Steady level (chosen p rows callee class v)
-  steady_chosen (Dispatch k) class v = steady_dispatched p rows k class v
-  steady_chosen Bound class v = steady_stop _
+  steady_chosen (Dispatch k) class v = steady_dispatched p rows k v
+  steady_chosen Bound class v = steady_stuck
   steady_chosen (Body k) class v = steady_pure _
   steady_chosen (Builtin n) class v = steady_pure _
   steady_chosen (Get a) class v = steady_pure _

@@ -12,12 +12,12 @@ use Rattle.sa_flat.specs.declared.step.FlatStep.TheVariants.{Const, Move, Me, Is
 use Rattle.sa_meaning.specs.Value.{Value}
 use Rattle.sa_flat_meaning.specs.Frames.{Ending, Way, Onward, To, Leaving}
 use Rattle.sa_flat_meaning.specs.Order.{Eval}
-use Rattle.sa_flat_meaning.specs.Steps.{give, give_of, constant, array, has_type, kept_for, put_item, not_void, step}
+use Rattle.sa_flat_meaning.specs.Steps.{give, give_of, constant, array, if_class, has_type, this_is_made, widening, unwrapping, kept_for, put_item, not_void, step}
 use Rattle.sa_flat_meaning.specs.Exits.{value_of, number_in, store, suspend, exit}
 use Rattle.sa_flat_meaning.specs.Run.{this_block, next, step_or_exit, run_at, run_from}
 use Rattle.sa_flat_meaning.specs.Law.{HasLevels}
-use Rattle.sa_flat_meaning.proofs.Alike.{Alike, Steady, counts, turns, first, ends, alike_then, alike_before, alike_if, steady_stop, steady_pure, steady_or_stuck, steady_within, keeps}
-use Rattle.sa_flat_meaning.proofs.AlikeCalls.{steady_read, steady_write, steady_this, steady_fault, alike_guarded, alike_call, steady_bind}
+use Rattle.sa_flat_meaning.proofs.Alike.{Alike, Steady, counts, turns, first, ends, alike_then, alike_before, alike_if, steady_stop, steady_pure, steady_or_stuck, steady_stuck, steady_within, keeps}
+use Rattle.sa_flat_meaning.proofs.AlikeCalls.{steady_if_abstract, steady_read, steady_write, steady_this, steady_fault, alike_guarded, alike_call, steady_bind}
 use Rattle.sa_flat_meaning.proofs.AlikeInstances.{steady_frame_at, steady_set_frame, steady_entry_at, steady_release_all, alike_start, alike_resume, alike_enter_iter}
 
 -- ---- steps
@@ -39,19 +39,32 @@ module _ (p : FlatProgram) where
   steady_array : {level : ℕ} (ty count : ℕ) → Steady level (array p ty count)
   steady_array ty count = alike_then (steady_read count) (λ v. alike_then (steady_or_stuck _) (λ n. steady_within _))
 
-  steady_has_type : {level : ℕ} (from ty : ℕ) → Steady level (has_type p from ty)
-  steady_has_type from ty = alike_then (steady_read from) (λ v. alike_then (steady_within _) (λ dynamic. steady_pure _))
+  steady_if_class : {level : ℕ} (ty : ℕ) {f : Eval Value} → Steady level f → Steady level (if_class p ty f)
+  steady_if_class ty a = alike_if _ steady_stuck a
 
-  steady_kept_for : {level : ℕ} (from recv : ℕ) (types : List ℕ) → Steady level (kept_for p from recv types)
-  steady_kept_for from recv types = alike_then (steady_read from) (λ v. alike_then (steady_read recv) (λ receiver. alike_then (steady_within _) (λ dynamic. steady_within _)))
+  steady_has_type : {level : ℕ} (ty : ℕ) (v : Value) → Steady level (has_type p ty v)
+  steady_has_type ty v = steady_if_abstract v (alike_then (steady_within _) (λ dynamic. steady_pure _))
 
-steady_put_item : {level : ℕ} (array at value : ℕ) → Steady level (put_item array at value)
-steady_put_item array at value =
+  steady_this_is_made : {level : ℕ} → Steady level (this_is_made p)
+  steady_this_is_made = alike_then steady_this (λ here. steady_pure _)
+
+  steady_widening : {level : ℕ} (ty : ℕ) (v : Value) → Steady level (widening p ty v)
+  steady_widening ty v = alike_then steady_this_is_made (λ made. alike_if _ (steady_pure _) (steady_within _))
+
+  steady_unwrapping : {level : ℕ} (ty : ℕ) (v : Value) → Steady level (unwrapping p ty v)
+  steady_unwrapping ty v = alike_then steady_this_is_made (λ made. alike_if _ (steady_pure _) steady_stuck)
+
+  steady_kept_for : {level : ℕ} (from ty recv : ℕ) (types : List ℕ) → Steady level (kept_for p from ty recv types)
+  steady_kept_for from ty recv types =
+      alike_then (steady_read from) (λ v. alike_then (steady_read recv) (λ receiver. alike_if _ (steady_if_abstract receiver (alike_then (steady_within _) (λ dynamic. steady_within _))) steady_stuck))
+
+steady_put_item : {level : ℕ} (array ty at value : ℕ) → Steady level (put_item array ty at value)
+steady_put_item array ty at value =
     alike_then (steady_read _) (λ a. alike_then (steady_read _) (λ i. alike_then (steady_read _) (λ v. alike_then (steady_or_stuck _) (λ number.
-    alike_then (steady_or_stuck _) (λ place. alike_then (steady_within _) (λ o. alike_if _ (steady_within _) (steady_stop _)))))))
+    alike_then (steady_or_stuck _) (λ place. alike_then (steady_within _) (λ o. alike_if _ (steady_within _) steady_stuck))))))
 
 steady_not_void : {level : ℕ} (v : Value) → Steady level (not_void v)
-steady_not_void v = alike_if _ (steady_stop _) (steady_pure _)
+steady_not_void v = alike_if _ (steady_stop _) (steady_if_abstract v (steady_pure _))
 
 module _ (p : FlatProgram) (rows : List (List ℕ)) (level : ℕ) (go to : ℕ → ℕ → Eval Ending) (alike : (block place : ℕ) → Alike level (go block place) (to block place)) where
   alike_step : (a : FlatStep) → Alike level (step p rows go a) (step p rows to a)
@@ -60,13 +73,13 @@ module _ (p : FlatProgram) (rows : List (List ℕ)) (level : ℕ) (go to : ℕ �
   alike_step (Me x) = steady_give x (alike_then steady_this (λ here. steady_pure _))
   alike_step (IsVoid x from) = steady_give_of x from _
   alike_step Turn = turns (steady_pure _)
-  alike_step (New x ty fail) = alike_guarded p fail (steady_give x (steady_within _))
-  alike_step (NewArray x ty count fail) = alike_guarded p fail (steady_give x (steady_array p ty count))
-  alike_step (PutItem array ty at value) = alike_before (steady_put_item array at value) (steady_pure _)
-  alike_step (Widen x from ty fail) = alike_guarded p fail (steady_give x (alike_then (steady_read from) (λ v. steady_within _)))
-  alike_step (WidenFor x from ty recv types fail) = alike_guarded p fail (steady_give x (steady_kept_for p from recv types))
-  alike_step (Unwrap x from ty) = steady_give_of x from _
-  alike_step (TypeIs x from ty) = steady_give x (steady_has_type p from ty)
+  alike_step (New x ty fail) = alike_guarded p fail (steady_give x (steady_if_class p ty (steady_within _)))
+  alike_step (NewArray x ty count fail) = alike_guarded p fail (steady_give x (steady_if_class p ty (steady_array p ty count)))
+  alike_step (PutItem array ty at value) = alike_before (steady_put_item array ty at value) (steady_pure _)
+  alike_step (Widen x from ty fail) = alike_guarded p fail (steady_give x (alike_then (steady_read from) (λ v. steady_widening p ty v)))
+  alike_step (WidenFor x from ty recv types fail) = alike_guarded p fail (steady_give x (steady_kept_for p from ty recv types))
+  alike_step (Unwrap x from ty) = steady_give x (alike_then (steady_read from) (λ v. steady_unwrapping p ty v))
+  alike_step (TypeIs x from ty) = steady_give x (alike_then (steady_read from) (λ v. steady_has_type p ty v))
   alike_step (NotVoid from fail) = alike_guarded p fail (alike_then (steady_read from) (λ v. steady_not_void v))
   alike_step (InitShared shared from) = alike_before (alike_then (steady_read from) (λ v. steady_within _)) (steady_pure _)
   alike_step (Call plan) = alike_guarded p plan.fail (alike_call p level go to alike rows plan)
@@ -83,7 +96,7 @@ module _ (p : FlatProgram) (rows : List (List ℕ)) (level : ℕ) (go to : ℕ �
 
 steady_value_of : {level : ℕ} (value : Option ℕ) → Steady level (value_of value)
 steady_value_of None = steady_pure _
-steady_value_of (Some var) = steady_read var
+steady_value_of (Some var) = alike_then (steady_read var) (λ v. steady_pure _)
 
 steady_number_in : {level : ℕ} (var : ℕ) → Steady level (number_in var)
 steady_number_in var = alike_then (steady_read var) (λ v. alike_then (steady_or_stuck _) (λ z. steady_pure _))
@@ -127,7 +140,7 @@ module _ (p : FlatProgram) (rows : List (List ℕ)) (level : ℕ) (go to : ℕ �
 
 -- to a level, and to one that is no less
 alike_run_from : (p : FlatProgram) (rows : List (List ℕ)) (level other block place : ℕ) → level ≤ other → Alike level (run_from p rows level block place) (run_from p rows other block place)
-alike_run_from p rows zero zero block place few = steady_stop _
+alike_run_from p rows zero zero block place few = steady_stuck
 alike_run_from p rows zero (suc other) block place few = ends _
 alike_run_from p rows (suc level) zero block place few = absurd (omega (arith, few))
 alike_run_from p rows (suc level) (suc other) block place few = alike_run_at p rows level _ _ (λ b k. alike_run_from p rows level other b k (omega (arith, few))) block place

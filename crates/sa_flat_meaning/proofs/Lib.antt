@@ -3,4 +3,5 @@ pub mod AlikeCalls
 pub mod AlikeInstances
 pub mod AlikeSteps
 mod Computed
+mod ComputedMore
 pub mod Places

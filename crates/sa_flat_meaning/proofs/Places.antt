@@ -3,18 +3,19 @@ use Rattle.std.proofs.Common.{◌≡◌, ℕ, ◌-◌, nat_le, Bool, true, false
 use Rattle.sa_flat.specs.declared.body.FlatBlock.{FlatBlock}
 use Rattle.sa_flat.specs.declared.program.FlatProgram.{FlatProgram}
 use Rattle.sa_flat.specs.declared.step.FlatStep.{FlatStep}
-use Rattle.sa_flat_meaning.specs.Frames.{State, Gives, Stops, Stuck}
-use Rattle.sa_flat_meaning.specs.Order.{Eval, resolved, resolve, ◌>>=◌, stop, or_stuck, at_place}
+use Rattle.sa_meaning.specs.Sequence.{resolved, resolve, ◌>>=◌, stop, or_stuck, at_place, Gives, Sticks}
+use Rattle.sa_flat_meaning.specs.Frames.{State, Cause}
+use Rattle.sa_flat_meaning.specs.Order.{Eval}
 use Rattle.sa_flat_meaning.specs.Exits.{exit}
 use Rattle.sa_flat_meaning.specs.Run.{this_block, next, step_or_exit, run_from}
 use Rattle.sa_flat_meaning.specs.Law.{RunsSteps, RunsExits}
 use Rattle.sa_flat_meaning.specs.Pieces.{HasBlock}
 
-counted_alike : {A : Type 0} (b : Bool) (s t : State) (f g : Eval A) → f t ≡ g t → resolved {A = Unit {0}} (if b then Gives tt t else Stops Stuck s) (λ _. f) stop ≡ resolved {A = Unit {0}} (if b then Gives tt t else Stops Stuck s) (λ _. g) stop
+counted_alike : {A : Type 0} (b : Bool) (s t : State) (f g : Eval A) → f t ≡ g t → resolved {A = Unit {0}} (if b then Gives tt t else Sticks s) (λ _. f) stop ≡ resolved {A = Unit {0}} (if b then Gives tt t else Sticks s) (λ _. g) stop
 counted_alike true s t f g e = e
 counted_alike false s t f g e = refl
 
-found : {A : Type 0} (list : List A) (place : ℕ) (a : A) (s : State) → slice_get list place ≡ Some a → at_place list place s ≡ Gives a s
+found : {A : Type 0} (list : List A) (place : ℕ) (a : A) (s : State) → slice_get list place ≡ Some a → at_place {C = Cause} list place s ≡ Gives a s
 unfolding or_stuck
 found list place a s e = ap (λ o. or_stuck o s) e
 

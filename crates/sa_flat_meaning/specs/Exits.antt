@@ -3,16 +3,17 @@ use Rattle.std.specs.Prelude.{ℕ, if◌then◌else◌, Option, Some, None}
 use Rattle.sa_flat.specs.declared.step.FlatExit.{FlatExit}
 use Rattle.sa_flat.specs.declared.step.FlatExit.TheVariants.{Jump, Branch, Return, Suspend, Quit, Raise, Stop}
 use Rattle.sa_flat.specs.declared.program.FlatProgram.{FlatProgram}
-use Rattle.sa_meaning.specs.Value.{Value, Void, as_int, as_truth}
+use Rattle.sa_meaning.specs.Value.{Value, as_int, as_truth}
+use Rattle.sa_meaning.specs.Sequence.{◌>>=◌, ◌>>◌, pure, or_stuck, at_place}
 use Rattle.sa_meaning.specs.Builtin.{place_of}
 use Rattle.sa_flat_meaning.specs.Frames.{Frame, Activation, Returned, Suspended, Ended, Raised, Way, To, Leaving}
-use Rattle.sa_flat_meaning.specs.Order.{Eval, ◌>>=◌, ◌>>◌, pure, or_stuck, at_place, count, read, this}
+use Rattle.sa_flat_meaning.specs.Order.{Eval, count, read, this}
 use Rattle.sa_flat_meaning.specs.Faults.{fault}
 use Rattle.sa_flat_meaning.specs.Instances.{frame_at, set_frame}
 
-abbrev pub value_of : Option ℕ → Eval Value
-value_of None = pure Void
-value_of (Some var) = read var
+abbrev pub value_of : Option ℕ → Eval (Option Value)
+value_of None = pure None
+value_of (Some var) = read var >>= (λ v. pure (Some v))
 
 abbrev pub number_in : ℕ → Eval ℕ
 number_in var = do

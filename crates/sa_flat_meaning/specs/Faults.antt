@@ -4,12 +4,12 @@ use Rattle.std.specs.Option.{option_map_or}
 use Rattle.sa_flat.specs.declared.call.Fail.{Fail}
 use Rattle.sa_flat.specs.declared.call.Raised.{Raised}
 use Rattle.sa_flat.specs.declared.program.FlatProgram.{FlatProgram}
-use Rattle.sa_meaning.specs.Value.{Value, Int, Ref}
-use Rattle.sa_meaning.specs.Program.{fault_type}
+use Rattle.sa_meaning.specs.Value.{Value, Int, Ref, fault_type}
+use Rattle.sa_meaning.specs.Sequence.{resolve, ◌>>=◌, ◌>>◌, pure, look, stop}
 use Rattle.sa_meaning.specs.State.{Object}
-use Rattle.sa_meaning.specs.Steps.{plain, object_size, assertion, take_room, add_object}
+use Rattle.sa_meaning.specs.Steps.{plain, object_size, can_be_caught, take_room, add_object}
 use Rattle.sa_flat_meaning.specs.Frames.{Way, To, Leaving, Handed, Cause, Faulted, Failed}
-use Rattle.sa_flat_meaning.specs.Order.{Eval, resolve, ◌>>=◌, ◌>>◌, pure, look, stop, within, write, write_number, this}
+use Rattle.sa_flat_meaning.specs.Order.{Eval, within, write, write_number, this}
 
 -- to a block, with the raised value, the place of its position and its kind in variables
 abbrev pub raised : Raised → Value → ℕ → ℕ → Eval Way
@@ -28,11 +28,11 @@ raise_new fail kind = do
   number ← within (add_object (fault_object kind fail.line))
   raised fail.raised (Ref number) fail.place kind
 
--- Want of room, of depth and of frames stops the program, and so does each fault for whose object no room is left.
+-- A fault that can't be caught stops the program, and so does each fault for whose object no room is left.
 abbrev pub fault_here : Fail → ℕ → Eval Way
 fault_here fail kind = do
   room ← look (λ s. s.world.room)
-  if nat_le kind assertion && nat_le (object_size 2 0) room then raise_new fail kind else stop (Failed kind fail.place)
+  if can_be_caught kind && nat_le (object_size 2 0) room then raise_new fail kind else stop (Failed kind fail.place)
 
 -- a body without a feature, the last one aside
 abbrev pub hands_on : FlatProgram → ℕ → Bool

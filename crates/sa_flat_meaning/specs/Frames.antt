@@ -1,6 +1,8 @@
 -- What a running flat program has at each moment, and how a body, a step and a run of steps end.
 use Rattle.std.specs.Prelude.{ℕ, List, Option}
+use Rattle.sa_flat.specs.declared.call.Callee.{Callee}
 use Rattle.sa_meaning.specs.Value.{Value}
+use Rattle.sa_meaning.specs.Sequence.{Out}
 use Rattle.sa_meaning.specs.State as language
 
 -- ---- instances
@@ -11,6 +13,8 @@ pub record Frame : Type 0 where
   -- the body that was entered at the start, which is another than the feature's where it was made for an implementation
   pub body : ℕ
   pub feature : ℕ
+  -- what the step that started it calls
+  pub called : Callee
   -- the block in which it goes on
   pub block : ℕ
   pub self : Value
@@ -20,10 +24,12 @@ pub record Frame : Type 0 where
   -- the numbers of the frames at its sites
   pub sites : List (Option ℕ)
 
--- Where an instance is started or resumed: a site of a feature, with the bound value that a start goes through.
+-- Where an instance is started or resumed: a site of a feature, with what is called there, and the bound value that a start
+-- goes through.
 pub record Station : Type 0 where
   pub feature : ℕ
   pub site : ℕ
+  pub called : Callee
   pub through : Option ℕ
 
 -- ---- the run of a body
@@ -55,8 +61,9 @@ pub record State : Type 0 where
 -- ---- how a body ends
 
 pub data Ending : Type 0 where
-  Returned : Value → Ending
-  Suspended : Value → (frame : ℕ) → Ending
+  -- with the value that it gives, if it gives one
+  Returned : Option Value → Ending
+  Suspended : Option Value → (frame : ℕ) → Ending
   Ended : Ending
   -- the place is that of a position in the program's positions
   Raised : (exception : Value) → (place kind : ℕ) → Ending
@@ -79,11 +86,6 @@ pub data Cause : Type 0 where
   -- a fault that stops the program
   Failed : (kind place : ℕ) → Cause
   InputFailed : Cause
-  -- no rule says how to go on, or too many steps are done
-  Stuck : Cause
 
-pub data Out (A : Type 0) : Type 0 where
-  Gives : A → State → Out A
-  Stops : Cause → State → Out A
-  -- a turn is due, and none is left
-  Exhausts : State → Out A
+abbrev pub Outcome : Type 0 → Type 0
+Outcome A = Out State Cause A

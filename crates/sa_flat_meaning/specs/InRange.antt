@@ -1,4 +1,4 @@
--- That the numbers in steps and exits name something.
+-- That the numbers in steps and exits name something, and that lines and kinds of faults are such.
 use Rattle.std.specs.Prelude.{◌≡◌, ℕ, ◌+◌, ◌-◌, ◌<◌, ◌≤◌, List, length, slice_get, All, Some, IfSome}
 use Rattle.sa_flat.specs.declared.body.FlatBlock.{FlatBlock}
 use Rattle.sa_flat.specs.declared.body.FlatBody.{FlatBody}
@@ -16,6 +16,7 @@ use Rattle.sa_flat.specs.declared.step.FlatExit.{FlatExit}
 use Rattle.sa_flat.specs.declared.step.FlatExit.TheVariants.{Jump, Branch, Return, Suspend, Quit, Raise, Stop}
 use Rattle.sa_flat.specs.declared.step.FlatStep.{FlatStep}
 use Rattle.sa_flat.specs.declared.step.FlatStep.TheVariants.{Const, Move, Me, IsVoid, Turn, New, NewArray, PutItem, Widen, WidenFor, Unwrap, TypeIs, NotVoid, InitShared, Call, Bind, HasEntry, Start, Resume, HasFrame, Enter, Release, Raising}
+use Rattle.sa_meaning.specs.Steps.{no_branch, assertion}
 use Rattle.sa_meaning.specs.Builtin.{builtins}
 use Rattle.sa_flat_meaning.specs.Calls.{width}
 
@@ -76,7 +77,7 @@ module _ (b : FlatBody) where
 
 module _ (p : FlatProgram) (rows : List (List ℕ)) (b : FlatBody) where
   abbrev pub IsFail : Fail → Type 0
-  IsFail fail = IsPlace p fail.place × IsRaised b fail.raised
+  IsFail fail = IsPlace p fail.place × (fail.line ≤ 2147483647) × IsRaised b fail.raised
 
   pub record IsPlan (plan : CallPlan) : Type 0 where
     pub callee : IsReached p rows plan.class plan.callee
@@ -118,7 +119,7 @@ module _ (p : FlatProgram) (rows : List (List ℕ)) (b : FlatBody) where
   IsExit (Suspend value resume) = IfSome value (IsVariable b) × IfSome resume (IsBlock b)
   IsExit Quit = Unit {0}
   IsExit (Raise value place kind) = IsVariable b value × IsVariable b place × IsVariable b kind
-  IsExit (Stop kind fail) = IsFail fail
+  IsExit (Stop kind fail) = (no_branch ≤ kind) × (kind ≤ assertion) × IsFail fail
 
   abbrev pub IsWellBlock : FlatBlock → Type 0
   IsWellBlock block = All IsStep block.steps × IsExit block.exit

@@ -1,20 +1,20 @@
 -- Instances of iters: their frames, starts and resumptions, suspensions and ends.
-use Rattle.std.specs.Prelude.{ℕ, zero, suc, ◌+◌, ◌-◌, Bool, true, false, not, nat_le, if◌then◌else◌, List, [], ◌∷◌, ◌++◌, map, length, set, Option, Some, None, is_some}
+use Rattle.std.specs.Prelude.{ℕ, zero, suc, ◌+◌, ◌-◌, Bool, true, false, not, ◌==◌, nat_le, if◌then◌else◌, List, [], ◌∷◌, ◌++◌, length, set, Option, Some, None, is_some}
 use Rattle.sa_flat.specs.declared.body.FlatBody.{FlatBody}
 use Rattle.sa_flat.specs.declared.call.Callee.{Callee}
-use Rattle.sa_flat.specs.declared.call.Callee.TheVariants.{Body}
+use Rattle.sa_flat.specs.declared.call.Callee.TheVariants.{Body, Dispatch, Bound}
 use Rattle.sa_flat.specs.declared.call.CallPlan.{CallPlan}
 use Rattle.sa_flat.specs.declared.call.FlatArg.{FlatArg}
 use Rattle.sa_flat.specs.declared.program.FlatProgram.{FlatProgram}
 use Rattle.sa_meaning.specs.Value.{Value, Truth}
+use Rattle.sa_meaning.specs.Sequence.{resolve, ◌>>=◌, ◌>>◌, pure, stop, or_stuck, at_place, look, change, with_place, stuck}
 use Rattle.sa_meaning.specs.State as language
 use Rattle.sa_meaning.specs.Steps.{frames}
-use Rattle.sa_meaning.specs.Calls.{filled}
-use Rattle.sa_meaning.specs.Instances.{is_once, unless_once, out_void}
-use Rattle.sa_flat_meaning.specs.Frames.{Frame, Station, Activation, Ending, Suspended, Ended, Raised, Handed, Way, Onward, Leaving, Cause, Faulted, Stuck}
-use Rattle.sa_flat_meaning.specs.Order.{Eval, resolve, ◌>>=◌, ◌>>◌, pure, stop, or_stuck, at_place, count, turn, look, change, read, write, put, this}
+use Rattle.sa_meaning.specs.Calls.{is_once}
+use Rattle.sa_flat_meaning.specs.Frames.{Frame, Station, Activation, Ending, Suspended, Ended, Raised, Handed, Way, Onward, Leaving, Cause, Faulted}
+use Rattle.sa_flat_meaning.specs.Order.{Eval, count, turn, read, write, put_given, this}
 use Rattle.sa_flat_meaning.specs.Faults.{raised}
-use Rattle.sa_flat_meaning.specs.Calls.{given_by_all, backs_of, copied_back, all_given, all_backs, reached, void_formals, first_variables, no_frames, checked_depth, run_body}
+use Rattle.sa_flat_meaning.specs.Calls.{Passed, passed, passed_by, copied_back, all_passed, reached, void_formals, with_others, first_variables, variables_anew, no_frames, checked_depth, run_body}
 
 -- ---- frames and sites
 
@@ -32,18 +32,32 @@ abbrev pub entry_at : ℕ → Eval (Option ℕ)
 entry_at site = look (λ s. s.here.sites) >>= (λ sites. at_place sites site)
 
 abbrev pub set_entry : ℕ → Option ℕ → Eval (Unit {0})
-set_entry site frame = change (λ s. record s { here = record (s.here) { sites = set s.here.sites site frame } })
+set_entry site frame = do
+  sites ← look (λ s. s.here.sites)
+  changed ← with_place sites site frame
+  change (λ s. record s { here = record (s.here) { sites = changed } })
 
 abbrev pub set_running : Option ℕ → Eval (Unit {0})
 set_running frame = change (λ s. record s { here = record (s.here) { frame = frame } })
 
--- a site of the running feature
-abbrev pub station : FlatProgram → ℕ → Option ℕ → Eval Station
-station p site through = do
+abbrev pub this_feature : FlatProgram → Eval ℕ
+this_feature p = do
   here ← this
   b ← at_place p.bodies here.body
-  feature ← or_stuck b.feature
-  pure (record { feature = feature; site = site; through = through })
+  or_stuck b.feature
+
+-- a site of the running feature
+abbrev pub station : FlatProgram → ℕ → Callee → Option ℕ → Eval Station
+station p site called through = do
+  feature ← this_feature p
+  pure (record { feature = feature; site = site; called = called; through = through })
+
+-- the callees of iters
+abbrev pub same_callee : Callee → Callee → Bool
+same_callee (Body a) (Body b) = a == b
+same_callee (Dispatch a) (Dispatch b) = a == b
+same_callee Bound Bound = true
+same_callee _ _ = false
 
 -- ---- events
 
@@ -72,7 +86,7 @@ release_each release site (frame ∷ more) = release site frame >> release_each 
 -- Each site that is looked at is a step. No instance is inside itself, so that the number of frames is depth enough.
 abbrev pub release : ℕ → ℕ → ℕ → Option ℕ → Eval (Unit {0})
 release depth feature site None = count 1
-release zero feature site (Some number) = stop Stuck
+release zero feature site (Some number) = stuck
 release (suc depth) feature site (Some number) = do
   count 1
   frame ← frame_at number
@@ -83,30 +97,24 @@ abbrev pub release_all : FlatProgram → List ℕ → Eval (Unit {0})
 release_all p [] = pure tt
 release_all p (site ∷ more) = do
   frames ← look (λ s. s.frames)
-  here ← station p site None
+  feature ← this_feature p
   entry ← entry_at site
-  release (length frames) here.feature site entry
+  release (length frames) feature site entry
   set_entry site None
   release_all p more
 
 -- ---- arguments of a resumption
 
-abbrev pub not_once : FlatArg → Bool
-not_once a = not (is_once a.mode)
-
 -- The variables of `once` arguments aren't read.
-abbrev pub given_anew : List FlatArg → Eval (List (Option Value))
-given_anew [] = pure []
-given_anew (a ∷ more) = do
-  v ← (if not_once a then given_by_all (a ∷ []) else pure (None ∷ []))
-  vs ← given_anew more
-  pure (v ++ vs)
+abbrev pub passed_if_not_once : FlatArg → Eval Passed
+passed_if_not_once a = if is_once a.mode then pure (record { mode = Some a.mode; value = None; back = None }) else passed a
 
--- The arguments that aren't `once` are set anew, and those that come out are void.
-abbrev pub anew : FlatProgram → FlatBody → List (Option Value) → List Value → List Value
-anew p b given variables =
-    let modes = map (λ f. f.mode) b.formals in
-    filled (out_void modes (void_formals p b) variables) (unless_once modes given)
+abbrev pub passed_anew : List FlatArg → Eval (List Passed)
+passed_anew [] = pure []
+passed_anew (a ∷ more) = do
+  first ← passed_if_not_once a
+  rest ← passed_anew more
+  pure (first ∷ rest)
 
 -- ---- runs of instances
 
@@ -118,11 +126,11 @@ abbrev pub after_run : Station → ℕ → Ending × List Value → Eval (Ending
 after_run at number (Suspended v frame, variables) = tell (language.Yields at.feature at.site number) >> pure (Suspended v frame, variables)
 after_run at number (Ended, variables) = ends at.feature at.site number language.Quits >> pure (Ended, variables)
 after_run at number (Raised v place kind, variables) = ends at.feature at.site number language.Abandon >> pure (Raised v place kind, variables)
-after_run at number _ = stop Stuck
+after_run at number _ = stuck
 
 -- that of a start, before block 0
-abbrev pub new_frame : FlatProgram → Station → ℕ → ℕ → FlatBody → Value → List (Option Value) → ℕ → Frame
-new_frame p at entered feature b self given number = record { number = number; body = entered; feature = feature; block = 0; self = self; through = at.through; variables = first_variables p b given; sites = no_frames b }
+abbrev pub new_frame : Station → ℕ → ℕ → FlatBody → Value → List Value → ℕ → Frame
+new_frame at entered feature b self variables number = record { number = number; body = entered; feature = feature; called = at.called; block = 0; self = self; through = at.through; variables = variables; sites = no_frames b }
 
 -- From a block and a place in it on, `go` runs a body.
 module _ (p : FlatProgram) (go : ℕ → ℕ → Eval Ending) where
@@ -135,92 +143,104 @@ module _ (p : FlatProgram) (go : ℕ → ℕ → Eval Ending) where
     after_run at frame.number r
 
   -- a new frame, for a feature's body that is reached by way of a body or itself
-  abbrev pub add_frame : Station → ℕ → ℕ → FlatBody → Value → List (Option Value) → Eval Frame
-  add_frame at entered feature b self given = do
+  abbrev pub add_frame : Station → ℕ → ℕ → FlatBody → Value → List Value → Eval Frame
+  add_frame at entered feature b self variables = do
     number ← look (λ s. s.world.started)
-    let frame = new_frame p at entered feature b self given number
+    let frame = new_frame at entered feature b self variables number
     change (λ s. record s { world = one_more s.world; frames = s.frames ++ Some frame ∷ [] })
     tell (language.Start at.feature at.site number)
     pure frame
 
   -- a start, whose turn is spent
-  abbrev pub begin : Station → ℕ → ℕ → Value → List (Option Value) → Eval (Ending × List Value)
+  abbrev pub begin : Station → ℕ → ℕ → Value → List Passed → Eval (Ending × List Value)
   begin at entered k self given = do
     b ← at_place p.bodies k
     feature ← or_stuck b.feature
+    variables ← first_variables p b given
     caller ← this
     checked_depth caller
     checked_live
-    frame ← add_frame at entered feature b self given
+    frame ← add_frame at entered feature b self variables
     run_instance at k b frame
 
-  -- a resumption, whose turn is spent
-  abbrev pub continue : Station → ℕ → ℕ → List (Option Value) → Eval (Ending × List Value)
-  continue at k number given = do
+  -- a resumption of a feature's instance, whose turn is spent
+  abbrev pub continue_frame : Station → ℕ → Frame → List Passed → Eval (Ending × List Value)
+  continue_frame at k frame given = do
     b ← at_place p.bodies k
-    frame ← frame_at number
+    variables ← variables_anew p b given frame.variables
     caller ← this
     checked_depth caller
-    tell (language.Resume at.feature at.site number)
-    run_instance at k b (record frame { variables = anew p b given frame.variables })
+    tell (language.Resume at.feature at.site frame.number)
+    run_instance at k b (record frame { variables = variables })
+
+  abbrev pub continue : Station → ℕ → ℕ → List Passed → Eval (Ending × List Value)
+  continue at k number given = do
+    frame ← frame_at number
+    if k == frame.feature then continue_frame at k frame given else stuck
 
   -- ---- starts and resumptions at a site
 
-  abbrev pub after_iter : ℕ → CallPlan → ℕ → List (Option ℕ) → Ending × List Value → Eval Way
-  after_iter site plan quit backs (Suspended v frame, variables) = do
+  abbrev pub after_iter : ℕ → CallPlan → ℕ → List Passed → Ending × List Value → Eval Way
+  after_iter site plan quit given (Suspended v frame, variables) = do
     set_entry site (Some frame)
     write quit (Truth false)
-    put plan.value v
-    copied_back backs variables
+    put_given plan.value v
+    copied_back given variables
     pure Onward
-  after_iter site plan quit backs (Ended, variables) = set_entry site None >> write quit (Truth true) >> pure Onward
-  after_iter site plan quit backs (Raised v place kind, variables) = set_entry site None >> raised plan.fail.raised v place kind
-  after_iter site plan quit backs (Handed kind, variables) = stop (Faulted kind)
-  after_iter site plan quit backs _ = stop Stuck
+  after_iter site plan quit given (Ended, variables) = set_entry site None >> write quit (Truth true) >> pure Onward
+  after_iter site plan quit given (Raised v place kind, variables) = set_entry site None >> raised plan.fail.raised v place kind
+  after_iter site plan quit given (Handed kind, variables) = stop (Faulted kind)
+  after_iter site plan quit given _ = stuck
 
   -- a body that was made for an implementation, entered for a site
-  abbrev pub run_for : Station → ℕ → FlatBody → Value → Option ℕ → List (Option Value) → Eval (Ending × List Value)
-  run_for at k b self frame given = do
+  abbrev pub run_for : Station → ℕ → FlatBody → Value → Option ℕ → List Value → Eval (Ending × List Value)
+  run_for at k b self frame variables = do
     caller ← this
-    run_body p go 0 (record { body = k; self = self; variables = first_variables p b given; sites = no_frames b; frame = frame; station = Some at; depth = caller.depth })
+    run_body p go 0 (record { body = k; self = self; variables = variables; sites = no_frames b; frame = frame; station = Some at; depth = caller.depth })
 
-  abbrev pub started : Station → ℕ → Value → List (Option Value) → Eval (Ending × List Value)
+  abbrev pub started : Station → ℕ → Value → List Passed → Eval (Ending × List Value)
   started at k self given = do
     b ← at_place p.bodies k
-    if not b.iter then stop Stuck else (if is_some b.feature then turn (begin at k k self given) else run_for at k b self None given)
+    if not b.iter then stuck
+        else (if is_some b.feature then turn (begin at k k self given) else (first_variables p b given >>= run_for at k b self None))
 
-  abbrev pub resumed : Station → Frame → List (Option Value) → Eval (Ending × List Value)
+  -- A body that was made for an implementation is entered with void `once` arguments.
+  abbrev pub resumed : Station → Frame → List Passed → Eval (Ending × List Value)
   resumed at frame given = do
     b ← at_place p.bodies frame.body
-    if is_some b.feature then turn (continue at frame.body frame.number given) else run_for at frame.body b frame.self (Some frame.number) given
+    if is_some b.feature then turn (continue at frame.body frame.number given)
+        else (variables_anew p b given (with_others b (void_formals p b)) >>= run_for at frame.body b frame.self (Some frame.number))
 
-  abbrev pub start_of : Station → Callee → Value → List (Option Value) → Eval (Ending × List Value)
+  abbrev pub start_of : Station → Callee → Value → List Passed → Eval (Ending × List Value)
   start_of at (Body k) self given = started at k self given
-  start_of at callee self given = stop Stuck
+  start_of at callee self given = stuck
 
   abbrev pub start : List (List ℕ) → ℕ → CallPlan → ℕ → Eval Way
   start rows site plan quit = do
     v ← read plan.recv
-    given ← given_by_all plan.args
+    given ← passed_by plan.args
     r ← reached p rows plan.callee plan.class v
-    values ← all_given r.through given
-    backs ← all_backs r.through (backs_of plan.args)
-    at ← station p site r.through
-    ended ← start_of at r.callee r.self values
-    after_iter site plan quit backs ended
+    all ← all_passed r.through given
+    at ← station p site plan.callee r.through
+    ended ← start_of at r.callee r.self all
+    after_iter site plan quit all ended
 
   -- The receiver isn't read.
+  abbrev pub resume_frame : ℕ → CallPlan → ℕ → Frame → Eval Way
+  resume_frame site plan quit frame = do
+    given ← passed_anew plan.args
+    all ← all_passed frame.through given
+    at ← station p site frame.called frame.through
+    ended ← resumed at frame all
+    after_iter site plan quit all ended
+
+  -- the instance of a site, which a step with the same callee started
   abbrev pub resume : ℕ → CallPlan → ℕ → Eval Way
   resume site plan quit = do
     entry ← entry_at site
     number ← or_stuck entry
     frame ← frame_at number
-    given ← given_anew plan.args
-    values ← all_given frame.through given
-    backs ← all_backs frame.through (backs_of plan.args)
-    at ← station p site frame.through
-    ended ← resumed at frame values
-    after_iter site plan quit backs ended
+    if same_callee plan.callee frame.called then resume_frame site plan quit frame else stuck
 
   -- ---- the entry into an iter's body, from a body that was made for an implementation
 
@@ -228,19 +248,19 @@ module _ (p : FlatProgram) (go : ℕ → ℕ → Eval Ending) where
   handed_on (Faulted kind) = pure (Leaving (Handed kind))
   handed_on cause = stop cause
 
-  abbrev pub after_enter : List FlatArg → Option ℕ → ℕ → Ending × List Value → Eval Way
-  after_enter args value quit (Suspended v frame, variables) = do
+  abbrev pub after_enter : List Passed → Option ℕ → ℕ → Ending × List Value → Eval Way
+  after_enter given value quit (Suspended v frame, variables) = do
     set_running (Some frame)
     write quit (Truth false)
-    put value v
-    copied_back (backs_of args) variables
+    put_given value v
+    copied_back given variables
     pure Onward
-  after_enter args value quit (Ended, variables) = write quit (Truth true) >> pure Onward
-  after_enter args value quit (Raised v place kind, variables) = pure (Leaving (Raised v place kind))
-  after_enter args value quit _ = stop Stuck
+  after_enter given value quit (Ended, variables) = write quit (Truth true) >> pure Onward
+  after_enter given value quit (Raised v place kind, variables) = pure (Leaving (Raised v place kind))
+  after_enter given value quit _ = stuck
 
   -- A start where no frame is there yet. The receiver is read at a start alone.
-  abbrev pub run_entered : ℕ → Activation → Station → ℕ → List (Option Value) → Option ℕ → Eval (Ending × List Value)
+  abbrev pub run_entered : ℕ → Activation → Station → ℕ → List Passed → Option ℕ → Eval (Ending × List Value)
   run_entered k here at recv given None = read recv >>= (λ self. turn (begin at here.body k self given))
   run_entered k here at recv given (Some number) = turn (continue at k number given)
 
@@ -248,9 +268,9 @@ module _ (p : FlatProgram) (go : ℕ → ℕ → Eval Ending) where
   entered_for k recv args value quit = do
     here ← this
     at ← or_stuck here.station
-    given ← given_by_all args
+    given ← passed_by args
     ended ← run_entered k here at recv given here.frame
-    after_enter args value quit ended
+    after_enter given value quit ended
 
   abbrev pub enter_iter : ℕ → ℕ → List FlatArg → Option ℕ → ℕ → Eval Way
   enter_iter k recv args value quit = resolve (entered_for k recv args value quit) pure handed_on

@@ -3,8 +3,9 @@ use Rattle.std.specs.Prelude.{◌≡◌, ℕ, suc, ◌≤◌, List}
 use Rattle.sa_flat.specs.declared.program.FlatProgram.{FlatProgram}
 use Rattle.sa_flat.specs.declared.step.FlatExit.{FlatExit}
 use Rattle.sa_flat.specs.declared.step.FlatStep.{FlatStep}
+use Rattle.sa_meaning.specs.Sequence.{◌>>=◌, ◌>>◌}
 use Rattle.sa_flat_meaning.specs.Frames.{State}
-use Rattle.sa_flat_meaning.specs.Order.{◌>>=◌, ◌>>◌, count}
+use Rattle.sa_flat_meaning.specs.Order.{count}
 use Rattle.sa_flat_meaning.specs.Steps.{step}
 use Rattle.sa_flat_meaning.specs.Exits.{exit}
 use Rattle.sa_flat_meaning.specs.Run.{next, run_from}

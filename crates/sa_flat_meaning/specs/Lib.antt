@@ -5,9 +5,11 @@ pub mod Frames
 pub mod InRange
 pub mod Instances
 pub mod Law
+pub mod MoreSamples
 pub mod Order
 pub mod Pieces
 pub mod Run
 pub mod Samples
 pub mod Steps
+pub mod Targets
 pub mod WellFlat

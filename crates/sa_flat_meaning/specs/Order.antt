@@ -1,58 +1,23 @@
--- How steps follow one another, what they count, and what they take from the meaning of the language.
-use Rattle.std.specs.Prelude.{ℕ, zero, suc, ◌-◌, pos, false, nat_le, if◌then◌else◌, List, [], ◌∷◌, ◌++◌, map, set, slice_get, Option, Some, None}
+-- What steps count, and what they take from the meaning of the language.
+use Rattle.std.specs.Prelude.{ℕ, zero, suc, ◌-◌, pos, true, false, nat_le, if◌then◌else◌, [], ◌∷◌, ◌++◌, map, Option, Some, None, is_some}
 use Rattle.sa_flat.specs.declared.program.FlatProgram.{FlatProgram}
 use Rattle.sa_flat.specs.declared.program.Layout.{Layout}
 use Rattle.sa_tree.specs.declared.pos.Pos.{Pos}
-use Rattle.sa_meaning.specs.Value.{Value, Int}
+use Rattle.sa_meaning.specs.Value.{Value, Int, raw_type}
 use Rattle.sa_meaning.specs.Program.{TypeRow, Program}
+use Rattle.sa_meaning.specs.Sequence.{Step, Gives, Stops, Exhausts, Sticks, ◌>>=◌, pure, look, change, stop, stuck, at_place, with_place}
 use Rattle.sa_meaning.specs.State as language
 use Rattle.sa_meaning.specs.Steps as language_steps
-use Rattle.sa_flat_meaning.specs.Frames.{Activation, State, Cause, Faulted, InputFailed, Stuck, Out, Gives, Stops, Exhausts}
+use Rattle.sa_flat_meaning.specs.Frames.{Activation, State, Cause, Faulted, InputFailed, Outcome}
 
 abbrev pub Eval : Type 0 → Type 0
-Eval A = State → Out A
-
-abbrev pub resolved : {A B : Type 0} → Out A → (A → Eval B) → (Cause → Eval B) → Out B
-resolved (Gives a s) next stopped = next a s
-resolved (Stops c s) next stopped = stopped c s
-resolved (Exhausts s) next stopped = Exhausts s
-
--- a step, and then one step where it gives a value, and another where it stops
-unfoldable pub resolve : {A B : Type 0} → Eval A → (A → Eval B) → (Cause → Eval B) → Eval B
-resolve f next stopped = λ s. resolved (f s) next stopped
-
-abbrev pub stop : {A : Type 0} → Cause → Eval A
-stop c = λ s. Stops c s
-
-infixl 10 ◌>>=◌
-abbrev pub ◌>>=◌ : {A B : Type 0} → Eval A → (A → Eval B) → Eval B
-f >>= next = resolve f next stop
-
-infixl 10 ◌>>◌
-abbrev pub ◌>>◌ : {A B : Type 0} → Eval A → Eval B → Eval B
-f >> g = resolve f (λ _. g) stop
-
-abbrev pub pure : {A : Type 0} → A → Eval A
-pure a = λ s. Gives a s
-
-abbrev pub look : {A : Type 0} → (State → A) → Eval A
-look see = λ s. Gives (see s) s
-
-abbrev pub change : (State → State) → Eval (Unit {0})
-change f = λ s. Gives tt (f s)
-
-unfoldable pub or_stuck : {A : Type 0} → Option A → Eval A
-or_stuck (Some a) = pure a
-or_stuck None = stop Stuck
-
-abbrev pub at_place : {A : Type 0} → List A → ℕ → Eval A
-at_place list place = or_stuck (slice_get list place)
+Eval A = Step State Cause A
 
 -- ---- what is counted
 
 -- so many flat steps
 abbrev pub count : ℕ → Eval (Unit {0})
-count n = λ s. if nat_le n s.steps then Gives tt (record s { steps = s.steps - n }) else Stops Stuck s
+count n = λ s. if nat_le n s.steps then Gives tt (record s { steps = s.steps - n }) else Sticks s
 
 abbrev pub turned : {A : Type 0} → ℕ → Eval A → Eval A
 turned zero f s = Exhausts s
@@ -66,33 +31,39 @@ turn f = λ s. turned s.world.turns f s
 
 -- The types alone: the meaning of the language looks at nothing else here.
 abbrev pub type_row : Layout → TypeRow
-type_row t = record { kind = t.kind; attrs = t.attrs; elem = t.elem; above = t.above; wide = false }
+type_row t = record { kind = t.kind; attrs = t.attrs; elem = t.elem; above = t.above; wide_args = []; wide = false }
 
 abbrev pub types_of : FlatProgram → Program
-types_of p = record { types = map type_row p.layouts; features = []; signatures = []; shareds = []; main = 0; places = []; lines = [] }
+types_of p = record { types = map type_row p.layouts; features = []; signatures = []; shareds = []; main = 0; places = []; lines = []; faults_raise = true }
 
 -- a position that is told to nothing
 abbrev pub nowhere : Pos
 nowhere = record { file = 0; at = 0 }
 
+-- the world after a step of the language, each turn of which counts as a flat step too, and then what follows
+abbrev pub spent : {A : Type 0} → State → language.State → Eval A → Outcome A
+spent s world next =
+    let turns = s.world.turns - world.turns in
+    if nat_le turns s.steps then next (record s { world = world; steps = s.steps - turns }) else Sticks s
+
 -- A step of the language that raises a fault has changed nothing before it but made the fault's object, which is made
 -- anew where the fault goes to.
-abbrev pub seen : {A : Type 0} → State → language.Out A → Out A
-seen s (language.Gives a world) = Gives a (record s { world = world })
-seen s (language.Stops (language.Raised exception kind at) world) = Stops (Faulted kind) s
-seen s (language.Stops (language.Failed kind at) world) = Stops (Faulted kind) (record s { world = world })
-seen s (language.Stops language.InputFailed world) = Stops InputFailed (record s { world = world })
-seen s (language.Stops _ world) = Stops Stuck (record s { world = world })
-seen s (language.Exhausts world) = Exhausts (record s { world = world })
+abbrev pub seen : {A : Type 0} → State → language.Outcome A → Outcome A
+seen s (Gives a world) = spent s world (pure a)
+seen s (Stops (language.Raised exception kind at) world) = Stops (Faulted kind) s
+seen s (Stops (language.Failed kind at) world) = spent s world (stop (Faulted kind))
+seen s (Stops language.InputFailed world) = spent s world (stop InputFailed)
+seen s (Stops language.Broke world) = Sticks s
+seen s (Exhausts world) = spent s world (λ t. Exhausts t)
+seen s (Sticks world) = Sticks s
 
--- a step of the language, each turn of which counts as a flat step too
+-- a step of the language
 unfoldable pub within : {A : Type 0} → language_steps.Eval A → Eval A
-within f = do
-  before ← look (λ s. s.world.turns)
-  a ← (λ s. seen s (f s.world))
-  after ← look (λ s. s.world.turns)
-  count (before - after)
-  pure a
+within f = λ s. seen s (f s.world)
+
+-- a step on a value at an abstract type, at which one of an immutable class stands only if it is widened
+abbrev pub if_abstract : {A : Type 0} → Value → Eval A → Eval A
+if_abstract v f = if is_some (raw_type v) then stuck else f
 
 -- ---- variables
 
@@ -100,12 +71,21 @@ abbrev pub read : ℕ → Eval Value
 read var = look (λ s. s.here.variables) >>= (λ variables. at_place variables var)
 
 abbrev pub write : ℕ → Value → Eval (Unit {0})
-write var v = change (λ s. record s { here = record (s.here) { variables = set s.here.variables var v } })
+write var v = do
+  variables ← look (λ s. s.here.variables)
+  changed ← with_place variables var v
+  change (λ s. record s { here = record (s.here) { variables = changed } })
 
 -- where there is a variable for it
 abbrev pub put : Option ℕ → Value → Eval (Unit {0})
 put None v = pure tt
 put (Some var) v = write var v
+
+-- what a callee gives, where there is a variable for it
+abbrev pub put_given : Option ℕ → Option Value → Eval (Unit {0})
+put_given None v = pure tt
+put_given (Some var) None = stuck
+put_given (Some var) (Some v) = write var v
 
 abbrev pub write_number : ℕ → ℕ → Eval (Unit {0})
 write_number var n = write var (Int (pos n))

@@ -1,17 +1,18 @@
 -- Runs of bodies from a place on, and whole runs.
-use Rattle.std.specs.Prelude.{ℕ, zero, suc, ◌+◌, ◌-◌, ◌*◌, List, [], map, length, slice_get, Option, Some, None}
+use Rattle.std.specs.Prelude.{ℕ, zero, suc, ◌+◌, ◌-◌, ◌*◌, List, [], map, length, slice_get, Option, Some, None, unwrap_or}
 use Rattle.sa_flat.specs.declared.body.FlatBlock.{FlatBlock}
 use Rattle.sa_flat.specs.declared.step.FlatStep.{FlatStep}
 use Rattle.sa_flat.specs.declared.program.FlatProgram.{FlatProgram}
 use Rattle.sa_tree.specs.declared.pos.Pos.{Pos}
 use Rattle.sa_meaning.specs.Value.{Void}
 use Rattle.sa_meaning.specs.Program.{void_of}
+use Rattle.sa_meaning.specs.Sequence.{◌>>=◌, ◌>>◌, pure, at_place, Gives, Stops, Exhausts, Sticks, stuck, last_state}
 use Rattle.sa_meaning.specs.State as language
 use Rattle.sa_meaning.specs.Run as whole
 use Rattle.sa_meaning.specs.Run.{End, status_of}
-use Rattle.sa_flat_meaning.specs.Frames.{Activation, State, Ending, Returned, Raised, Way, Onward, To, Leaving, Failed, InputFailed, Stuck, Out, Gives, Stops, Exhausts}
-use Rattle.sa_flat_meaning.specs.Order.{Eval, ◌>>=◌, ◌>>◌, pure, stop, at_place, count, types_of, this}
-use Rattle.sa_flat_meaning.specs.Calls.{run_body, routine}
+use Rattle.sa_flat_meaning.specs.Frames.{Activation, State, Ending, Returned, Raised, Way, Onward, To, Leaving, Failed, InputFailed, Outcome}
+use Rattle.sa_flat_meaning.specs.Order.{Eval, count, types_of, this}
+use Rattle.sa_flat_meaning.specs.Calls.{first_variables, run_body, routine}
 use Rattle.sa_flat_meaning.specs.Steps.{step}
 use Rattle.sa_flat_meaning.specs.Exits.{exit}
 
@@ -45,7 +46,7 @@ module _ (p : FlatProgram) (rows : List (List ℕ)) (go : ℕ → ℕ → Eval E
 -- The running body, from a block and the number of steps done in it on. The level falls at each step and exit as the steps
 -- that are left do, so that it is never below them.
 abbrev pub run_from : FlatProgram → List (List ℕ) → ℕ → ℕ → ℕ → Eval Ending
-run_from p rows zero block place = stop Stuck
+run_from p rows zero block place = stuck
 run_from p rows (suc level) block place = run_at p rows (run_from p rows level) block place
 
 -- ---- whole runs
@@ -82,10 +83,11 @@ module _ (p : FlatProgram) (go : ℕ → ℕ → Eval Ending) where
   whole_run = do
     let last = length p.bodies - 1
     b ← at_place p.bodies last
-    r ← run_body p go 0 (routine p go last b Void [] 0)
+    variables ← first_variables p b []
+    r ← run_body p go 0 (routine p go last b Void variables 0)
     pure r.0
 
-unfoldable pub outcome : FlatProgram → List (List ℕ) → language.Input → ℕ → ℕ → Out Ending
+unfoldable pub outcome : FlatProgram → List (List ℕ) → language.Input → ℕ → ℕ → Outcome Ending
 outcome p rows input room turns = whole_run p (run_from p rows (most_steps turns)) (initial p input room turns)
 
 -- ---- what is seen of a run
@@ -95,23 +97,19 @@ abbrev pub stopped : List ℕ → ℕ → Option Pos → End
 stopped output kind None = whole.Stuck
 stopped output kind (Some at) = whole.Stopped output kind at
 
-abbrev pub end_of : FlatProgram → Out Ending → End
-end_of p (Gives (Returned v) s) = whole.Ended s.world.output (status_of v)
+abbrev pub end_of : FlatProgram → Outcome Ending → End
+end_of p (Gives (Returned v) s) = whole.Ended s.world.output (status_of (unwrap_or v Void))
 end_of p (Gives (Raised v place kind) s) = stopped s.world.output kind (slice_get p.sites place)
 end_of p (Gives _ s) = whole.Stuck
 end_of p (Stops (Failed kind place) s) = stopped s.world.output kind (slice_get p.sites place)
 end_of p (Stops InputFailed s) = whole.InFault s.world.output
 end_of p (Stops _ s) = whole.Stuck
 end_of p (Exhausts s) = whole.Spent s.world.output
+end_of p (Sticks s) = whole.Stuck
 
 -- with an input, so many bytes of room and so many turns
 abbrev pub flat_run : FlatProgram → List (List ℕ) → language.Input → ℕ → ℕ → End
 flat_run p rows input room turns = end_of p (outcome p rows input room turns)
-
-abbrev pub last_state : {A : Type 0} → Out A → State
-last_state (Gives a s) = s
-last_state (Stops c s) = s
-last_state (Exhausts s) = s
 
 -- entries into bodies and exits from them, and bytes, in order
 abbrev pub trail : FlatProgram → List (List ℕ) → language.Input → ℕ → ℕ → List language.Mark

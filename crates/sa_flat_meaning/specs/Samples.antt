@@ -22,7 +22,7 @@ use Rattle.sa_flat.specs.declared.step.FlatExit.{FlatExit}
 use Rattle.sa_flat.specs.declared.step.FlatExit.TheVariants.{Jump, Branch, Return, Suspend, Quit, Raise}
 use Rattle.sa_flat.specs.declared.step.FlatStep.{FlatStep}
 use Rattle.sa_flat.specs.declared.step.FlatStep.TheVariants.{Const, Move, Me, Turn, New, Widen, WidenFor, Unwrap, TypeIs, Call, Bind, HasEntry, Start, Resume, HasFrame, Enter, Release}
-use Rattle.sa_meaning.specs.Program.{int_type, fault_type}
+use Rattle.sa_meaning.specs.Value.{int_type, fault_type}
 
 -- ---- words for flat programs, all of whose faults stand at one place
 

@@ -1,7 +1,11 @@
--- Flat programs whose numbers are in range and whose sizes have bounds.
-use Rattle.std.specs.Prelude.{◌≡◌, ◌≢◌, ℕ, ◌+◌, ◌<◌, ◌≤◌, Bool, false, IsTrue, List, [], map, length, take, drop, slice_get, sum_by, unwrap_or, All, AllPairs, Some, IfSome, is_some}
+-- Flat programs whose numbers are in range, whose sizes have bounds, and which read no variable that isn't there.
+use Rattle.std.specs.Prelude.{◌≡◌, ◌≢◌, ℕ, ◌+◌, ◌-◌, ◌<◌, ◌≤◌, ◌↔◌, Bool, false, IsTrue, List, [], ◌∷◌, map, length, take, drop, slice_get, sum_by, unwrap_or, All, AllPairs, Contains, Some, None, IfSome, is_some}
 use Rattle.std.specs.Option.{option_map_or}
+use Rattle.sa_tree.specs.declared.class.Kind.{Kind}
+use Rattle.sa_tree.specs.declared.class.Kind.TheVariants as kind
 use Rattle.sa_dispatch.specs.Implementations.{first_of}
+use Rattle.sa_dispatch.specs.Rising.{IsRising}
+use Rattle.sa_flat.specs.declared.body.FlatBlock.{FlatBlock}
 use Rattle.sa_flat.specs.declared.body.FlatBody.{FlatBody}
 use Rattle.sa_flat.specs.declared.call.Callee.{Callee}
 use Rattle.sa_flat.specs.declared.call.Callee.TheVariants.{Body, Dispatch, Bound}
@@ -10,9 +14,11 @@ use Rattle.sa_flat.specs.declared.program.FlatProgram.{FlatProgram}
 use Rattle.sa_flat.specs.declared.program.Layout.{Layout}
 use Rattle.sa_flat.specs.declared.step.FlatStep.{FlatStep}
 use Rattle.sa_flat.specs.declared.step.FlatStep.TheVariants.{Call, Start, Resume, Enter}
+use Rattle.sa_live.specs.Kept.{resume_of, IsLive, IsKept}
+use Rattle.sa_meaning.specs.Value.{bool_type, int_type, char_type, str_type, fault_type}
 use Rattle.sa_flat_meaning.specs.Calls.{width}
 use Rattle.sa_flat_meaning.specs.Faults.{hands_on}
-use Rattle.sa_flat_meaning.specs.InRange.{IsType, CanEnter, IsReached, IsVariable, IsWellBlock}
+use Rattle.sa_flat_meaning.specs.InRange.{IsType, CanEnter, IsReached, IsWellBlock}
 
 -- ---- bodies that were made for an implementation
 
@@ -41,6 +47,42 @@ module _ (p : FlatProgram) where
   abbrev pub AreAlike : List ℕ → Type 0
   AreAlike bodies = AllPairs (λ a b. has_feature a ≡ has_feature b) bodies
 
+-- ---- variables over suspensions
+
+-- a block in which a resumption goes on
+pub record IsResumed (b : FlatBody) (resumed : FlatBlock) : Type 0 where
+  pub suspending : FlatBlock
+  pub is_block : Contains b.blocks suspending
+  pub to : ℕ
+  pub goes_on : Contains (resume_of suspending.exit) to
+  pub is_resumed : slice_get b.blocks to ≡ Some resumed
+
+-- Behind a resumption each temporary is set before it is read.
+abbrev pub SetsTemporaries : FlatBody → Type 0
+SetsTemporaries b = (resumed : FlatBlock) (v : ℕ) → IsResumed b resumed → 200 ≤ v → ¬ (IsLive b v resumed.steps resumed.exit)
+
+-- the list of the variables that are kept
+pub record HasKept (b : FlatBody) : Type 0 where
+  pub rises : IsRising b.kept
+  pub has : (v : ℕ) → Contains b.kept v ↔ IsKept b v
+
+-- ---- types of the language
+
+pub record HasType (p : FlatProgram) (ty : ℕ) (kind : Kind) (attrs : List ℕ) : Type 0 where
+  pub layout : Layout
+  pub is_layout : slice_get p.layouts ty ≡ Some layout
+  pub kind_is : layout.kind ≡ kind
+  pub attributes : layout.attrs ≡ attrs
+  pub no_array : layout.array ≡ false
+
+pub record HasBaseTypes (p : FlatProgram) : Type 0 where
+  pub bool : HasType p bool_type kind.Immutable []
+  pub int : HasType p int_type kind.Immutable []
+  pub char : HasType p char_type kind.Immutable []
+  pub str : HasType p str_type kind.Reference []
+  -- its attributes are the kind and the line
+  pub fault : HasType p fault_type kind.Reference (int_type ∷ int_type ∷ [])
+
 -- ---- parts of a program
 
 module _ (p : FlatProgram) (rows : List (List ℕ)) where
@@ -50,7 +92,8 @@ module _ (p : FlatProgram) (rows : List (List ℕ)) where
     pub feature : IfSome b.feature (λ feature. feature ≡ k)
     pub formals : All (λ f. IsType p f.ty) b.formals
     pub own : length b.formals ≤ b.own
-    pub kept : All (IsVariable b) b.kept
+    pub kept : HasKept b
+    pub temporaries : SetsTemporaries b
     pub begins : 0 < length b.blocks
     pub blocks : All (IsWellBlock p rows b) b.blocks
     pub made : IsTrue (hands_on p k) → IsMade p b
@@ -72,6 +115,7 @@ IsWellLayout p t = All (IsType p) t.attrs × IfSome t.elem (IsType p) × All (Is
 pub record IsWellFlat (p : FlatProgram) (rows : List (List ℕ)) : Type 0 where
   pub bodies : (k : ℕ) (b : FlatBody) → slice_get p.bodies k ≡ Some b → IsWellBody p rows k b
   pub layouts : All (IsWellLayout p) p.layouts
+  pub base : HasBaseTypes p
   pub attributes : p.types ≡ map (λ t. length t.attrs) p.layouts
   pub shareds : All (IsType p) p.shareds
   pub binds : All (IsWellEntry p rows) p.binds
@@ -80,6 +124,7 @@ pub record IsWellFlat (p : FlatProgram) (rows : List (List ℕ)) : Type 0 where
   pub entered : All (CanEnter p) p.targets
   pub alike : (k : ℕ) → k < length rows → AreAlike p (targets_of p rows k)
   pub begins : 0 < length p.bodies
+  pub last : (b : FlatBody) → slice_get p.bodies (length p.bodies - 1) ≡ Some b → b.feature ≡ None
   pub few_bodies : length p.bodies ≤ 400000
   pub few_shareds : length p.shareds ≤ 200000
   pub distinct : AllPairs ◌≢◌ p.texts

@@ -6,6 +6,7 @@ use Rattle.sa_flat.specs.declared.body.FlatBlock.{FlatBlock}
 use Rattle.sa_flat.specs.declared.body.FlatBody.{FlatBody}
 use Rattle.sa_flat.specs.declared.body.FlatFormal.{FlatFormal}
 use Rattle.sa_flat.specs.declared.call.FlatArg.{FlatArg}
+use Rattle.sa_flat.specs.declared.call.Raised.{Raised}
 use Rattle.sa_flat.specs.declared.step.FlatExit.{FlatExit}
 use Rattle.sa_flat.specs.declared.step.FlatExit.TheVariants.{Jump, Branch, Return, Suspend, Raise, Stop}
 use Rattle.sa_flat.specs.declared.step.FlatStep.{FlatStep}
@@ -67,6 +68,10 @@ read_by (Enter body recv args value quit) = recv ∷ with_mode is_handed_over ar
 read_by (Raising value place to) = value ∷ []
 read_by _ = []
 
+-- the variables that a raise sets
+abbrev pub set_by_raise : Raised → List ℕ
+set_by_raise to = to.value ∷ to.place ∷ to.kind ∷ []
+
 -- a start and a resumption don't count for their arguments: where the instance ends, nothing is copied back
 abbrev pub set_by : FlatStep → List ℕ
 set_by (Const to value) = to ∷ []
@@ -86,20 +91,20 @@ set_by (Start site plan quit) = quit ∷ one_or_none plan.value
 set_by (Resume site plan quit) = quit ∷ one_or_none plan.value
 set_by (HasFrame to) = to ∷ []
 set_by (Enter body recv args value quit) = quit ∷ one_or_none value
-set_by (Raising value place to) = to.value ∷ to.place ∷ to.kind ∷ []
+set_by (Raising value place to) = set_by_raise to
 set_by _ = []
 
--- the block to which a fault or a raise of a step goes
-abbrev pub raised_by : FlatStep → Option ℕ
-raised_by (New to ty fail) = Some fail.raised.block
-raised_by (NewArray to ty count fail) = Some fail.raised.block
-raised_by (Widen to from ty fail) = Some fail.raised.block
-raised_by (WidenFor to from ty recv types fail) = Some fail.raised.block
-raised_by (NotVoid from fail) = Some fail.raised.block
-raised_by (Call plan) = Some plan.fail.raised.block
-raised_by (Bind plan entry) = Some plan.fail.raised.block
-raised_by (Start site plan quit) = Some plan.fail.raised.block
-raised_by (Resume site plan quit) = Some plan.fail.raised.block
+-- where a fault or a raise of a step goes
+abbrev pub raised_by : FlatStep → Option Raised
+raised_by (New to ty fail) = Some fail.raised
+raised_by (NewArray to ty count fail) = Some fail.raised
+raised_by (Widen to from ty fail) = Some fail.raised
+raised_by (WidenFor to from ty recv types fail) = Some fail.raised
+raised_by (NotVoid from fail) = Some fail.raised
+raised_by (Call plan) = Some plan.fail.raised
+raised_by (Bind plan entry) = Some plan.fail.raised
+raised_by (Start site plan quit) = Some plan.fail.raised
+raised_by (Resume site plan quit) = Some plan.fail.raised
 raised_by _ = None
 
 -- ---- exits
@@ -118,6 +123,11 @@ next_of (Branch test first second) = first ∷ second ∷ []
 next_of (Stop kind fail) = fail.raised.block ∷ []
 next_of _ = []
 
+-- the variables that an exit sets
+abbrev pub set_by_exit : FlatExit → List ℕ
+set_by_exit (Stop kind fail) = set_by_raise fail.raised
+set_by_exit _ = []
+
 -- the block in which it goes on behind a suspension
 abbrev pub resume_of : FlatExit → List ℕ
 resume_of (Suspend value resume) = one_or_none resume
@@ -126,13 +136,13 @@ resume_of _ = []
 -- ---- ways
 
 -- On some way from here, where these steps and this exit come next, the variable is read, and not set before. A raise leaves a
--- block from before what its step sets.
+-- block from before what its step sets, and sets variables of its own.
 pub data IsLive (b : FlatBody) (v : ℕ) : List FlatStep → FlatExit → Type 0 where
   read : (step : FlatStep) (more : List FlatStep) (exit : FlatExit) → Contains (read_by step) v → IsLive b v (step ∷ more) exit
   passed : (step : FlatStep) (more : List FlatStep) (exit : FlatExit) → ¬ (Contains (set_by step) v) → IsLive b v more exit → IsLive b v (step ∷ more) exit
-  raised : (step : FlatStep) (more : List FlatStep) (exit : FlatExit) (to : ℕ) (block : FlatBlock) → raised_by step ≡ Some to → slice_get b.blocks to ≡ Some block → IsLive b v block.steps block.exit → IsLive b v (step ∷ more) exit
+  raised : (step : FlatStep) (more : List FlatStep) (exit : FlatExit) (to : Raised) (block : FlatBlock) → raised_by step ≡ Some to → ¬ (Contains (set_by_raise to) v) → slice_get b.blocks to.block ≡ Some block → IsLive b v block.steps block.exit → IsLive b v (step ∷ more) exit
   read_last : (exit : FlatExit) → IsReadBy b exit v → IsLive b v [] exit
-  left : (exit : FlatExit) (to : ℕ) (block : FlatBlock) → Contains (next_of exit) to → slice_get b.blocks to ≡ Some block → IsLive b v block.steps block.exit → IsLive b v [] exit
+  left : (exit : FlatExit) (to : ℕ) (block : FlatBlock) → Contains (next_of exit) to → ¬ (Contains (set_by_exit exit) v) → slice_get b.blocks to ≡ Some block → IsLive b v block.steps block.exit → IsLive b v [] exit
   resumed : (exit : FlatExit) (to : ℕ) (block : FlatBlock) → Contains (resume_of exit) to → slice_get b.blocks to ≡ Some block → ¬ (IsArgument is_set_anew b v) → IsLive b v block.steps block.exit → IsLive b v [] exit
 
 -- where a block of the body suspends it and the variable is live in the block in which it goes on, unless it is set anew

@@ -1,11 +1,11 @@
-//! The body that a run begins with: it evaluates the initialisers of the shareds in their order, each for a turn, and calls
-//! `main`.
+//! The body that a run begins with: it evaluates the initialisers of the shareds in their order, each for a turn and with the
+//! void value of its class as `self`, and calls `main`.
 
 use crate::giving::feature;
 use crate::own_body::{ended, no_position};
-use sa_core::{Core, ExprCore};
+use sa_core::{Core, SharedCore};
 use sa_flat::{CallPlan, Callee, Draft, Ends, FlatBody, FlatConst, FlatExit, FlatStep, held};
-use sa_lower_expr::{place_expr, writes};
+use sa_lower_expr::{Inside, place_expr, writes};
 use sa_tree::NoMemory;
 use sqlite_items::Items;
 use std::alloc::Global;
@@ -15,7 +15,7 @@ pub fn run_body(alloc: Global, core: &Core, draft: &mut Draft) -> Result<FlatBod
     draft.begin(alloc, None, Items::new(alloc), 0)?;
     for (number, shared) in core.shareds.as_slice().iter().enumerate() {
         let number = held(u32::try_from(number).ok())?;
-        initialise(alloc, core, number, &shared.start, draft)?;
+        initialise(alloc, core, number, shared, draft)?;
     }
     draft.statement(false);
     let value = call_main(alloc, core, draft)?;
@@ -26,18 +26,22 @@ pub fn run_body(alloc: Global, core: &Core, draft: &mut Draft) -> Result<FlatBod
 fn initialise(
     alloc: Global,
     core: &Core,
-    shared: u32,
-    start: &Option<ExprCore>,
+    number: u32,
+    shared: &SharedCore,
     draft: &mut Draft,
 ) -> Result<(), NoMemory> {
-    let Some(start) = start else {
+    let Some(start) = &shared.start else {
         return Ok(());
     };
     draft.statement(writes(start));
     draft.step(FlatStep::Turn)?;
-    let placed = place_expr(alloc, core, None, start, draft, &Ends::of_body())?;
+    let inside = Inside::Initialiser(shared.class);
+    let placed = place_expr(alloc, core, inside, start, draft, &Ends::of_body())?;
     let from = held(placed.value)?;
-    draft.step(FlatStep::InitShared { shared, from })
+    draft.step(FlatStep::InitShared {
+        shared: number,
+        from,
+    })
 }
 
 /// Calls `main` with a void self, and gives the variable that holds its result, if it has one.

@@ -3,7 +3,7 @@
 use crate::around::Around;
 use sa_core::ExprCore;
 use sa_flat::{Draft, held};
-use sa_lower_expr::{place_expr, writes};
+use sa_lower_expr::{Inside, place_expr, writes};
 use sa_tree::NoMemory;
 use std::alloc::Global;
 
@@ -16,8 +16,8 @@ pub(crate) fn evaluated(
     e: &ExprCore,
 ) -> Result<Option<u32>, NoMemory> {
     draft.statement(writes(e));
-    let feature = Some(around.feature);
-    let placed = place_expr(alloc, around.core, feature, e, draft, around.ends)?;
+    let inside = Inside::Feature(around.feature);
+    let placed = place_expr(alloc, around.core, inside, e, draft, around.ends)?;
     Ok(placed.value)
 }
 

@@ -4,13 +4,29 @@ use sa_core::{CalledCore, Core, FeatureCore, SigCore, TypeInfo};
 use sa_flat::{Ends, held};
 use sa_tree::{Kind, NoMemory};
 
+/// What an expression stands in.
+#[derive(Clone, Copy, Debug, PartialEq, Eq)]
+pub enum Inside {
+    /// A feature, by its number.
+    Feature(u32),
+    /// The initialiser of a shared, of the class with this number.
+    Initialiser(u32),
+}
+
 /// What is around an expression.
 #[derive(Clone, Copy)]
 pub(crate) struct Around<'a> {
     pub core: &'a Core,
-    /// The number of the feature that it stands in, or none in the initialiser of a shared.
-    pub feature: Option<u32>,
+    pub inside: Inside,
     pub ends: &'a Ends,
+}
+
+/// The number of the feature around. An initialiser has none.
+pub(crate) fn own_feature(around: &Around<'_>) -> Result<u32, NoMemory> {
+    match around.inside {
+        Inside::Feature(feature) => Ok(feature),
+        Inside::Initialiser(_) => held(None),
+    }
 }
 
 /// A feature by its number.

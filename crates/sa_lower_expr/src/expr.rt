@@ -1,7 +1,7 @@
 //! An expression as steps and blocks: what stands inside it is placed first, from left to right.
 
 use crate::arguments::{arguments, once_arguments};
-use crate::around::Around;
+use crate::around::{Around, Inside};
 use crate::binds::bind;
 use crate::call::{call, swapped};
 use crate::logic::{and_left, joined, or_left};
@@ -14,25 +14,20 @@ use sa_tree::NoMemory;
 use sqlite_items::Items;
 use std::alloc::Global;
 
-/// Places an expression at the end of the open block. It stands in the feature with this number, or in the initialiser of a
-/// shared, with these ends around it. The block that is open afterwards is the one in which its value is there; a call that
-/// gives no result has no value.
+/// Places an expression at the end of the open block. It stands inside a feature or an initialiser, with these ends around
+/// it. The block that is open afterwards is the one in which its value is there; a call that gives no result has no value.
 ///
 /// The draft has to be told before whether the statement's calls write variables, and has to hold the loops around the place.
 /// The answer is NoMemory as well where a number of the tree is out of range.
 pub fn place_expr(
     alloc: Global,
     core: &Core,
-    feature: Option<u32>,
+    inside: Inside,
     e: &ExprCore,
     draft: &mut Draft,
     ends: &Ends,
 ) -> Result<Placed, NoMemory> {
-    let around = Around {
-        core,
-        feature,
-        ends,
-    };
+    let around = Around { core, inside, ends };
     let first = draft.open();
     let value = place(alloc, &around, draft, e)?;
     Ok(Placed {

@@ -15,6 +15,7 @@ mod sites;
 mod taken;
 mod writing;
 
+pub use around::Inside;
 pub use expr::place_expr;
 pub use taken::takes_abstract;
 pub use writing::writes;

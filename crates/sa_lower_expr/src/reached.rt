@@ -2,8 +2,8 @@
 //! so the type of the receiver has to be found; only those expressions are looked at that can have a bound type.
 
 use crate::around::{
-    Around, attribute_type, element_type, feature_at, shared_type, signature_at, site_called,
-    type_at, var_type,
+    Around, attribute_type, element_type, feature_at, own_feature, shared_type, signature_at,
+    site_called, type_at, var_type,
 };
 use sa_core::{CalledCore, Core, ExprCore, SigCore, Target};
 use sa_flat::{Draft, held};
@@ -73,13 +73,13 @@ fn result_type(
 
 /// The number of the type of a variable of the feature around.
 pub(crate) fn own_type(around: &Around<'_>, var: u32) -> Result<u32, NoMemory> {
-    let feature = held(around.feature)?;
+    let feature = own_feature(around)?;
     var_type(around.core, feature, var as usize)
 }
 
 /// What a site of the feature around calls.
 pub(crate) fn own_site(around: &Around<'_>, site: u32) -> Result<CalledCore, NoMemory> {
-    let feature = held(around.feature)?;
+    let feature = own_feature(around)?;
     site_called(around.core, feature, site)
 }
 

@@ -1,6 +1,6 @@
 //! The forms of one step on operands that are in variables already, and array literals.
 
-use crate::around::Around;
+use crate::around::{Around, Inside};
 use sa_core::ExprCore;
 use sa_flat::{Draft, Fail, FlatConst, FlatStep, held};
 use sa_tree::{Name, NoMemory, Pos};
@@ -19,7 +19,7 @@ pub(crate) fn without_parts(
         ExprCore::Char(value) => constant(draft, FlatConst::Char(*value)),
         ExprCore::VoidOf(ty) => constant(draft, FlatConst::Void(*ty)),
         ExprCore::Text(value) => text(alloc, draft, value),
-        ExprCore::Me => me(draft),
+        ExprCore::Me => me(around, draft),
         ExprCore::Var(var) => variable(draft, *var),
         ExprCore::Exception => held(around.ends.exception),
         ExprCore::New(ty, pos) => new_object(around, draft, *ty, *pos),
@@ -40,8 +40,16 @@ fn text(alloc: Global, draft: &mut Draft, text: &Name) -> Result<u32, NoMemory> 
     constant(draft, FlatConst::Text(number))
 }
 
-/// `self`
-fn me(draft: &mut Draft) -> Result<u32, NoMemory> {
+/// `self`, which in an initialiser is the void value of the class.
+fn me(around: &Around<'_>, draft: &mut Draft) -> Result<u32, NoMemory> {
+    match around.inside {
+        Inside::Feature(_) => own_object(draft),
+        Inside::Initialiser(class) => constant(draft, FlatConst::Void(class)),
+    }
+}
+
+/// The own object of the body.
+fn own_object(draft: &mut Draft) -> Result<u32, NoMemory> {
     let to = draft.temporary()?;
     draft.step(FlatStep::Me { to })?;
     Ok(to)

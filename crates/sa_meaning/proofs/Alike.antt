@@ -1,8 +1,9 @@
 -- Two steps that are put together alike, of which the one runs what turns begin to a level, and the other to a greater one. Laws
 -- of all steps are shown once for each way of putting steps together.
 use Rattle.std.proofs.Common.{◌≡◌, ℕ, zero, suc, ◌+◌, Bool, true, false, if◌then◌else◌, List, ◌++◌, Option, Some, None, refl}
-use Rattle.sa_meaning.specs.State.{State, Cause, Stuck, Gives, Exhausts}
-use Rattle.sa_meaning.specs.Steps.{Eval, resolve, ◌>>=◌, ◌>>◌, stop, pure, look, change, or_stuck, turn}
+use Rattle.sa_meaning.specs.Sequence.{resolve, ◌>>=◌, ◌>>◌, stop, pure, look, change, or_stuck, Gives, Exhausts, stuck, with_place}
+use Rattle.sa_meaning.specs.State.{State, Cause}
+use Rattle.sa_meaning.specs.Steps.{Eval, turn}
 
 abbrev pub more : ℕ → State → State
 more d s = record s { turns = s.turns + d }
@@ -10,6 +11,7 @@ more d s = record s { turns = s.turns + d }
 pub data AlikeIn : ℕ → (A : Type 0) → Eval A → Eval A → Type 1 where
   resolves : {level : ℕ} {A B : Type 0} {f g : Eval A} {h i : A → Eval B} {k l : Cause → Eval B} → AlikeIn level A f g → ((a : A) → AlikeIn level B (h a) (i a)) → ((c : Cause) → AlikeIn level B (k c) (l c)) → AlikeIn level B (resolve f h k) (resolve g i l)
   stops : {level : ℕ} {A : Type 0} (c : Cause) → AlikeIn level A (stop c) (stop c)
+  sticks : {level : ℕ} {A : Type 0} → AlikeIn level A stuck stuck
   -- what neither looks at the turns nor spends any, and puts nothing
   moves : {level : ℕ} {A : Type 0} (see : State → A) (next : State → State) → ((d : ℕ) (s : State) → see (more d s) ≡ see s) → ((d : ℕ) (s : State) → next (more d s) ≡ more d (next s)) → ((s : State) → (next s).turns ≡ s.turns) → ((s : State) → (next s).output ≡ s.output) → AlikeIn level A (λ s. Gives (see s) (next s)) (λ s. Gives (see s) (next s))
   puts : {level : ℕ} (bytes : State → List ℕ) (next : State → State) → ((d : ℕ) (s : State) → next (more d s) ≡ more d (next s)) → ((s : State) → (next s).turns ≡ s.turns) → ((s : State) → (next s).output ≡ s.output ++ bytes s) → AlikeIn level (Unit {0}) (change next) (change next)
@@ -56,4 +58,10 @@ steady_change f a b c = moves (λ _. tt) f (λ d s. refl) a b c
 pub steady_or_stuck : {level : ℕ} {A : Type 0} (o : Option A) → Steady level (or_stuck o)
 unfolding or_stuck
 steady_or_stuck (Some a) = steady_pure a
-steady_or_stuck None = stops Stuck
+steady_or_stuck None = sticks
+
+pub steady_stuck : {level : ℕ} {A : Type 0} → Steady {A = A} level stuck
+steady_stuck = sticks
+
+pub steady_with_place : {level : ℕ} {A : Type 0} (list : List A) (place : ℕ) (a : A) → Steady level (with_place list place a)
+steady_with_place list place a = alike_if _ (steady_pure _) sticks

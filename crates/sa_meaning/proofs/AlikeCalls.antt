@@ -8,13 +8,13 @@ use Rattle.sa_core.specs.declared.feature.Target.TheVariants as target
 use Rattle.sa_core.specs.declared.program.ImplCore.{ImplCore}
 use Rattle.sa_meaning.specs.Value.{Value, Void, Int, Truth, Char, Text, Ref, Imm, Bound, Wide}
 use Rattle.sa_meaning.specs.Program.{Program, Feature}
-use Rattle.sa_meaning.specs.State.{Residue, Sites, Empty, Instance, Activation, Event, Quits, Abandon, Cause, Broke, Raised, Failed, InputFailed, Stuck, Flow, Done, Yielding, Returning, Quitting}
-use Rattle.sa_meaning.specs.Steps.{Eval}
-use Rattle.sa_meaning.specs.Calls.{dynamic_type, widen, widened, widened_if, widened_where, Callee, Handed, dispatched_to, dispatched, bound_to, callee, handed, bring_back, copied_back, brought, attribute, set_attribute, shared, set_shared, returned, raised_out, entered, routine, with_no_variables, reached, call}
+use Rattle.sa_meaning.specs.State.{Residue, Sites, Empty, Instance, Activation, Event, Quits, Abandon, Cause, Broke, Raised, Failed, InputFailed, Flow, Done, Yielding, Returning, Quitting}
+use Rattle.sa_meaning.specs.Steps.{Eval, void}
+use Rattle.sa_meaning.specs.Calls.{dynamic_type, widen, widened, widened_if, widened_from, widened_where, widened_for, widened_back, Callee, Handed, dispatched_to, dispatched, bound_to, callee, handed, bring_back, copied_back, brought, attribute, set_attribute, shared, set_shared, returned, raised_out, entered, routine, with_no_variables, reached, call}
 use Rattle.sa_meaning.specs.Instances.{this_feature, clear_loop, end_loop, Station, instance_ends, suspended, raised_through, run_instance, add_instance, begun, start_of, start, continued, resume}
-use Rattle.sa_meaning.proofs.Alike.{moves, Alike, Steady, alike_resolve, alike_then, alike_before, alike_if, turns, steady_pure, steady_stop, steady_look, steady_change, steady_or_stuck}
+use Rattle.sa_meaning.proofs.Alike.{moves, Alike, Steady, alike_resolve, alike_then, alike_before, alike_if, turns, steady_pure, steady_stop, steady_look, steady_change, steady_or_stuck, steady_stuck, steady_with_place}
 use Rattle.sa_meaning.proofs.SteadySteps.{steady_charge, steady_object_at, steady_set_object, steady_fault, steady_write, steady_enter, steady_leave, steady_checked_depth, steady_checked_live}
-use Rattle.sa_meaning.proofs.SteadyBuiltin.{steady_builtin}
+use Rattle.sa_meaning.proofs.SteadyBuiltin.{steady_builtin_call}
 
 -- ---- widening
 
@@ -24,7 +24,7 @@ steady_dynamic_type v = steady_look _ (λ d s. refl)
 steady_widen : {level : ℕ} (at : Pos) (attributes : ℕ) (v : Value) → Steady level (widen at attributes v)
 steady_widen at attributes v = alike_before (steady_charge at _) (steady_pure _)
 
-pub steady_widened : {level : ℕ} (p : Program) (at : Pos) (v : Value) → Steady level (widened p at v)
+steady_widened : {level : ℕ} (p : Program) (at : Pos) (v : Value) → Steady level (widened p at v)
 steady_widened p at (Int z) = steady_widen at 1 (Int z)
 steady_widened p at (Truth b) = steady_widen at 1 (Truth b)
 steady_widened p at (Char byte) = steady_widen at 1 (Char byte)
@@ -38,7 +38,10 @@ steady_widened p at (Wide v) = steady_pure _
 steady_widened_if : {level : ℕ} (p : Program) (at : Pos) (wide : Bool) (v : Value) → Steady level (widened_if p at wide v)
 steady_widened_if p at wide v = alike_if wide (steady_widened p at v) (steady_pure v)
 
-steady_widened_where : {level : ℕ} (p : Program) (at : Pos) (wide : List Bool) (given : List (Option Value)) → Steady level (widened_where p at wide given)
+pub steady_widened_from : {level : ℕ} (p : Program) (at : Pos) (ty : ℕ) (v : Value) → Steady level (widened_from p at ty v)
+steady_widened_from p at ty v = alike_if _ (steady_widened p at v) steady_stuck
+
+pub steady_widened_where : {level : ℕ} (p : Program) (at : Pos) (wide : List Bool) (given : List (Option Value)) → Steady level (widened_where p at wide given)
 steady_widened_where p at (wide ∷ more) (Some v ∷ rest) =
     alike_then (steady_widened_if p at wide v) (λ w. alike_then (steady_widened_where p at more rest) (λ ws. steady_pure _))
 steady_widened_where p at (wide ∷ more) (None ∷ rest) = alike_then (steady_widened_where p at more rest) (λ ws. steady_pure _)
@@ -53,7 +56,7 @@ module _ (p : Program) (at : Pos) where
 
   steady_dispatched : {level : ℕ} (k : ℕ) (v : Value) → Steady level (dispatched p at k v)
   steady_dispatched k v =
-      alike_if _ (steady_fault Callee p _ at) (alike_then (steady_or_stuck _) (λ signature. alike_then (steady_dynamic_type v) (λ ty. steady_dispatched_to _ v ty)))
+      alike_if _ (steady_fault Callee p void at) (alike_then (steady_or_stuck _) (λ signature. alike_then (steady_dynamic_type v) (λ ty. steady_dispatched_to _ v ty)))
 
   steady_bound_to : {level : ℕ} (object : ℕ) → Steady level (bound_to p at object)
   steady_bound_to object = alike_then (steady_object_at object) (λ o. alike_then (steady_or_stuck _) (λ b. alike_then (steady_or_stuck _) (λ receiver. steady_pure _)))
@@ -61,15 +64,28 @@ module _ (p : Program) (at : Pos) where
   pub steady_callee : {level : ℕ} (called : CalledCore) (v : Value) → Steady level (callee p at called v)
   steady_callee (called.Static target class) v = steady_pure _
   steady_callee (called.Dispatch k) v = steady_dispatched k v
-  steady_callee called.Bound v = alike_if _ (steady_fault Callee p _ at) (alike_then (steady_or_stuck _) steady_bound_to)
+  steady_callee called.Bound v = alike_if _ (steady_fault Callee p void at) (alike_then (steady_or_stuck _) steady_bound_to)
+
+  steady_widened_for : {level : ℕ} (c : Callee) (given : List (Option Value)) → Steady level (widened_for p at c given)
+  steady_widened_for c given = alike_then (steady_widened_where p at _ _) (λ values. steady_widened_where p at _ _)
 
   pub steady_handed : {level : ℕ} (called : CalledCore) (c : Callee) (given : List (Option Value)) (back : List (Option ℕ)) → Steady level (handed p at called c given back)
   steady_handed (called.Static target class) c given back = steady_pure _
   steady_handed (called.Dispatch k) c given back =
-      alike_then (steady_or_stuck _) (λ signature. alike_then (steady_widened_where p at _ _) (λ values. steady_pure _))
+      alike_then (steady_or_stuck _) (λ signature. alike_then (steady_widened_for c given) (λ values. steady_pure _))
   steady_handed called.Bound c given back =
       alike_then (steady_or_stuck _) (λ object. alike_then (steady_object_at object) (λ o. alike_then (steady_or_stuck _) (λ b. alike_then (steady_or_stuck _) (λ t.
-      alike_then (steady_widened_where p at _ _) (λ values. steady_pure _)))))
+      alike_then (steady_or_stuck _) (λ all. alike_then (steady_widened_for c all) (λ values. alike_then (steady_or_stuck _) (λ backs. alike_then (steady_or_stuck _) (λ wide. steady_pure _))))))))
+
+  steady_widened_back : {level : ℕ} (back : List (Option ℕ)) (wide : List Bool) (variables : List Value) → Steady level (widened_back p at back wide variables)
+  steady_widened_back (Some var ∷ back) (wide ∷ more) (v ∷ rest) = alike_then (steady_widened_if p at wide v) (λ w. alike_then (steady_widened_back back more rest) (λ ws. steady_pure _))
+  steady_widened_back (None ∷ back) (wide ∷ more) (v ∷ rest) = alike_then (steady_widened_back back more rest) (λ ws. steady_pure _)
+  steady_widened_back (None ∷ back) (wide ∷ more) [] = steady_widened_back back more []
+  steady_widened_back (Some var ∷ back) (wide ∷ more) [] = steady_stuck
+  steady_widened_back [] [] rest = steady_pure _
+  steady_widened_back [] (wide ∷ more) rest = steady_stuck
+  steady_widened_back (Some var ∷ back) [] rest = steady_stuck
+  steady_widened_back (None ∷ back) [] rest = steady_stuck
 
   steady_bring_back : {level : ℕ} (var : ℕ) (v : Value) → Steady level (bring_back p at var v)
   steady_bring_back var v =
@@ -79,55 +95,54 @@ module _ (p : Program) (at : Pos) where
   steady_copied_back : {level : ℕ} (back : List (Option ℕ)) (variables : List Value) → Steady level (copied_back p at back variables)
   steady_copied_back (Some var ∷ more) (v ∷ rest) = alike_before (steady_bring_back var v) (steady_copied_back more rest)
   steady_copied_back (None ∷ more) (v ∷ rest) = steady_copied_back more rest
-  steady_copied_back (Some var ∷ more) [] = steady_pure _
-  steady_copied_back (None ∷ more) [] = steady_pure _
+  steady_copied_back (Some var ∷ more) [] = steady_stuck
+  steady_copied_back (None ∷ more) [] = steady_copied_back more []
   steady_copied_back [] variables = steady_pure _
 
   pub steady_brought : {level : ℕ} (h : Handed) (r : Value × List Value) → Steady level (brought p at h r)
-  steady_brought h r = alike_then (steady_widened_if p at h.wide r.0) (λ v. alike_before (steady_copied_back h.back r.1) (steady_pure v))
+  steady_brought h r = alike_then (steady_widened_if p at h.wide r.0) (λ v. alike_then (steady_widened_back h.back h.wide_back r.1) (λ values. alike_before (steady_copied_back h.back values) (steady_pure v)))
 
   steady_attribute : {level : ℕ} (a : ℕ) (self : Value) → Steady level (attribute p at a self)
   steady_attribute a (Imm ty _) = steady_or_stuck _
   steady_attribute a (Ref number) = alike_then (steady_object_at number) (λ o. steady_or_stuck _)
-  steady_attribute a Void = steady_fault Value p _ at
-  steady_attribute a (Int z) = steady_stop _
-  steady_attribute a (Truth b) = steady_stop _
-  steady_attribute a (Char byte) = steady_stop _
-  steady_attribute a (Text bytes) = steady_stop _
-  steady_attribute a (Bound object) = steady_stop _
-  steady_attribute a (Wide v) = steady_stop _
+  steady_attribute a Void = steady_fault Value p void at
+  steady_attribute a (Int z) = steady_stuck
+  steady_attribute a (Truth b) = steady_stuck
+  steady_attribute a (Char byte) = steady_stuck
+  steady_attribute a (Text bytes) = steady_stuck
+  steady_attribute a (Bound object) = steady_stuck
+  steady_attribute a (Wide v) = steady_stuck
 
   steady_set_attribute : {level : ℕ} (a : ℕ) (v self : Value) → Steady level (set_attribute p at a v self)
-  steady_set_attribute a v (Imm ty _) = alike_before (steady_charge at _) (steady_pure _)
-  steady_set_attribute a v (Ref number) = alike_then (steady_object_at number) (λ o. alike_before (steady_set_object number _) (steady_pure _))
-  steady_set_attribute a v Void = steady_fault Value p _ at
-  steady_set_attribute a v (Int z) = steady_stop _
-  steady_set_attribute a v (Truth b) = steady_stop _
-  steady_set_attribute a v (Char byte) = steady_stop _
-  steady_set_attribute a v (Text bytes) = steady_stop _
-  steady_set_attribute a v (Bound object) = steady_stop _
-  steady_set_attribute a v (Wide w) = steady_stop _
+  steady_set_attribute a v (Imm ty _) = alike_then (steady_with_place _ _ _) (λ changed. alike_before (steady_charge at _) (steady_pure _))
+  steady_set_attribute a v (Ref number) = alike_then (steady_object_at number) (λ o. alike_then (steady_with_place _ _ _) (λ changed. alike_before (steady_set_object number _) (steady_pure _)))
+  steady_set_attribute a v Void = steady_fault Value p void at
+  steady_set_attribute a v (Int z) = steady_stuck
+  steady_set_attribute a v (Truth b) = steady_stuck
+  steady_set_attribute a v (Char byte) = steady_stuck
+  steady_set_attribute a v (Text bytes) = steady_stuck
+  steady_set_attribute a v (Bound object) = steady_stuck
+  steady_set_attribute a v (Wide w) = steady_stuck
 
 steady_shared : {level : ℕ} (k : ℕ) → Steady level (shared k)
 steady_shared k = alike_then (steady_look _ (λ d s. refl)) (λ shareds. steady_or_stuck _)
 
 pub steady_set_shared : {level : ℕ} (k : ℕ) (v : Value) → Steady level (set_shared k v)
-steady_set_shared k v = steady_change _ (λ d s. refl) (λ s. refl) (λ s. refl)
+steady_set_shared k v = alike_then (steady_look _ (λ d s. refl)) (λ shareds. alike_then (steady_with_place _ _ _) (λ changed. steady_change _ (λ d s. refl) (λ s. refl) (λ s. refl)))
 
 -- ---- the ends of routines and instances
 
 steady_returned : {level : ℕ} (k : ℕ) (caller : Activation) (flow : Flow) → Steady level (returned k caller flow)
 steady_returned k caller (Returning v) = alike_then (steady_look _ (λ d s. refl)) (λ variables. alike_before (steady_leave k caller) (steady_pure _))
 steady_returned k caller Done = alike_then (steady_look _ (λ d s. refl)) (λ variables. alike_before (steady_leave k caller) (steady_pure _))
-steady_returned k caller Quitting = steady_stop _
-steady_returned k caller (Yielding v r) = steady_stop _
+steady_returned k caller Quitting = steady_stuck
+steady_returned k caller (Yielding v r) = steady_stuck
 
 steady_raised_out : {level : ℕ} {A : Type 0} (k : ℕ) (caller : Activation) (cause : Cause) → Steady level (raised_out {A = A} k caller cause)
 steady_raised_out k caller (Raised exception kind at) = alike_before (steady_leave k caller) (steady_stop _)
-steady_raised_out k caller Broke = steady_stop _
+steady_raised_out k caller Broke = steady_stuck
 steady_raised_out k caller (Failed kind at) = steady_stop _
 steady_raised_out k caller InputFailed = steady_stop _
-steady_raised_out k caller Stuck = steady_stop _
 
 pub steady_this_feature : {level : ℕ} → Steady level this_feature
 steady_this_feature = alike_then (steady_look _ (λ d s. refl)) steady_or_stuck
@@ -145,16 +160,15 @@ module _ (p : Program) (here : Station) (i : Instance) where
   steady_suspended : {level : ℕ} (h : Handed) (flow : Flow) → Steady level (suspended p here i h flow)
   steady_suspended h (Yielding v r) =
       alike_then (steady_look _ (λ d s. refl)) (λ variables. alike_before (steady_change _ (λ d s. refl) (λ s. refl) (λ s. refl)) (steady_brought p here.at h (v, variables)))
-  steady_suspended h (Returning v) = steady_stop _
+  steady_suspended h (Returning v) = steady_stuck
   steady_suspended h Done = alike_before (steady_instance_ends Quits) (steady_stop Broke)
   steady_suspended h Quitting = alike_before (steady_instance_ends Quits) (steady_stop Broke)
 
   steady_raised_through : {level : ℕ} (cause : Cause) → Steady level (raised_through p here i cause)
   steady_raised_through (Raised exception kind at) = alike_before (steady_instance_ends Abandon) (steady_stop (Raised exception kind at))
-  steady_raised_through Broke = steady_stop _
+  steady_raised_through Broke = steady_stuck
   steady_raised_through (Failed kind at) = steady_stop _
   steady_raised_through InputFailed = steady_stop _
-  steady_raised_through Stuck = steady_stop _
 
 -- ---- calls, starts and resumptions
 
@@ -162,21 +176,23 @@ module _ (p : Program) (level : ℕ) (go to : Residue → Eval Flow) (alike : (r
   module _ (at : Pos) where
     alike_entered : (k : ℕ) (f : Feature) (self : Value) (given : List (Option Value)) (caller : Activation) → Alike level (entered p go at k f self given caller) (entered p to at k f self given caller)
     alike_entered k f self given caller =
-        alike_before (steady_checked_depth at caller) (alike_before (steady_enter k _) (alike_resolve (alike _) (steady_returned k caller) (steady_raised_out k caller)))
+        alike_then (steady_or_stuck _) (λ variables. alike_before (steady_checked_depth at caller) (alike_before (steady_enter k _) (alike_resolve (alike _) (steady_returned k caller) (steady_raised_out k caller))))
 
     pub alike_routine : (k : ℕ) (self : Value) (given : List (Option Value)) → Alike (suc level) (routine p go at k self given) (routine p to at k self given)
     alike_routine k self given =
-        alike_then (steady_or_stuck _) (λ f. alike_then (steady_look _ (λ d s. refl)) (λ caller. alike_if _ (steady_stop _) (turns (alike_entered k f self given caller))))
+        alike_then (steady_or_stuck _) (λ f. alike_then (steady_look _ (λ d s. refl)) (λ caller. alike_if _ steady_stuck (turns (alike_entered k f self given caller))))
 
     steady_with_no_variables : (f : Eval Value) → Steady (suc level) f → Alike (suc level) (with_no_variables p go at f) (with_no_variables p to at f)
     steady_with_no_variables f e = alike_then e (λ v. steady_pure _)
 
     pub alike_reached : (t : Target) (class : Option ℕ) (self : Value) (given : List (Option Value)) → Alike (suc level) (reached p go at t class self given) (reached p to at t class self given)
     alike_reached (target.Feature k) class self given = alike_routine k self given
-    alike_reached (target.Builtin n) class self given = steady_with_no_variables _ (alike_then (steady_or_stuck _) (λ b. steady_builtin p class at self _ b))
-    alike_reached (target.Get a) class self given = steady_with_no_variables _ (steady_attribute p at a self)
+    alike_reached (target.Builtin n) class self given = steady_with_no_variables _ (alike_then (steady_or_stuck _) (λ b. steady_builtin_call p class at self _ b))
+    alike_reached (target.Get a) class self [] = steady_with_no_variables _ (steady_attribute p at a self)
+    alike_reached (target.Get a) class self (v ∷ given) = steady_stuck
     alike_reached (target.Set a) class self given = steady_with_no_variables _ (alike_then (steady_or_stuck _) (λ v. steady_set_attribute p at a v self))
-    alike_reached (target.GetShared k) class self given = steady_with_no_variables _ (steady_shared k)
+    alike_reached (target.GetShared k) class self [] = steady_with_no_variables _ (steady_shared k)
+    alike_reached (target.GetShared k) class self (v ∷ given) = steady_stuck
     alike_reached (target.SetShared k) class self given = steady_with_no_variables _ (alike_before (alike_then (steady_or_stuck _) (steady_set_shared k)) (steady_pure _))
 
     pub alike_call : (called : CalledCore) (v : Value) (given : List (Option Value)) (back : List (Option ℕ)) → Alike (suc level) (call p go at called v given back) (call p to at called v given back)
@@ -192,21 +208,22 @@ module _ (p : Program) (level : ℕ) (go to : Residue → Eval Flow) (alike : (r
 
     alike_begun : (k : ℕ) (f : Feature) (c : Callee) (h : Handed) → Alike level (begun p go here k f c h) (begun p to here k f c h)
     alike_begun k f c h =
-        alike_before (steady_checked_depth here.at here.caller) (alike_before (steady_checked_live here.at) (alike_then steady_add_instance (λ number. alike_run_instance h _ Empty)))
+        alike_then (steady_or_stuck _) (λ variables. alike_before (steady_checked_depth here.at here.caller) (alike_before (steady_checked_live here.at) (alike_then steady_add_instance (λ number. alike_run_instance h _ Empty))))
 
     alike_start_of : (t : Target) (c : Callee) (h : Handed) → Alike (suc level) (start_of p go here t c h) (start_of p to here t c h)
-    alike_start_of (target.Feature k) c h = alike_then (steady_or_stuck _) (λ f. alike_if _ (turns (alike_begun k f c h)) (steady_stop _))
-    alike_start_of (target.Builtin n) c h = steady_stop _
-    alike_start_of (target.Get a) c h = steady_stop _
-    alike_start_of (target.Set a) c h = steady_stop _
-    alike_start_of (target.GetShared k) c h = steady_stop _
-    alike_start_of (target.SetShared k) c h = steady_stop _
+    alike_start_of (target.Feature k) c h = alike_then (steady_or_stuck _) (λ f. alike_if _ (turns (alike_begun k f c h)) steady_stuck)
+    alike_start_of (target.Builtin n) c h = steady_stuck
+    alike_start_of (target.Get a) c h = steady_stuck
+    alike_start_of (target.Set a) c h = steady_stuck
+    alike_start_of (target.GetShared k) c h = steady_stuck
+    alike_start_of (target.SetShared k) c h = steady_stuck
 
     pub alike_start : (c : Callee) (h : Handed) → Alike (suc level) (start p go here c h) (start p to here c h)
     alike_start c h = alike_start_of c.target c h
 
     alike_continued : (f : Feature) (i : Instance) (inside : Sites) (h : Handed) → Alike level (continued p go here f i inside h) (continued p to here f i inside h)
-    alike_continued f i inside h = alike_before (steady_checked_depth here.at here.caller) (alike_before (steady_change _ (λ d s. refl) (λ s. refl) (λ s. refl)) (alike_run_instance h _ inside))
+    alike_continued f i inside h =
+        alike_then (steady_or_stuck _) (λ variables. alike_before (steady_checked_depth here.at here.caller) (alike_before (steady_change _ (λ d s. refl) (λ s. refl) (λ s. refl)) (alike_run_instance h _ inside)))
 
     pub alike_resume : (i : Instance) (inside : Sites) (h : Handed) → Alike (suc level) (resume p go here i inside h) (resume p to here i inside h)
     alike_resume i inside h = alike_then (steady_or_stuck _) (λ f. turns (alike_continued f i inside h))

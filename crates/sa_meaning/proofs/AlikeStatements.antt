@@ -1,5 +1,5 @@
 -- Expressions and statements, of which one runs to a level what turns begin, and the other to a greater one.
-use Rattle.std.proofs.Common.{◌≡◌, ℕ, zero, suc, ◌+◌, Bool, List, [], Option, Some, None, refl, subst, arith}
+use Rattle.std.proofs.Common.{◌≡◌, ℕ, zero, suc, ◌+◌, Bool, List, Option, Some, None, refl, subst, arith}
 use Rattle.sa_tree.specs.declared.pos.Pos.{Pos}
 use Rattle.sa_tree.specs.declared.ty.Mode.{Mode}
 use Rattle.sa_core.specs.declared.feature.CalledCore.{CalledCore}
@@ -9,15 +9,15 @@ use Rattle.sa_core.specs.Tree.{Expr, VoidOf, Me, Var, Exception, IsVoid, New, Ne
 use Rattle.sa_core.specs.Tree.{Stmt, Let, Do, If, Loop, Leave, TypeCase, Protect, Return, Yield, Quit, Raise, Stop, Stmts, no_stmts, stmt, Tests, no_tests, branch, Arms, no_arms, arm, Else, no_else, otherwise}
 use Rattle.sa_meaning.specs.Value.{Value}
 use Rattle.sa_meaning.specs.Program.{Program}
-use Rattle.sa_meaning.specs.State.{Residue, Over, Next, Rest, Sites, Instance, Cause, Broke, Raised, Failed, InputFailed, Stuck, Flow, Done, Yielding, Returning, Quitting}
-use Rattle.sa_meaning.specs.Steps.{Eval}
+use Rattle.sa_meaning.specs.State.{Residue, Over, Next, Rest, Sites, Instance, Cause, Broke, Raised, Failed, InputFailed, Flow, Done, Yielding, Returning, Quitting}
+use Rattle.sa_meaning.specs.Steps.{Eval, void, no_branch}
 use Rattle.sa_meaning.specs.Calls.{Callee}
-use Rattle.sa_meaning.specs.Evaluation.{new_object, array_of, bound_value, bound_to_callee, bound, station, this_site, iter_call, evaluate, evaluate_all, evaluate_args, evaluate_arg, evaluate_tests}
+use Rattle.sa_meaning.specs.Evaluation.{new_object, array_of, bound_value, kept_values, bound, station, this_site, iter_call, evaluate, evaluate_all, evaluate_args, evaluate_arg, evaluate_tests}
 use Rattle.sa_meaning.specs.Statements.{after_statement, followed, set_exception, with_exception, not_suspended, caught, is_left, takes, raised, round, after_round, out_of_round, value_of, test_of, execute, execute_all, execute_first, execute_case, execute_branch, execute_else, execute_else_with, left, run_to}
-use Rattle.sa_meaning.proofs.Alike.{ends, ends_first, Alike, Steady, alike_resolve, alike_then, alike_before, alike_if, turns, steady_pure, steady_stop, steady_look, steady_change, steady_or_stuck}
+use Rattle.sa_meaning.proofs.Alike.{ends, ends_first, Alike, Steady, alike_resolve, alike_then, alike_before, alike_if, turns, steady_pure, steady_stop, steady_look, steady_change, steady_or_stuck, steady_stuck}
 use Rattle.sa_meaning.proofs.SteadySteps.{steady_charge, steady_add_object, steady_fault, steady_read, steady_write}
 use Rattle.sa_meaning.proofs.SteadyBuiltin.{steady_new_array}
-use Rattle.sa_meaning.proofs.AlikeCalls.{steady_dynamic_type, steady_widened, steady_callee, steady_handed, steady_this_feature, steady_clear_loop, steady_end_loop, alike_reached, alike_call, alike_start, alike_resume}
+use Rattle.sa_meaning.proofs.AlikeCalls.{steady_dynamic_type, steady_widened_from, steady_widened_where, steady_callee, steady_handed, steady_this_feature, steady_clear_loop, steady_end_loop, alike_reached, alike_call, alike_start, alike_resume}
 
 module _ (p : Program) (at : Pos) where
   steady_new_object : {level : ℕ} (ty : ℕ) → Steady level (new_object p at ty)
@@ -30,14 +30,13 @@ module _ (p : Program) (at : Pos) where
   steady_bound_value ty c given =
       alike_then (steady_or_stuck _) (λ class. alike_before (steady_charge at _) (alike_then (steady_add_object _) (λ number. steady_pure _)))
 
-  steady_bound_to_callee : {level : ℕ} (c : CalledCore) (ty : ℕ) (v : Value) (given : List (Option Value)) → Steady level (bound_to_callee p at c ty v given)
-  steady_bound_to_callee called ty v given =
-      alike_then (steady_callee p at called v) (λ c. alike_then (steady_handed p at called c given []) (λ h. steady_bound_value ty c h.given))
+  steady_kept_values : {level : ℕ} (called : CalledCore) (c : Callee) (given : List (Option Value)) → Steady level (kept_values p at called c given)
+  steady_kept_values (called.Static target class) c given = steady_pure _
+  steady_kept_values (called.Dispatch k) c given = steady_widened_where p at _ _
+  steady_kept_values called.Bound c given = steady_stuck
 
-  steady_bound : {level : ℕ} (c : CalledCore) (ty : ℕ) (v : Value) (given : List (Option Value)) → Steady level (bound p at c ty v given)
-  steady_bound called.Bound ty v given = steady_stop _
-  steady_bound (called.Static target class) ty v given = steady_bound_to_callee (called.Static target class) ty v given
-  steady_bound (called.Dispatch k) ty v given = steady_bound_to_callee (called.Dispatch k) ty v given
+  steady_bound : {level : ℕ} (called : CalledCore) (ty : ℕ) (v : Value) (given : List (Option Value)) → Steady level (bound p at called ty v given)
+  steady_bound called ty v given = alike_then (steady_callee p at called v) (λ c. alike_then (steady_kept_values called c given) (λ kept. steady_bound_value ty c kept))
 
 -- ---- statements by their ends
 
@@ -52,7 +51,7 @@ alike_followed {level = level} {h = h} {i = i} rest a b = alike_then a after
 
 steady_not_suspended : {level : ℕ} (flow : Flow) → Steady level (not_suspended flow)
 steady_not_suspended Done = steady_pure _
-steady_not_suspended (Yielding v r) = steady_stop _
+steady_not_suspended (Yielding v r) = steady_stuck
 steady_not_suspended (Returning v) = steady_pure _
 steady_not_suspended Quitting = steady_pure _
 
@@ -68,7 +67,6 @@ alike_caught f g e (Raised v kind at) = alike_then (steady_dynamic_type v) (λ d
 alike_caught f g e Broke = steady_stop _
 alike_caught f g e (Failed kind at) = steady_stop _
 alike_caught f g e InputFailed = steady_stop _
-alike_caught f g e Stuck = steady_stop _
 
 steady_is_left : {level : ℕ} (kind : ℕ) (b : Bool) → Steady level (is_left kind b)
 steady_is_left zero b = steady_stop _
@@ -76,7 +74,7 @@ steady_is_left (suc zero) b = alike_if b (steady_pure _) (steady_stop _)
 steady_is_left (suc (suc n)) b = alike_if b (steady_stop _) (steady_pure _)
 
 steady_raised : {level : ℕ} (p : Program) (at : Pos) (v : Value) → Steady level (raised p at v)
-steady_raised p at v = alike_if _ (steady_fault Flow p _ at) (steady_stop _)
+steady_raised p at v = alike_if _ (steady_fault Flow p void at) (steady_stop _)
 
 -- ---- what a turn begins
 
@@ -122,7 +120,7 @@ module _ (p : Program) (level : ℕ) (go to : Residue → Eval Flow) (alike : (r
         alike_then (alike_then (alike_evaluate first) (λ v. steady_or_stuck _)) (λ b. alike_if b (alike_evaluate second) (steady_pure _))
     alike_evaluate (Or first second) =
         alike_then (alike_then (alike_evaluate first) (λ v. steady_or_stuck _)) (λ b. alike_if b (steady_pure _) (alike_evaluate second))
-    alike_evaluate (Widen ty of at) = alike_then (alike_evaluate of) (λ v. steady_widened p at v)
+    alike_evaluate (Widen ty of at) = alike_then (alike_evaluate of) (λ v. steady_widened_from p at ty v)
 
     alike_evaluate_all : (es : Exprs) → Alike (suc level) (evaluate_all p go es) (evaluate_all p to es)
     alike_evaluate_all no_exprs = steady_pure _
@@ -156,7 +154,6 @@ module _ (p : Program) (level : ℕ) (go to : Residue → Eval Flow) (alike : (r
   alike_out_of_round loop (Raised v kind at) = alike_before (steady_end_loop p loop) (steady_stop _)
   alike_out_of_round loop (Failed kind at) = steady_stop _
   alike_out_of_round loop InputFailed = steady_stop _
-  alike_out_of_round loop Stuck = steady_stop _
 
   alike_value_of : (e : Option Expr) → Alike (suc level) (value_of p go e) (value_of p to e)
   alike_value_of None = steady_pure _
@@ -174,7 +171,7 @@ module _ (p : Program) (level : ℕ) (go to : Residue → Eval Flow) (alike : (r
     alike_execute (Loop loop body) = alike_before (steady_clear_loop p loop) (alike_round loop body)
     alike_execute (Leave kind test) = alike_then (alike_test_of test) (steady_is_left kind)
     alike_execute (TypeCase var arms other at) =
-        alike_then (steady_read var) (λ v. alike_then (steady_dynamic_type v) (λ dynamic. alike_execute_case v dynamic arms (alike_execute_else other (steady_fault Flow p _ at))))
+        alike_then (steady_read var) (λ v. alike_then (steady_dynamic_type v) (λ dynamic. alike_execute_case v dynamic arms (alike_execute_else other (steady_fault Flow p no_branch at))))
     alike_execute (Protect body arms other) =
         alike_resolve (alike_execute_all body) steady_not_suspended (alike_caught _ _ (λ v dynamic again e. alike_execute_branch v dynamic arms (alike_execute_else_with v other e)))
     alike_execute (Return value) = alike_then (alike_value_of value) (λ v. steady_pure _)

@@ -2,10 +2,11 @@
 use Rattle.std.proofs.Common.{◌≡◌, ℕ, [], ◌∷◌, None, Some, refl}
 use Rattle.std.specs.Prelude.{codes}
 use Rattle.std.specs.Fmt.{digits}
+use Rattle.sa_meaning.specs.Sequence.{resolve, or_stuck}
 use Rattle.sa_meaning.specs.State.{Input, Start, Resume, Yields, Abandon, Enter, Leave, Byte}
-use Rattle.sa_meaning.specs.Steps.{resolve, or_stuck}
 use Rattle.sa_meaning.specs.Program.{Program}
-use Rattle.sa_meaning.specs.Run.{End, Ended, Stopped, InFault, Spent, initial, whole_run, outcome, end_of, run_program, last_state}
+use Rattle.sa_meaning.specs.Sequence.{last_state}
+use Rattle.sa_meaning.specs.Run.{End, Ended, Stopped, InFault, Spent, initial, whole_run, outcome, end_of, run_program}
 use Rattle.sa_meaning.specs.Statements.{run_to}
 use Rattle.sa_meaning.specs.Samples as sample
 use Rattle.sa_meaning.specs.Samples.{here}

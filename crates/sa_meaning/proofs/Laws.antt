@@ -1,10 +1,10 @@
 -- The laws of all steps.
 use Rattle.std.proofs.Common.{◌≡◌, ℕ, zero, suc, ◌+◌, ◌≤◌, List, [], ◌++◌, refl, sym, ap, subst, ◌∙◌, append_assoc, append-nil, arith}
-use Rattle.sa_meaning.specs.State.{State, Cause, Out, Gives, Stops, Exhausts}
-use Rattle.sa_meaning.specs.Steps.{Eval, resolved, resolve, turned}
-use Rattle.sa_meaning.specs.Run.{last_state}
+use Rattle.sa_meaning.specs.Sequence.{resolved, resolve, Gives, Stops, Exhausts, Sticks, last_state}
+use Rattle.sa_meaning.specs.State.{State, Cause, Outcome}
+use Rattle.sa_meaning.specs.Steps.{Eval, turned}
 use Rattle.sa_meaning.specs.Law.{IsPrefix}
-use Rattle.sa_meaning.proofs.Alike.{more, AlikeIn, resolves, stops, moves, puts, turns, turns_alone, ends, ends_first}
+use Rattle.sa_meaning.proofs.Alike.{more, AlikeIn, resolves, stops, sticks, moves, puts, turns, turns_alone, ends, ends_first}
 
 -- ---- outputs grow
 
@@ -15,13 +15,14 @@ prefix_trans : (a b c : List ℕ) → IsPrefix a b → IsPrefix b c → IsPrefix
 prefix_trans a b c x y = (x.0 ++ y.0, y.1 ∙ ap (λ l. l ++ y.0) x.1 ∙ append_assoc a x.0 y.0)
 
 -- what is put from s on comes to what is there
-abbrev Extends : {A : Type 0} → State → Out A → Type 0
+abbrev Extends : {A : Type 0} → State → Outcome A → Type 0
 Extends s o = IsPrefix s.output (last_state o).output
 
-extends_resolved : {A B : Type 0} (s : State) (o : Out A) (h : A → Eval B) (k : Cause → Eval B) → Extends s o → ((a : A) (t : State) → Extends t (h a t)) → ((c : Cause) (t : State) → Extends t (k c t)) → Extends s (resolved o h k)
+extends_resolved : {A B : Type 0} (s : State) (o : Outcome A) (h : A → Eval B) (k : Cause → Eval B) → Extends s o → ((a : A) (t : State) → Extends t (h a t)) → ((c : Cause) (t : State) → Extends t (k c t)) → Extends s (resolved o h k)
 extends_resolved s (Gives a t) h k e m n = prefix_trans s.output t.output _ e (m a t)
 extends_resolved s (Stops c t) h k e m n = prefix_trans s.output t.output _ e (n c t)
 extends_resolved s (Exhausts t) h k e m n = e
+extends_resolved s (Sticks t) h k e m n = e
 
 extends_turned : {A : Type 0} (n : ℕ) (f : Eval A) (s : State) → ((t : State) → Extends t (f t)) → Extends s (turned n f s)
 extends_turned zero f s e = same_prefix _ _ refl
@@ -31,6 +32,7 @@ pub extends : {level : ℕ} {A : Type 0} {f g : Eval A} → AlikeIn level A f g 
 unfolding resolve
 extends (resolves {g = g} {i = i} {l = l} a b c) s = extends_resolved s (g s) i l (extends a s) (λ x t. extends (b x) t) (λ x t. extends (c x) t)
 extends (stops c) s = same_prefix _ _ refl
+extends sticks s = same_prefix _ _ refl
 extends (moves see next a b c e) s = same_prefix _ _ (e s)
 extends (puts bytes next a b c) s = (bytes s, c s)
 extends (turns {g = g} a) s = extends_turned s.turns g s (extends a)
@@ -41,15 +43,17 @@ extends (ends_first a) s = extends a s
 -- ---- with more turns
 
 -- the second is the first with d turns more, or its output has that of the first where this ran out of turns
-abbrev pub Keeps : {A : Type 0} → ℕ → Out A → Out A → Type 0
+abbrev pub Keeps : {A : Type 0} → ℕ → Outcome A → Outcome A → Type 0
 Keeps d (Gives a s) o = o ≡ Gives a (more d s)
 Keeps d (Stops c s) o = o ≡ Stops c (more d s)
 Keeps d (Exhausts s) o = Extends s o
+Keeps d (Sticks s) o = o ≡ Sticks (more d s)
 
-keeps_resolved : {A B : Type 0} (d : ℕ) (o q : Out A) → Keeps d o q → (h i : A → Eval B) → (k l : Cause → Eval B) → ((a : A) (s : State) → Keeps d (h a s) (i a (more d s))) → ((c : Cause) (s : State) → Keeps d (k c s) (l c (more d s))) → ((a : A) (t : State) → Extends t (i a t)) → ((c : Cause) (t : State) → Extends t (l c t)) → Keeps d (resolved o h k) (resolved q i l)
+keeps_resolved : {A B : Type 0} (d : ℕ) (o q : Outcome A) → Keeps d o q → (h i : A → Eval B) → (k l : Cause → Eval B) → ((a : A) (s : State) → Keeps d (h a s) (i a (more d s))) → ((c : Cause) (s : State) → Keeps d (k c s) (l c (more d s))) → ((a : A) (t : State) → Extends t (i a t)) → ((c : Cause) (t : State) → Extends t (l c t)) → Keeps d (resolved o h k) (resolved q i l)
 keeps_resolved d (Gives a s) q e h i k l m n x y = subst (λ z. Keeps d (h a s) (resolved z i l)) (sym e) (m a s)
 keeps_resolved d (Stops c s) q e h i k l m n x y = subst (λ z. Keeps d (k c s) (resolved z i l)) (sym e) (n c s)
 keeps_resolved d (Exhausts s) q e h i k l m n x y = extends_resolved s q i l e x y
+keeps_resolved d (Sticks s) q e h i k l m n x y = ap (λ z. resolved z i l) e
 
 keeps_turned : {A : Type 0} (n : ℕ) (f g : Eval A) (d : ℕ) (s : State) → ((t : State) → Keeps d (f t) (g (more d t))) → ((t : State) → Extends t (g t)) → Keeps d (turned n f s) (turned (n + d) g (more d s))
 keeps_turned zero f g d s e x = extends_turned (0 + d) g (more d s) x
@@ -62,6 +66,7 @@ unfolding resolve
 keeps (resolves {f = f} {g = g} {h = h} {i = i} {k = k} {l = l} a b c) d s =
     keeps_resolved d (f s) (g (more d s)) (keeps a d s) h i k l (λ x t. keeps (b x) d t) (λ x t. keeps (c x) d t) (λ x t. extends (b x) t) (λ x t. extends (c x) t)
 keeps (stops c) d s = refl
+keeps sticks d s = refl
 keeps (moves see next a b c e) d s = ap (λ x. Gives x (next (more d s))) (a d s) ∙ ap (Gives (see s)) (b d s)
 keeps (puts bytes next a b c) d s = ap (Gives tt) (a d s)
 keeps (turns {f = f} {g = g} a) d s = keeps_turned s.turns f g d s (keeps a d) (extends a)
@@ -72,20 +77,23 @@ keeps (ends_first a) d s = extends a (more d s)
 -- ---- out of turns
 
 -- what a step from s comes to: fewer turns, and none where it ran out of them
-abbrev pub IsFair : {A : Type 0} → State → Out A → Type 0
+abbrev pub IsFair : {A : Type 0} → State → Outcome A → Type 0
 IsFair s (Gives a t) = t.turns ≤ s.turns
 IsFair s (Stops c t) = t.turns ≤ s.turns
 IsFair s (Exhausts t) = t.turns ≡ 0
+IsFair s (Sticks t) = t.turns ≤ s.turns
 
-fair_from : {A : Type 0} (s t : State) (o : Out A) → t.turns ≤ s.turns → IsFair t o → IsFair s o
+fair_from : {A : Type 0} (s t : State) (o : Outcome A) → t.turns ≤ s.turns → IsFair t o → IsFair s o
 fair_from s t (Gives a u) h k = omega (arith, h, k)
 fair_from s t (Stops c u) h k = omega (arith, h, k)
 fair_from s t (Exhausts u) h k = k
+fair_from s t (Sticks u) h k = omega (arith, h, k)
 
-fair_resolved : {A B : Type 0} (n : ℕ) (s : State) (o : Out A) (h : A → Eval B) (k : Cause → Eval B) → s.turns ≤ n → IsFair s o → ((a : A) (t : State) → t.turns ≤ n → IsFair t (h a t)) → ((c : Cause) (t : State) → t.turns ≤ n → IsFair t (k c t)) → IsFair s (resolved o h k)
+fair_resolved : {A B : Type 0} (n : ℕ) (s : State) (o : Outcome A) (h : A → Eval B) (k : Cause → Eval B) → s.turns ≤ n → IsFair s o → ((a : A) (t : State) → t.turns ≤ n → IsFair t (h a t)) → ((c : Cause) (t : State) → t.turns ≤ n → IsFair t (k c t)) → IsFair s (resolved o h k)
 fair_resolved n s (Gives a t) h k l e x y = fair_from s t (h a t) e (x a t (omega (arith, l, e)))
 fair_resolved n s (Stops c t) h k l e x y = fair_from s t (k c t) e (y c t (omega (arith, l, e)))
 fair_resolved n s (Exhausts t) h k l e x y = e
+fair_resolved n s (Sticks t) h k l e x y = e
 
 fair_turned : {A : Type 0} (m n : ℕ) (f : Eval A) (s : State) → s.turns ≡ m → m ≤ suc n → ((t : State) → t.turns ≤ n → IsFair t (f t)) → IsFair s (turned m f s)
 fair_turned zero n f s e l x = e
@@ -96,6 +104,7 @@ pub fair : {level : ℕ} {A : Type 0} {f g : Eval A} → AlikeIn level A f g →
 unfolding resolve
 fair {level} (resolves {f = f} {h = h} {k = k} a b c) s l = fair_resolved level s (f s) h k l (fair a s l) (λ x t. fair (b x) t) (λ x t. fair (c x) t)
 fair (stops c) s l = omega arith
+fair sticks s l = omega arith
 fair (moves see next a b c e) s l = omega (arith, c s)
 fair (puts bytes next a b c) s l = omega (arith, b s)
 fair (turns {level = n} {f = f} a) s l = fair_turned s.turns n f s refl l (fair a)

@@ -1,5 +1,6 @@
 pub mod Alike
 mod Computed
+mod ComputedMore
 pub mod AlikeCalls
 pub mod AlikeStatements
 pub mod Laws

@@ -5,7 +5,7 @@ use Rattle.sa_meaning.specs.Value.{Value}
 use Rattle.sa_meaning.specs.Program.{Program}
 use Rattle.sa_meaning.specs.State.{Object, Activation}
 use Rattle.sa_meaning.specs.Steps.{spend, charge, add_object, object_at, set_object, fault, new_text, put_byte, put_bytes, put_text, got, get_byte, read, write, enter, leave, checked_depth, checked_live}
-use Rattle.sa_meaning.proofs.Alike.{Steady, moves, puts, alike_then, alike_before, alike_if, turns_alone, steady_pure, steady_stop, steady_look, steady_change, steady_or_stuck}
+use Rattle.sa_meaning.proofs.Alike.{Steady, moves, puts, alike_then, alike_before, alike_if, turns_alone, steady_pure, steady_stop, steady_look, steady_change, steady_or_stuck, steady_with_place}
 
 pub steady_spend : {level : ℕ} (n : ℕ) → Steady level (spend n)
 steady_spend zero = steady_pure tt
@@ -57,7 +57,7 @@ pub steady_read : {level : ℕ} (var : ℕ) → Steady level (read var)
 steady_read var = alike_then (steady_look _ (λ d s. refl)) (λ variables. steady_or_stuck _)
 
 pub steady_write : {level : ℕ} (var : ℕ) (v : Value) → Steady level (write var v)
-steady_write var v = steady_change _ (λ d s. refl) (λ s. refl) (λ s. refl)
+steady_write var v = alike_then (steady_look _ (λ d s. refl)) (λ variables. alike_then (steady_with_place _ _ _) (λ changed. steady_change _ (λ d s. refl) (λ s. refl) (λ s. refl)))
 
 pub steady_enter : {level : ℕ} (feature : ℕ) (a : Activation) → Steady level (enter feature a)
 steady_enter feature a = steady_change _ (λ d s. refl) (λ s. refl) (λ s. refl)

@@ -1,27 +1,29 @@
 -- The laws of whole runs.
-use Rattle.std.proofs.Common.{◌≡◌, ℕ, suc, ◌+◌, ◌-◌, List, [], ◌∷◌, Option, Some, None, sym, ap, subst, ◌∙◌, append-nil, arith}
+use Rattle.std.proofs.Common.{◌≡◌, ℕ, suc, ◌+◌, ◌-◌, List, [], ◌∷◌, Option, Some, None, refl, sym, ap, subst, ◌∙◌, append-nil, arith}
 use Rattle.sa_core.specs.declared.program.Core.{Core}
 use Rattle.sa_core.specs.Tree.{Expr}
+use Rattle.sa_meaning.specs.Sequence.{Gives, Stops, Exhausts, Sticks, last_state}
 use Rattle.sa_meaning.specs.Value.{Value}
 use Rattle.sa_meaning.specs.Program.{Program, SharedRow, program_of}
-use Rattle.sa_meaning.specs.State.{State, Residue, Input, Broke, Raised, Failed, InputFailed, Stuck, Flow, Out, Gives, Stops, Exhausts}
+use Rattle.sa_meaning.specs.State.{State, Residue, Input, Broke, Raised, Failed, InputFailed, Flow, Outcome}
 use Rattle.sa_meaning.specs.Steps.{Eval}
-use Rattle.sa_meaning.specs.Run.{initialise, initialise_from, whole_run, initial, outcome, end_of, run_program, last_state, output}
+use Rattle.sa_meaning.specs.Run.{initialise, initialise_from, whole_run, initial, outcome, end_of, run_program, output}
 use Rattle.sa_meaning.specs.Statements.{run_to}
 use Rattle.sa_meaning.specs.Law.{IsOver, IsSpent, IsPrefix, IsSteady, IsGrowing, IsSpending}
-use Rattle.sa_meaning.proofs.Alike.{Alike, turns_alone, alike_then, alike_before, steady_pure, steady_or_stuck}
+use Rattle.sa_meaning.proofs.Alike.{Alike, turns_alone, alike_then, alike_before, steady_pure, steady_change, steady_or_stuck}
 use Rattle.sa_meaning.proofs.Laws.{Keeps, keeps, IsFair, fair}
 use Rattle.sa_meaning.proofs.AlikeCalls.{steady_set_shared, alike_routine}
 use Rattle.sa_meaning.proofs.AlikeStatements.{alike_evaluate, alike_run_to}
 
 module _ (p : Program) (level : ℕ) (go to : Residue → Eval Flow) (alike : (r : Residue) → Alike level (go r) (to r)) where
-  alike_initialise : (k : ℕ) (start : Option Expr) → Alike (suc level) (initialise p go k start) (initialise p to k start)
-  alike_initialise k None = steady_pure _
-  alike_initialise k (Some e) = turns_alone (alike_then (alike_evaluate p level go to alike e) (λ v. steady_set_shared k v))
+  alike_initialise : (k class : ℕ) (start : Option Expr) → Alike (suc level) (initialise p go k class start) (initialise p to k class start)
+  alike_initialise k class None = steady_pure _
+  alike_initialise k class (Some e) =
+      turns_alone (alike_then (alike_before (steady_change _ (λ d s. refl) (λ s. refl) (λ s. refl)) (alike_evaluate p level go to alike e)) (λ v. steady_set_shared k v))
 
   alike_initialise_from : (k : ℕ) (shareds : List SharedRow) → Alike (suc level) (initialise_from p go k shareds) (initialise_from p to k shareds)
   alike_initialise_from k [] = steady_pure _
-  alike_initialise_from k (s ∷ more) = alike_before (alike_initialise k s.start) (alike_initialise_from (k + 1) more)
+  alike_initialise_from k (s ∷ more) = alike_before (alike_initialise k s.class s.start) (alike_initialise_from (k + 1) more)
 
   alike_whole_run : Alike (suc level) (whole_run p go) (whole_run p to)
   alike_whole_run =
@@ -35,14 +37,14 @@ with_turns : (p : Program) (input : Input) (room n d : ℕ) → Keeps d (outcome
 unfolding outcome
 with_turns p input room n d = keeps (alike_runs p n d) d (initial p input room n)
 
-same_end : (d : ℕ) (o q : Out Value) → Keeps d o q → IsOver (end_of o) → end_of q ≡ end_of o
+same_end : (d : ℕ) (o q : Outcome Value) → Keeps d o q → IsOver (end_of o) → end_of q ≡ end_of o
 same_end d (Gives v s) q e over = ap end_of e
 same_end d (Stops (Raised v kind at) s) q e over = ap end_of e
 same_end d (Stops (Failed kind at) s) q e over = ap end_of e
 same_end d (Stops InputFailed s) q e over = ap end_of e
 same_end d (Stops Broke s) q e over = ap end_of e
-same_end d (Stops Stuck s) q e over = ap end_of e
 same_end d (Exhausts s) q e over = absurd over
+same_end d (Sticks s) q e over = ap end_of e
 
 steady_by : (p : Program) (input : Input) (room n d : ℕ) → IsOver (run_program p input room n) → run_program p input room (n + d) ≡ run_program p input room n
 steady_by p input room n d over = same_end d _ _ (with_turns p input room n d) over
@@ -54,10 +56,14 @@ steady core input room n m h over =
 
 -- ---- outputs
 
-grown_output : (d : ℕ) (o q : Out Value) → Keeps d o q → IsPrefix (last_state o).output (last_state q).output
-grown_output d (Gives v s) q e = ([], ap (λ x. (last_state x).output) e ∙ sym (append-nil s.output))
-grown_output d (Stops c s) q e = ([], ap (λ x. (last_state x).output) e ∙ sym (append-nil s.output))
+abbrev last_output : Outcome Value → List ℕ
+last_output o = (last_state o).output
+
+grown_output : (d : ℕ) (o q : Outcome Value) → Keeps d o q → IsPrefix (last_state o).output (last_state q).output
+grown_output d (Gives v s) q e = ([], ap last_output e ∙ sym (append-nil s.output))
+grown_output d (Stops c s) q e = ([], ap last_output e ∙ sym (append-nil s.output))
 grown_output d (Exhausts s) q e = e
+grown_output d (Sticks s) q e = ([], ap last_output e ∙ sym (append-nil s.output))
 
 pub growing : (core : Core) → IsGrowing core
 growing core input room n m h =
@@ -66,14 +72,14 @@ growing core input room n m h =
 
 -- ---- turns
 
-none_left : (s : State) (o : Out Value) → IsFair s o → IsSpent (end_of o) → (last_state o).turns ≡ 0
+none_left : (s : State) (o : Outcome Value) → IsFair s o → IsSpent (end_of o) → (last_state o).turns ≡ 0
 none_left s (Exhausts t) e spent = e
 none_left s (Gives v t) e spent = absurd spent
 none_left s (Stops (Raised v kind at) t) e spent = absurd spent
 none_left s (Stops (Failed kind at) t) e spent = absurd spent
 none_left s (Stops InputFailed t) e spent = absurd spent
 none_left s (Stops Broke t) e spent = absurd spent
-none_left s (Stops Stuck t) e spent = absurd spent
+none_left s (Sticks t) e spent = absurd spent
 
 fair_run : (p : Program) (input : Input) (room n : ℕ) → IsFair (initial p input room n) (outcome p input room n)
 unfolding outcome

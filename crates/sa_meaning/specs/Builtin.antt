@@ -5,10 +5,11 @@ use Rattle.std.specs.Option.{option_map_or}
 use Rattle.sa_tree.specs.declared.pos.Pos.{Pos}
 use Rattle.sa_prelude.specs.declared.feature.BuiltinFeature.{BuiltinFeature}
 use Rattle.sa_prelude.specs.declared.feature.BuiltinFeature.TheVariants.{BoolIsEq, BoolNot, IntPlus, IntMinus, IntTimes, IntNegate, IntDiv, IntMod, IntIsEq, IntIsLt, IntBand, IntBor, IntBxor, IntStr, IntChar, CharIsEq, CharIsLt, CharInt, CharStr, StrSize, StrAget, StrCat, StrSubstring, StrOf, OutPut, OutPutInt, OutPutChar, InGetByte, SysObEq, ArefAsize, ArefAget, ArefAset, ArrayCreate}
+use Rattle.sa_meaning.specs.Sequence.{◌>>=◌, ◌>>◌, pure, or_stuck, at_place, stuck}
 use Rattle.sa_meaning.specs.Value.{Value, Void, Int, Truth, Char, Ref, Bound, is_void, is_nothing, is_zero, as_int, as_truth, as_char, as_text, as_object}
 use Rattle.sa_meaning.specs.Program.{Program, void_of}
 use Rattle.sa_meaning.specs.State.{Object}
-use Rattle.sa_meaning.specs.Steps.{Eval, ◌>>=◌, ◌>>◌, pure, or_stuck, at_place, spend, charge, object_size, eights, add_object, object_at, set_object, plain, overflow, division_by_zero, void, index, fault, new_text, put_byte, put_bytes, put_text, get_byte}
+use Rattle.sa_meaning.specs.Steps.{Eval, spend, charge, object_size, eights, add_object, object_at, set_object, plain, overflow, division_by_zero, void, index, fault, new_text, put_byte, put_bytes, put_text, get_byte}
 
 -- the features by their numbers
 abbrev pub builtins : List BuiltinFeature
@@ -67,6 +68,25 @@ new_array p ty at count = if int_lt count (pos 0) then fault p index at else (do
   charge at (object_size (length t.attrs) (place_of count))
   number ← add_object (plain ty (map (void_of p) t.attrs) (replicate (place_of count) (option_map_or (void_of p) t.elem Void)))
   pure (Ref number))
+
+-- ---- arguments
+
+-- how many arguments a feature takes
+abbrev pub arity : BuiltinFeature → ℕ
+arity BoolNot = 0
+arity IntNegate = 0
+arity IntStr = 0
+arity IntChar = 0
+arity CharInt = 0
+arity CharStr = 0
+arity StrSize = 0
+arity InGetByte = 0
+arity ArefAsize = 0
+arity StrSubstring = 2
+arity StrOf = 2
+arity SysObEq = 2
+arity ArefAset = 2
+arity _ = 1
 
 -- ---- the features, of a type, at a call
 
@@ -178,3 +198,7 @@ module _ (p : Program) (class : Option ℕ) (at : Pos) (self : Value) (arguments
     ty ← or_stuck class
     count ← argument as_int 0
     new_array p ty at count
+
+  -- a call with as many arguments as the feature takes
+  abbrev pub builtin_call : BuiltinFeature → Eval Value
+  builtin_call f = if length arguments == arity f then builtin f else stuck

@@ -1,7 +1,9 @@
 -- What a call reaches, what it hands over and brings back, and the run of a routine.
-use Rattle.std.specs.Prelude.{ℕ, ◌+◌, Bool, true, false, ◌==◌, if◌then◌else◌, List, [], ◌∷◌, map, length, drop, slice_get, set, find, filter_map, Option, Some, None, option_and_then}
+use Rattle.std.specs.Prelude.{ℕ, ◌+◌, Bool, true, false, ◌&&◌, ◌==◌, if◌then◌else◌, List, [], ◌∷◌, map, length, drop, slice_get, find, filter_map, Option, Some, None, option_map, option_and_then}
 use Rattle.std.specs.Option.{option_map_or}
 use Rattle.sa_tree.specs.declared.pos.Pos.{Pos}
+use Rattle.sa_tree.specs.declared.ty.Mode.{Mode}
+use Rattle.sa_tree.specs.declared.ty.Mode.TheVariants as mode
 use Rattle.sa_core.specs.declared.feature.CalledCore.{CalledCore}
 use Rattle.sa_core.specs.declared.feature.CalledCore.TheVariants as called
 use Rattle.sa_core.specs.declared.feature.Target.{Target}
@@ -9,11 +11,12 @@ use Rattle.sa_core.specs.declared.feature.Target.TheVariants as target
 use Rattle.sa_core.specs.declared.program.ImplCore.{ImplCore}
 use Rattle.sa_prelude.specs.declared.feature.BuiltinFeature.{BuiltinFeature}
 use Rattle.sa_prelude.specs.declared.feature.BuiltinFeature.TheVariants.{SysObEq, ArefAset}
-use Rattle.sa_meaning.specs.Value.{Value, Void, Int, Truth, Char, Text, Imm, Ref, Bound, Wide, Fields, fields_of, field_list, is_nothing, as_bound, unwrapped}
-use Rattle.sa_meaning.specs.Program.{Program, Feature, of_type, is_abstract, bool_type, int_type, char_type, str_type, void_of}
-use Rattle.sa_meaning.specs.State.{Object, Residue, all_of, Empty, Activation, Cause, Broke, Raised, Stuck, Flow, Done, Returning}
-use Rattle.sa_meaning.specs.Steps.{Eval, resolve, ◌>>=◌, ◌>>◌, pure, look, change, stop, or_stuck, at_place, turn, charge, object_size, object_at, set_object, void, fault, write, enter, leave, checked_depth}
-use Rattle.sa_meaning.specs.Builtin.{builtins, builtin}
+use Rattle.sa_meaning.specs.Sequence.{resolve, ◌>>=◌, ◌>>◌, pure, look, change, stop, or_stuck, at_place, with_place, stuck}
+use Rattle.sa_meaning.specs.Value.{Value, Void, Int, Truth, Char, Text, Imm, Ref, Bound, Wide, fields_of, field_list, bool_type, int_type, char_type, str_type, raw_type, is_nothing, as_bound, unwrapped}
+use Rattle.sa_meaning.specs.Program.{Program, Feature, of_type, is_abstract, void_of}
+use Rattle.sa_meaning.specs.State.{Object, Residue, all_of, Empty, Activation, Cause, Broke, Raised, Flow, Done, Returning}
+use Rattle.sa_meaning.specs.Steps.{Eval, turn, charge, object_size, object_at, set_object, void, fault, write, enter, leave, checked_depth}
+use Rattle.sa_meaning.specs.Builtin.{builtins, builtin_call}
 
 -- ---- dynamic types and widening
 
@@ -43,6 +46,14 @@ widened p at (Char byte) = widen at 1 (Char byte)
 widened p at (Imm ty fields) = widen at (length (of_type p (λ t. t.attrs) [] ty)) (Imm ty fields)
 widened p at v = pure v
 
+-- the value is one of this immutable class, and isn't widened
+abbrev pub is_raw : ℕ → Value → Bool
+is_raw ty v = option_map_or (λ own. own == ty) (raw_type v) false
+
+-- a value of this immutable class, widened
+abbrev pub widened_from : Program → Pos → ℕ → Value → Eval Value
+widened_from p at ty v = if is_raw ty v then widened p at v else stuck
+
 abbrev pub widened_if : Program → Pos → Bool → Value → Eval Value
 widened_if p at wide v = if wide then widened p at v else pure v
 
@@ -66,18 +77,21 @@ pub record Callee : Type 0 where
   pub self : Value
   pub through : Option ℕ
 
--- What is handed over: by the callee's arguments the values that are given, and the variables that get a value back; and
--- whether the result goes to an abstract type.
+-- What is handed over: by the callee's arguments the values that are given, and the variables that get a value back. What
+-- comes back goes through a signature or a bound type first: where this has arguments of abstract types, and whether its
+-- result is of one.
 pub record Handed : Type 0 where
   pub given : List (Option Value)
   pub back : List (Option ℕ)
+  pub wide_back : List Bool
   pub wide : Bool
 
--- the first list at the open places, in order, and the second at the others
-abbrev pub interleaved : {A : Type 0} → List Bool → List A → List A → List A
-interleaved (true ∷ more) (a ∷ first) second = a ∷ interleaved more first second
-interleaved (false ∷ more) first (a ∷ second) = a ∷ interleaved more first second
-interleaved _ first second = []
+-- the first list at the open places, in order, and the second at the others, where they are as many
+abbrev pub interleaved : {A : Type 0} → List Bool → List A → List A → Option (List A)
+interleaved (true ∷ more) (a ∷ first) second = option_map (λ rest. a ∷ rest) (interleaved more first second)
+interleaved (false ∷ more) first (a ∷ second) = option_map (λ rest. a ∷ rest) (interleaved more first second)
+interleaved [] [] [] = Some []
+interleaved _ first second = None
 
 -- whether a type that is there is abstract
 abbrev pub is_wide : Program → Option ℕ → Bool
@@ -95,6 +109,20 @@ wide_arguments p class (target.Builtin n) = wide_builtin p class (slice_get buil
 wide_arguments p class (target.Set a) = is_wide p (option_and_then (λ ty. of_type p (λ t. slice_get t.attrs a) None ty) class) ∷ []
 wide_arguments p class (target.SetShared k) = option_map_or (λ s. is_abstract p s.ty) (slice_get p.shareds k) false ∷ []
 wide_arguments p class _ = []
+
+abbrev pub is_once : Mode → Bool
+is_once mode.Once = true
+is_once _ = false
+
+-- where both lists have true
+abbrev pub both_of : List Bool → List Bool → List Bool
+both_of (a ∷ more) (b ∷ rest) = (a && b) ∷ both_of more rest
+both_of _ _ = []
+
+-- which `once` arguments of a target have abstract types
+abbrev pub wide_once : Program → Target → List Bool
+wide_once p (target.Feature k) = option_map_or (λ f. both_of (map is_once f.modes) (map (is_abstract p) f.vars)) (slice_get p.features k) []
+wide_once p _ = []
 
 module _ (p : Program) (at : Pos) where
   abbrev pub dispatched_to : List ImplCore → Value → Option ℕ → Eval Callee
@@ -122,22 +150,42 @@ module _ (p : Program) (at : Pos) where
   callee (called.Dispatch k) v = dispatched k v
   callee called.Bound v = if is_nothing v then fault p void at else (or_stuck (as_bound v) >>= bound_to)
 
+  -- the arguments as the callee takes them, the `once` ones first
+  abbrev pub widened_for : Callee → List (Option Value) → Eval (List (Option Value))
+  widened_for c given = widened_where p at (wide_once p c.target) given >>= widened_where p at (wide_arguments p c.class c.target)
+
   -- A dispatched call and the call of a bound value widen the arguments. The kept values of a bound value stand between.
   abbrev pub handed : CalledCore → Callee → List (Option Value) → List (Option ℕ) → Eval Handed
-  handed (called.Static target class) c given back = pure (record { given = given; back = back; wide = false })
+  handed (called.Static target class) c given back = pure (record { given = given; back = back; wide_back = map (λ var. false) back; wide = false })
   handed (called.Dispatch k) c given back = do
     signature ← at_place p.signatures k
-    values ← widened_where p at (wide_arguments p c.class c.target) given
-    pure (record { given = values; back = back; wide = signature.wide })
+    values ← widened_for c given
+    pure (record { given = values; back = back; wide_back = signature.wide_args; wide = signature.wide })
   handed called.Bound c given back = do
     object ← or_stuck c.through
     o ← object_at object
     b ← or_stuck o.binding
     t ← at_place p.types o.ty
-    values ← widened_where p at (wide_arguments p c.class c.target) (interleaved b.is_open given (map Some (drop 1 o.fields)))
-    pure (record { given = values; back = interleaved b.is_open back (map (λ v. None) (drop 1 o.fields)); wide = t.wide })
+    all ← or_stuck (interleaved b.is_open given (map Some (drop 1 o.fields)))
+    values ← widened_for c all
+    backs ← or_stuck (interleaved b.is_open back (map (λ v. None) (drop 1 o.fields)))
+    wide ← or_stuck (interleaved b.is_open t.wide_args (map (λ v. false) (drop 1 o.fields)))
+    pure (record { given = values; back = backs; wide_back = wide; wide = t.wide })
 
   -- ---- what comes back
+
+  -- the callee's variables, those that are copied back as a signature or a bound type has them
+  abbrev pub widened_back : List (Option ℕ) → List Bool → List Value → Eval (List Value)
+  widened_back (Some var ∷ back) (wide ∷ more) (v ∷ rest) = do
+    w ← widened_if p at wide v
+    ws ← widened_back back more rest
+    pure (w ∷ ws)
+  widened_back (None ∷ back) (wide ∷ more) (v ∷ rest) = do
+    ws ← widened_back back more rest
+    pure (v ∷ ws)
+  widened_back (None ∷ back) (wide ∷ more) [] = widened_back back more []
+  widened_back [] [] rest = pure rest
+  widened_back _ _ _ = stuck
 
   abbrev pub bring_back : ℕ → Value → Eval (Unit {0})
   bring_back var v = do
@@ -152,53 +200,69 @@ module _ (p : Program) (at : Pos) where
   abbrev pub copied_back : List (Option ℕ) → List Value → Eval (Unit {0})
   copied_back (Some var ∷ more) (v ∷ rest) = bring_back var v >> copied_back more rest
   copied_back (None ∷ more) (v ∷ rest) = copied_back more rest
-  copied_back _ _ = pure tt
+  copied_back (None ∷ more) [] = copied_back more []
+  copied_back (Some var ∷ more) [] = stuck
+  copied_back [] _ = pure tt
 
-  -- the result and the callee's variables, at the caller
+  -- The result and the callee's variables, at the caller. First all go through the signature or the bound type, and then
+  -- the copies go to the caller's variables.
   abbrev pub brought : Handed → Value × List Value → Eval Value
   brought h r = do
     v ← widened_if p at h.wide r.0
-    copied_back h.back r.1
+    values ← widened_back h.back h.wide_back r.1
+    copied_back h.back values
     pure v
 
 -- ---- attributes and shareds
-
-abbrev pub with_field : Fields → ℕ → Value → Fields
-with_field fields a v = fields_of (set (field_list fields) a v)
 
 module _ (p : Program) (at : Pos) where
   abbrev pub attribute : ℕ → Value → Eval Value
   attribute a (Imm ty fields) = at_place (field_list fields) a
   attribute a (Ref number) = object_at number >>= (λ o. at_place o.fields a)
   attribute a Void = fault p void at
-  attribute a _ = stop Stuck
+  attribute a _ = stuck
 
   -- An immutable value gives a changed copy.
   abbrev pub set_attribute : ℕ → Value → Value → Eval Value
-  set_attribute a v (Imm ty fields) = charge at (object_size (length (field_list fields)) 0) >> pure (Imm ty (with_field fields a v))
+  set_attribute a v (Imm ty fields) = do
+    changed ← with_place (field_list fields) a v
+    charge at (object_size (length changed) 0)
+    pure (Imm ty (fields_of changed))
   set_attribute a v (Ref number) = do
     o ← object_at number
-    set_object number (record o { fields = set o.fields a v })
+    changed ← with_place o.fields a v
+    set_object number (record o { fields = changed })
     pure Void
   set_attribute a v Void = fault p void at
-  set_attribute a v _ = stop Stuck
+  set_attribute a v _ = stuck
 
 abbrev pub shared : ℕ → Eval Value
 shared k = look (λ s. s.shareds) >>= (λ shareds. at_place shareds k)
 
 abbrev pub set_shared : ℕ → Value → Eval (Unit {0})
-set_shared k v = change (λ s. record s { shareds = set s.shareds k v })
+set_shared k v = do
+  shareds ← look (λ s. s.shareds)
+  changed ← with_place shareds k v
+  change (λ s. record s { shareds = changed })
 
 -- ---- the run of a routine
 
 abbrev pub only_given : List (Option Value) → List Value
 only_given = filter_map (λ v. v)
 
--- the values that are given, and what was there where none is
-abbrev pub filled : List Value → List (Option Value) → List Value
-filled (v ∷ more) (Some w ∷ given) = w ∷ filled more given
-filled (v ∷ more) (None ∷ given) = v ∷ filled more given
-filled variables _ = variables
+-- the one element of a list that has one
+abbrev pub single : {A : Type 0} → List A → Option A
+single (a ∷ []) = Some a
+single _ = None
+
+-- A callee's variables at its entry, where it is given what its arguments want by their modes. Of these `out` ones get no
+-- value.
+abbrev pub filled : List Mode → List Value → List (Option Value) → Option (List Value)
+filled (mode.Out ∷ modes) (v ∷ variables) (None ∷ given) = option_map (λ rest. v ∷ rest) (filled modes variables given)
+filled (mode.Out ∷ modes) (v ∷ variables) (Some w ∷ given) = None
+filled (_ ∷ modes) (v ∷ variables) (Some w ∷ given) = option_map (λ rest. w ∷ rest) (filled modes variables given)
+filled [] variables [] = Some variables
+filled _ _ _ = None
 
 abbrev pub void_variables : Program → Feature → List Value
 void_variables p f = map (void_of p) f.vars
@@ -213,26 +277,27 @@ returned k caller Done = do
   variables ← look (λ s. s.here.variables)
   leave k caller
   pure (Void, variables)
-returned k caller _ = stop Stuck
+returned k caller _ = stuck
 
 abbrev pub raised_out : {A : Type 0} → ℕ → Activation → Cause → Eval A
 raised_out k caller (Raised exception kind at) = leave k caller >> stop (Raised exception kind at)
-raised_out k caller Broke = stop Stuck
+raised_out k caller Broke = stuck
 raised_out k caller cause = stop cause
 
 -- What a turn begins is run by `go`, which has a turn less.
 module _ (p : Program) (go : Residue → Eval Flow) (at : Pos) where
   abbrev pub entered : ℕ → Feature → Value → List (Option Value) → Activation → Eval (Value × List Value)
   entered k f self given caller = do
+    variables ← or_stuck (filled f.modes (void_variables p f) given)
     checked_depth at caller
-    enter k (record { feature = Some k; self = self; variables = filled (void_variables p f) given; sites = Empty; exception = None; depth = caller.depth + 1 })
+    enter k (record { feature = Some k; self = self; variables = variables; sites = Empty; exception = None; depth = caller.depth + 1 })
     resolve (go (all_of f.body)) (returned k caller) (raised_out k caller)
 
   abbrev pub routine : ℕ → Value → List (Option Value) → Eval (Value × List Value)
   routine k self given = do
     f ← at_place p.features k
     caller ← look (λ s. s.here)
-    if f.iter then stop Stuck else turn (entered k f self given caller)
+    if f.iter then stuck else turn (entered k f self given caller)
 
   abbrev pub with_no_variables : Eval Value → Eval (Value × List Value)
   with_no_variables f = f >>= (λ v. pure (v, []))
@@ -240,11 +305,12 @@ module _ (p : Program) (go : Residue → Eval Flow) (at : Pos) where
   -- the result of a target, and its variables where it is a routine
   abbrev pub reached : Target → Option ℕ → Value → List (Option Value) → Eval (Value × List Value)
   reached (target.Feature k) class self given = routine k self given
-  reached (target.Builtin n) class self given = with_no_variables (at_place builtins n >>= builtin p class at self (only_given given))
-  reached (target.Get a) class self given = with_no_variables (attribute p at a self)
-  reached (target.Set a) class self given = with_no_variables (at_place (only_given given) 0 >>= (λ v. set_attribute p at a v self))
-  reached (target.GetShared k) class self given = with_no_variables (shared k)
-  reached (target.SetShared k) class self given = with_no_variables (at_place (only_given given) 0 >>= set_shared k >> pure Void)
+  reached (target.Builtin n) class self given = with_no_variables (at_place builtins n >>= builtin_call p class at self (only_given given))
+  reached (target.Get a) class self [] = with_no_variables (attribute p at a self)
+  reached (target.Set a) class self given = with_no_variables (or_stuck (single (only_given given)) >>= (λ v. set_attribute p at a v self))
+  reached (target.GetShared k) class self [] = with_no_variables (shared k)
+  reached (target.SetShared k) class self given = with_no_variables (or_stuck (single (only_given given)) >>= set_shared k >> pure Void)
+  reached _ class self given = stuck
 
   abbrev pub call : CalledCore → Value → List (Option Value) → List (Option ℕ) → Eval Value
   call called v given back = do

@@ -9,13 +9,14 @@ use Rattle.sa_core.specs.declared.feature.SiteCore.{SiteCore}
 use Rattle.sa_core.specs.declared.feature.Target.TheVariants as target
 use Rattle.sa_core.specs.Tree as tree
 use Rattle.sa_core.specs.Tree.{Expr, VoidOf, Me, Var, Exception, IsVoid, New, NewArray, Elements, Call, IterCall, Bind, Swapped, And, Or, Widen, Exprs, no_exprs, expr, Arg, Variable, Left, Args, no_args, arg}
+use Rattle.sa_meaning.specs.Sequence.{◌>>=◌, ◌>>◌, pure, look, or_stuck, at_place, stuck}
 use Rattle.sa_meaning.specs.Value.{Value, Int, Truth, Char, Text, Ref, Bound, is_void, as_int, as_truth}
 use Rattle.sa_meaning.specs.Program.{Program, void_of}
-use Rattle.sa_meaning.specs.State.{Residue, Sites, Instance, Flow, Stuck}
-use Rattle.sa_meaning.specs.Steps.{Eval, ◌>>=◌, ◌>>◌, pure, look, stop, or_stuck, at_place, charge, object_size, add_object, plain, read}
+use Rattle.sa_meaning.specs.State.{Residue, Sites, Instance, Flow}
+use Rattle.sa_meaning.specs.Steps.{Eval, charge, object_size, add_object, plain, read}
 use Rattle.sa_meaning.specs.Builtin.{new_array}
-use Rattle.sa_meaning.specs.Calls.{Callee, callee, handed, reached, call, widened, only_given}
-use Rattle.sa_meaning.specs.Instances.{Station, is_once, found, this_feature, start, resume}
+use Rattle.sa_meaning.specs.Calls.{Callee, callee, handed, reached, call, widened_from, widened_where, wide_arguments, is_once, only_given}
+use Rattle.sa_meaning.specs.Instances.{Station, found, this_feature, start, resume}
 
 -- ---- arguments
 
@@ -71,16 +72,17 @@ module _ (p : Program) (at : Pos) where
     number ← add_object (record { ty = ty; fields = c.self ∷ only_given given; elements = []; binding = Some (record { target = c.target; class = class; is_open = map is_none given }) })
     pure (Bound number)
 
-  abbrev pub bound_to_callee : CalledCore → ℕ → Value → List (Option Value) → Eval Value
-  bound_to_callee called ty v given = do
-    c ← callee p at called v
-    h ← handed p at called c given []
-    bound_value ty c h.given
+  -- The values that a bind keeps, which that of a signature widens. The call of a bound value isn't bound.
+  abbrev pub kept_values : CalledCore → Callee → List (Option Value) → Eval (List (Option Value))
+  kept_values (called.Static target class) c given = pure given
+  kept_values (called.Dispatch k) c given = widened_where p at (wide_arguments p c.class c.target) given
+  kept_values called.Bound c given = stuck
 
-  -- A bind chooses the implementation, and widens what it keeps. The call of a bound value isn't bound.
   abbrev pub bound : CalledCore → ℕ → Value → List (Option Value) → Eval Value
-  bound called.Bound ty v given = stop Stuck
-  bound called ty v given = bound_to_callee called ty v given
+  bound called ty v given = do
+    c ← callee p at called v
+    kept ← kept_values called c given
+    bound_value ty c kept
 
 -- ---- iter calls
 
@@ -153,7 +155,7 @@ module _ (p : Program) (go : Residue → Eval Flow) where
       pure r.0
     evaluate (And first second) = evaluate first >>= truth_of >>= (λ b. if b then evaluate second else pure (Truth false))
     evaluate (Or first second) = evaluate first >>= truth_of >>= (λ b. if b then pure (Truth true) else evaluate second)
-    evaluate (Widen ty of at) = evaluate of >>= widened p at
+    evaluate (Widen ty of at) = evaluate of >>= widened_from p at ty
 
     pub evaluate_all : Exprs → Eval (List Value)
     evaluate_all no_exprs = pure []

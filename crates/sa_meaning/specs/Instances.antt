@@ -1,15 +1,16 @@
 -- Instances of iters: their sites, their starts, resumptions and ends.
-use Rattle.std.specs.Prelude.{ℕ, ◌+◌, ◌-◌, Bool, true, false, not, ◌==◌, nat_lt, if◌then◌else◌, List, [], ◌∷◌, ◌++◌, length, slice_get, Option, Some, None}
+use Rattle.std.specs.Prelude.{ℕ, ◌+◌, ◌-◌, Bool, false, not, ◌==◌, nat_lt, if◌then◌else◌, List, [], ◌∷◌, ◌++◌, length, slice_get, Option, Some, None, option_map}
 use Rattle.sa_tree.specs.declared.pos.Pos.{Pos}
 use Rattle.sa_tree.specs.declared.ty.Mode.{Mode}
 use Rattle.sa_tree.specs.declared.ty.Mode.TheVariants as mode
 use Rattle.sa_core.specs.declared.feature.SiteCore.{SiteCore}
 use Rattle.sa_core.specs.declared.feature.Target.{Target}
 use Rattle.sa_core.specs.declared.feature.Target.TheVariants as target
+use Rattle.sa_meaning.specs.Sequence.{resolve, ◌>>=◌, ◌>>◌, look, change, stop, or_stuck, at_place, Gives, stuck}
 use Rattle.sa_meaning.specs.Value.{Value}
 use Rattle.sa_meaning.specs.Program.{Program, Feature}
-use Rattle.sa_meaning.specs.State.{Residue, all_of, Sites, Empty, Entry, Instance, Activation, Event, Start, Resume, Yields, Quits, Abandon, Leave, State, Cause, Broke, Raised, Stuck, Flow, Yielding, Returning, Gives}
-use Rattle.sa_meaning.specs.Steps.{Eval, resolve, ◌>>=◌, ◌>>◌, look, change, stop, or_stuck, at_place, turn, enter, checked_depth, checked_live}
+use Rattle.sa_meaning.specs.State.{Residue, all_of, Sites, Empty, Entry, Instance, Activation, Event, Start, Resume, Yields, Quits, Abandon, Leave, State, Cause, Broke, Raised, Flow, Yielding, Returning}
+use Rattle.sa_meaning.specs.Steps.{Eval, turn, enter, checked_depth, checked_live}
 use Rattle.sa_meaning.specs.Calls.{Callee, Handed, brought, filled, void_variables}
 
 -- ---- sites
@@ -73,24 +74,15 @@ end_loop p loop = do
 
 -- ---- the arguments of a resumption
 
-abbrev pub is_once : Mode → Bool
-is_once mode.Once = true
-is_once _ = false
-
-abbrev pub unless_once : List Mode → List (Option Value) → List (Option Value)
-unless_once (mode.Once ∷ more) (v ∷ given) = None ∷ unless_once more given
-unless_once (_ ∷ more) (v ∷ given) = v ∷ unless_once more given
-unless_once _ given = given
-
--- variables with those of `out` arguments void
-abbrev pub out_void : List Mode → List Value → List Value → List Value
-out_void (mode.Out ∷ more) (u ∷ voids) (v ∷ variables) = u ∷ out_void more voids variables
-out_void (_ ∷ more) (u ∷ voids) (v ∷ variables) = v ∷ out_void more voids variables
-out_void _ voids variables = variables
-
--- At a resumption the arguments that aren't `once` are set anew.
-abbrev pub set_anew : Program → Feature → List (Option Value) → List Value → List Value
-set_anew p f given variables = filled (out_void f.modes (void_variables p f) variables) (unless_once f.modes given)
+-- An iter's variables at a resumption, with the void ones of its arguments: `once` arguments stay, `out` ones are void again,
+-- and the others are set anew.
+abbrev pub set_anew : List Mode → (voids variables : List Value) → List (Option Value) → Option (List Value)
+set_anew (mode.Once ∷ modes) (u ∷ voids) (v ∷ variables) (_ ∷ given) = option_map (λ rest. v ∷ rest) (set_anew modes voids variables given)
+set_anew (mode.Out ∷ modes) (u ∷ voids) (v ∷ variables) (None ∷ given) = option_map (λ rest. u ∷ rest) (set_anew modes voids variables given)
+set_anew (mode.Out ∷ modes) (u ∷ voids) (v ∷ variables) (Some w ∷ given) = None
+set_anew (_ ∷ modes) (u ∷ voids) (v ∷ variables) (Some w ∷ given) = option_map (λ rest. w ∷ rest) (set_anew modes voids variables given)
+set_anew [] voids variables [] = Some variables
+set_anew _ _ _ _ = None
 
 -- ---- where an instance stands: the site of a feature, in the caller's activation
 
@@ -124,12 +116,12 @@ module _ (p : Program) (here : Station) (i : Instance) where
     variables ← look (λ s. s.here.variables)
     instance_waits here i left
     brought p here.at h (v, variables)
-  suspended h (Returning v) = stop Stuck
+  suspended h (Returning v) = stuck
   suspended h _ = instance_ends here i Quits >> stop Broke
 
   abbrev pub raised_through : Cause → Eval Value
   raised_through (Raised exception kind at) = instance_ends here i Abandon >> stop (Raised exception kind at)
-  raised_through Broke = stop Stuck
+  raised_through Broke = stuck
   raised_through cause = stop cause
 
 -- ---- starts and resumptions, whose turn is spent
@@ -146,25 +138,27 @@ module _ (p : Program) (go : Residue → Eval Flow) (here : Station) where
 
   abbrev pub begun : ℕ → Feature → Callee → Handed → Eval Value
   begun k f c h = do
+    variables ← or_stuck (filled f.modes (void_variables p f) h.given)
     checked_depth here.at here.caller
     checked_live here.at
     number ← add_instance
-    run_instance h (record { number = number; feature = k; self = c.self; through = c.through; variables = filled (void_variables p f) h.given; left = all_of f.body }) Empty
+    run_instance h (record { number = number; feature = k; self = c.self; through = c.through; variables = variables; left = all_of f.body }) Empty
 
   abbrev pub start_of : Target → Callee → Handed → Eval Value
   start_of (target.Feature k) c h = do
     f ← at_place p.features k
-    if f.iter then turn (begun k f c h) else stop Stuck
-  start_of _ c h = stop Stuck
+    if f.iter then turn (begun k f c h) else stuck
+  start_of _ c h = stuck
 
   abbrev pub start : Callee → Handed → Eval Value
   start c h = start_of c.target c h
 
   abbrev pub continued : Feature → Instance → Sites → Handed → Eval Value
   continued f i inside h = do
+    variables ← or_stuck (set_anew f.modes (void_variables p f) i.variables h.given)
     checked_depth here.at here.caller
     change (λ s. record s { events = s.events ++ Resume here.feature here.site i.number ∷ [] })
-    run_instance h (record i { variables = set_anew p f h.given i.variables }) inside
+    run_instance h (record i { variables = variables }) inside
 
   abbrev pub resume : Instance → Sites → Handed → Eval Value
   resume i inside h = do

@@ -3,7 +3,8 @@ use Rattle.std.specs.Prelude.{◌≡◌, ℕ, ◌≤◌, List, ◌++◌}
 use Rattle.sa_core.specs.declared.program.Core.{Core}
 use Rattle.sa_meaning.specs.Program.{program_of}
 use Rattle.sa_meaning.specs.State.{Input}
-use Rattle.sa_meaning.specs.Run.{End, Spent, run, outcome, last_state, output}
+use Rattle.sa_meaning.specs.Sequence.{last_state}
+use Rattle.sa_meaning.specs.Run.{End, Spent, run, outcome, output}
 
 abbrev pub IsOver : End → Type 0
 IsOver (Spent output) = ⊥

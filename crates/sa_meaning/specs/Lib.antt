@@ -3,9 +3,11 @@ pub mod Calls
 pub mod Evaluation
 pub mod Instances
 pub mod Law
+pub mod MoreSamples
 pub mod Program
 pub mod Run
 pub mod Samples
+pub mod Sequence
 pub mod State
 pub mod Statements
 pub mod Steps

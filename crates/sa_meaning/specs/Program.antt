@@ -1,11 +1,11 @@
 -- A typed program as its meaning sees it, and which of these a tree of the checker is.
-use Rattle.std.specs.Prelude.{ℕ, zero, suc, pos, Bool, true, false, ◌&&◌, ◌||◌, ◌==◌, if◌then◌else◌, List, [], map, length, slice_get, position, find, Option, is_some, unwrap_or, option_and_then}
+use Rattle.std.specs.Prelude.{ℕ, zero, suc, pos, Bool, true, false, ◌&&◌, ◌||◌, ◌==◌, if◌then◌else◌, List, [], ◌∷◌, map, length, slice_get, position, find, Option, is_some, unwrap_or, option_and_then}
 use Rattle.std.specs.Option.{option_map_or}
 use Rattle.sa_tree.specs.declared.class.Kind.{Kind}
 use Rattle.sa_tree.specs.declared.class.Kind.TheVariants as kind
 use Rattle.sa_tree.specs.declared.pos.Pos.{Pos}
 use Rattle.sa_tree.specs.declared.ty.Mode.{Mode}
-use Rattle.sa_tree.specs.Types.{BareTy, Rout, Iter, BareResult, no_result, gives, bare, option_bare}
+use Rattle.sa_tree.specs.Types.{BareTy, Rout, Iter, BareArgs, no_args, arg, BareResult, no_result, gives, bare, all_bare_args, option_bare}
 use Rattle.sa_types.specs.Abstract.{is_abstract_bare}
 use Rattle.sa_core.specs.declared.feature.FeatureCore.{FeatureCore}
 use Rattle.sa_core.specs.declared.feature.SiteCore.{SiteCore}
@@ -17,7 +17,7 @@ use Rattle.sa_core.specs.declared.program.TypeInfo.{TypeInfo}
 use Rattle.sa_core.specs.Copy.{block_of, option_expr_of}
 use Rattle.sa_core.specs.PositionList.{core_positions}
 use Rattle.sa_core.specs.Tree.{Expr, Stmts}
-use Rattle.sa_meaning.specs.Value.{Value, Void, Int, Truth, Char, Imm, fields_of}
+use Rattle.sa_meaning.specs.Value.{Value, Void, Int, Truth, Char, Imm, fields_of, bool_type, int_type, char_type}
 
 -- A type. A bound type has the kind of a reference class and no attributes.
 pub record TypeRow : Type 0 where
@@ -28,7 +28,8 @@ pub record TypeRow : Type 0 where
   pub elem : Option ℕ
   -- the other types that it is below
   pub above : List ℕ
-  -- a bound type whose result is of an abstract type
+  -- of a bound type: which arguments are of abstract types, and whether the result is
+  pub wide_args : List Bool
   pub wide : Bool
 
 pub record Feature : Type 0 where
@@ -44,11 +45,14 @@ pub record Feature : Type 0 where
 -- A signature of an abstract type.
 pub record Signature : Type 0 where
   pub impls : List ImplCore
-  -- its result is of an abstract type
+  -- which arguments are of abstract types, and whether the result is
+  pub wide_args : List Bool
   pub wide : Bool
 
 pub record SharedRow : Type 0 where
   pub ty : ℕ
+  -- the number of the class that has it
+  pub class : ℕ
   pub start : Option Expr
 
 pub record Program : Type 0 where
@@ -60,6 +64,8 @@ pub record Program : Type 0 where
   -- the positions at which faults can stand, and the line of each
   pub places : List Pos
   pub lines : List ℕ
+  -- whether faults can be caught, as the language has it
+  pub faults_raise : Bool
 
 -- ---- the program that a typed tree is
 
@@ -67,22 +73,31 @@ abbrev pub is_wide_result : BareResult → Bool
 is_wide_result no_result = false
 is_wide_result (gives ty) = is_abstract_bare ty
 
+abbrev pub wide_list : BareArgs → List Bool
+wide_list no_args = []
+wide_list (arg mode ty more) = is_abstract_bare ty ∷ wide_list more
+
+abbrev pub wide_arguments_of : BareTy → List Bool
+wide_arguments_of (Rout args _) = wide_list args
+wide_arguments_of (Iter args _) = wide_list args
+wide_arguments_of _ = []
+
 abbrev pub has_wide_result : BareTy → Bool
 has_wide_result (Rout args result) = is_wide_result result
 has_wide_result (Iter args result) = is_wide_result result
 has_wide_result _ = false
 
 abbrev pub type_row : TypeInfo → TypeRow
-type_row t = record { kind = t.kind; attrs = t.attrs; elem = t.elem; above = t.above; wide = has_wide_result (bare t.ty) }
+type_row t = record { kind = t.kind; attrs = t.attrs; elem = t.elem; above = t.above; wide_args = wide_arguments_of (bare t.ty); wide = has_wide_result (bare t.ty) }
 
 abbrev pub feature_of : FeatureCore → Feature
 feature_of f = record { iter = f.iter; modes = f.modes; vars = f.vars; sites = f.sites; body = block_of f.body; pos = f.pos }
 
 abbrev pub signature_of : SigCore → Signature
-signature_of s = record { impls = s.impls; wide = is_wide_result (option_bare s.sig.result) }
+signature_of s = record { impls = s.impls; wide_args = wide_list (all_bare_args s.sig.args); wide = is_wide_result (option_bare s.sig.result) }
 
 abbrev pub shared_row : SharedCore → SharedRow
-shared_row s = record { ty = s.ty; start = option_expr_of s.start }
+shared_row s = record { ty = s.ty; class = s.class; start = option_expr_of s.start }
 
 abbrev pub program_of : Core → Program
 program_of core = record {
@@ -93,24 +108,14 @@ program_of core = record {
   main = core.main;
   places = core_positions core;
   lines = core.lines;
+  faults_raise = true;
 }
 
+-- where no fault can be caught
+abbrev pub before : Program → Program
+before p = record p { faults_raise = false }
+
 -- ---- types by their numbers
-
-abbrev pub bool_type : ℕ
-bool_type = 3
-
-abbrev pub int_type : ℕ
-int_type = 4
-
-abbrev pub char_type : ℕ
-char_type = 5
-
-abbrev pub str_type : ℕ
-str_type = 6
-
-abbrev pub fault_type : ℕ
-fault_type = 7
 
 abbrev pub is_abstract_kind : Kind → Bool
 is_abstract_kind kind.Abstract = true

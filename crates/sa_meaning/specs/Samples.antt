@@ -1,5 +1,5 @@
 -- Small typed programs, each the tree of the source above it.
-use Rattle.std.specs.Prelude.{ℕ, pos, negsuc, true, false, List, [], ◌∷◌, ◌++◌, Some, None, codes}
+use Rattle.std.specs.Prelude.{ℕ, pos, negsuc, Bool, true, false, List, [], ◌∷◌, ◌++◌, Some, None, codes}
 use Rattle.sa_tree.specs.declared.class.Kind.TheVariants as kind
 use Rattle.sa_tree.specs.declared.pos.Pos.{Pos}
 use Rattle.sa_tree.specs.declared.ty.Mode.{Mode}
@@ -10,7 +10,8 @@ use Rattle.sa_core.specs.declared.feature.Target.TheVariants as target
 use Rattle.sa_core.specs.Copy.{expr_list, arg_list, stmt_list, test_list, arm_list}
 use Rattle.sa_core.specs.Tree as tree
 use Rattle.sa_core.specs.Tree.{Expr, VoidOf, Me, Var, Exception, IsVoid, New, Call, IterCall, Bind, Or, Arg, Variable, Left, Stmt, Let, Do, If, Loop, Leave, TypeCase, Protect, Return, Yield, Quit, Raise, Stop, no_stmts, no_else, otherwise}
-use Rattle.sa_meaning.specs.Program.{TypeRow, Feature, Program, bool_type, int_type, str_type, fault_type}
+use Rattle.sa_meaning.specs.Value.{bool_type, int_type, str_type, fault_type}
+use Rattle.sa_meaning.specs.Program.{TypeRow, Feature, Program}
 
 -- ---- words for trees, all of whose forms stand at one place
 
@@ -83,13 +84,17 @@ when test body = If (test_list ((expr_list (test ∷ []), stmt_list body) ∷ []
 -- ---- words for programs
 
 abbrev pub class_row : List ℕ → List ℕ → TypeRow
-class_row attrs above = record { kind = kind.Reference; attrs = attrs; elem = None; above = above; wide = false }
+class_row attrs above = record { kind = kind.Reference; attrs = attrs; elem = None; above = above; wide_args = []; wide = false }
 
 abbrev pub immutable_row : List ℕ → List ℕ → TypeRow
-immutable_row attrs above = record { kind = kind.Immutable; attrs = attrs; elem = None; above = above; wide = false }
+immutable_row attrs above = record { kind = kind.Immutable; attrs = attrs; elem = None; above = above; wide_args = []; wide = false }
+
+-- a bound type, of which these arguments are of abstract types
+abbrev pub bound_row : List Bool → TypeRow
+bound_row wide = record (class_row [] (0 ∷ [])) { wide_args = wide }
 
 abbrev pub abstract_row : List ℕ → TypeRow
-abstract_row above = record { kind = kind.Abstract; attrs = []; elem = None; above = above; wide = false }
+abstract_row above = record { kind = kind.Abstract; attrs = []; elem = None; above = above; wide_args = []; wide = false }
 
 -- `$OB`, `$STR`, `$IS_EQ`, BOOL, INT, CHAR, STR, FAULT, MAIN and OUT
 abbrev pub base_types : List TypeRow
@@ -112,7 +117,7 @@ abbrev pub site : ℕ → ℕ → SiteCore
 site k ty = record { owner = 0; called = Static (target.Feature k) ty; pos = here }
 
 abbrev pub program : List TypeRow → List Feature → Program
-program types features = record { types = base_types ++ types; features = features; signatures = []; shareds = []; main = 0; places = here ∷ []; lines = 1 ∷ [] }
+program types features = record { types = base_types ++ types; features = features; signatures = []; shareds = []; main = 0; places = here ∷ []; lines = 1 ∷ []; faults_raise = true }
 
 -- ---- features of the prelude
 
@@ -170,7 +175,7 @@ once_alone = record (program [] (
     routine [] (int_type ∷ []) (site 1 int_type ∷ []) (loop (Let 0 (up 0 (int 1) (call 2 [])) ∷ []) ∷ put_int (get_shared 0) ∷ [])
     ∷ upto
     ∷ routine [] [] [] (Do (set_shared 0 (plus (get_shared 0) (int 1))) ∷ Return (Some (int 2)) ∷ [])
-    ∷ [])) { shareds = record { ty = int_type; start = None } ∷ [] }
+    ∷ [])) { shareds = record { ty = int_type; class = main_type; start = None } ∷ [] }
 
 -- class MAIN is add!(x:INT):INT is s:INT; loop s := s + x; yield s; end; end;
 --   main is loop i ::= 1.upto!(3); #OUT + add!(i) + " "; end; end; end
@@ -202,7 +207,7 @@ abandoned = program [] (
 
 -- b ::= bind(1.upto!(_)); loop #OUT + b.call!(3) + " "; end
 abbrev pub bound_iter : Program
-bound_iter = program (class_row [] (ob_type ∷ []) ∷ []) (
+bound_iter = program (bound_row (false ∷ []) ∷ []) (
     routine [] (own_type ∷ []) (record { owner = 0; called = Bound; pos = here } ∷ []) (
     Let 0 (Bind (Static (target.Feature 1) int_type) (int 1) (arg_list (Left ∷ [])) own_type here)
     ∷ loop (put_int (up 0 (Var 0) (int 3)) ∷ put (text (codes " ")) ∷ []) ∷ [])
@@ -247,7 +252,7 @@ copies_widened = program [] (
 
 -- class MAIN is f(a:INT, b:INT):INT is return a - b; end; main is g ::= bind(f(_, 2)); #OUT + g.call(9); end; end
 abbrev pub bound_routine : Program
-bound_routine = program (class_row [] (ob_type ∷ []) ∷ []) (
+bound_routine = program (bound_row (false ∷ []) ∷ []) (
     routine [] (own_type ∷ []) [] (
     Let 0 (Bind (Static (target.Feature 1) main_type) Me (arg_list (Left ∷ tree.Value In (int 2) ∷ [])) own_type here)
     ∷ put_int (Call Bound (Var 0) (arg_list (with_one (int 9))) here) ∷ [])
@@ -257,7 +262,7 @@ bound_routine = program (class_row [] (ob_type ∷ []) ∷ []) (
 -- class MAIN is count!(step:INT):INT is s:INT; loop s := s + step; step := 100; yield s; end; end;
 --   main is b ::= bind(count!(2)); loop x ::= b.call!; #OUT + x + " "; while!(x < 6); end; end; end
 abbrev pub bound_anew : Program
-bound_anew = program (class_row [] (ob_type ∷ []) ∷ []) (
+bound_anew = program (bound_row [] ∷ []) (
     routine [] (own_type ∷ int_type ∷ []) (record { owner = 0; called = Bound; pos = here } ∷ []) (
     Let 0 (Bind (Static (target.Feature 1) main_type) Me (arg_list (with_one (int 2))) own_type here)
     ∷ loop (
@@ -289,7 +294,7 @@ divides = program [] (routine [] [] [] (
 
 -- the types with ARRAY{INT}
 abbrev pub array_types : List TypeRow
-array_types = record { kind = kind.Reference; attrs = []; elem = Some int_type; above = ob_type ∷ []; wide = false } ∷ []
+array_types = record { kind = kind.Reference; attrs = []; elem = Some int_type; above = ob_type ∷ []; wide_args = []; wide = false } ∷ []
 
 -- a ::= #ARRAY{INT}(2); a[1] := 7; #OUT + a[1] + a.size; x ::= a[2]
 abbrev pub passes_the_end : Program
@@ -352,7 +357,7 @@ fault_str = routine [] (int_type ∷ []) [] (
 
 -- the program with the feature, as the implementation of the signature `str` of `$STR` by FAULT
 abbrev pub with_str : Program → Program
-with_str p = record p { features = p.features ++ fault_str ∷ []; signatures = record { impls = record { ty = fault_type; target = target.Feature 1 } ∷ []; wide = false } ∷ [] }
+with_str p = record p { features = p.features ++ fault_str ∷ []; signatures = record { impls = record { ty = fault_type; target = target.Feature 1 } ∷ []; wide_args = []; wide = false } ∷ [] }
 
 -- an attribute of the exception
 abbrev pub of_fault : ℕ → Expr
@@ -420,7 +425,7 @@ dispatches = record (program (abstract_row (ob_type ∷ []) ∷ class_row [] (ob
     ∷ when (IsVoid (Var 1)) (put (text (codes "void")) ∷ []) ∷ [])
     ∷ routine (In ∷ []) (ob_type ∷ int_type ∷ []) [] (
     TypeCase 0 (arm_list ((int_type, 1, stmt_list (Return (Some (plus (Var 1) (int 1))) ∷ [])) ∷ [])) no_else here ∷ Stop 6 here ∷ [])
-    ∷ [])) { signatures = record { impls = record { ty = 11; target = target.Feature 1 } ∷ []; wide = true } ∷ [] }
+    ∷ [])) { signatures = record { impls = record { ty = 11; target = target.Feature 1 } ∷ []; wide_args = false ∷ []; wide = true } ∷ [] }
 
 -- abstract class $A is f!(x:INT):$OB; end; class C < $A is create:SAME is return new; end; f!(x:$OB):INT is
 --   loop typecase x when INT then yield x + 1; end; end; end; end;
@@ -435,7 +440,7 @@ dispatches_iter = record (program (abstract_row (ob_type ∷ []) ∷ class_row [
     ∷ Leave 1 (Some (is_lt (Var 1) (int 3))) ∷ []) ∷ [])
     ∷ iter (In ∷ []) (ob_type ∷ int_type ∷ []) [] (
     loop (TypeCase 0 (arm_list ((int_type, 1, stmt_list (Yield (Some (plus (Var 1) (int 1))) ∷ [])) ∷ [])) no_else here ∷ []) ∷ [])
-    ∷ [])) { signatures = record { impls = record { ty = 11; target = target.Feature 1 } ∷ []; wide = true } ∷ [] }
+    ∷ [])) { signatures = record { impls = record { ty = 11; target = target.Feature 1 } ∷ []; wide_args = false ∷ []; wide = true } ∷ [] }
 
 -- the same with `a:$A` void
 abbrev pub dispatches_on_void : Program

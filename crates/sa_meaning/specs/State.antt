@@ -4,6 +4,9 @@ use Rattle.sa_tree.specs.declared.pos.Pos.{Pos}
 use Rattle.sa_core.specs.declared.feature.Target.{Target}
 use Rattle.sa_core.specs.Tree.{Stmt, Stmts, no_stmts, stmt}
 use Rattle.sa_meaning.specs.Value.{Value}
+-- the bytes that are left, and how many times their end can still be told, where this is limited
+pub use Rattle.wa_syntax.specs.Machine.{Input}
+use Rattle.sa_meaning.specs.Sequence.{Out}
 
 -- ---- objects
 
@@ -76,11 +79,6 @@ pub data Mark : Type 0 where
 
 -- ---- the state
 
--- The bytes that are left, and how many times their end can still be told, where this is limited.
-pub record Input : Type 0 where
-  pub bytes : List ℕ
-  pub ends : Option ℕ
-
 pub record State : Type 0 where
   pub objects : List Object
   pub shareds : List Value
@@ -106,14 +104,9 @@ pub data Cause : Type 0 where
   -- a fault that no protect catches
   Failed : (kind : ℕ) → (at : Pos) → Cause
   InputFailed : Cause
-  -- no rule says how to go on
-  Stuck : Cause
 
-pub data Out (A : Type 0) : Type 0 where
-  Gives : A → State → Out A
-  Stops : Cause → State → Out A
-  -- a turn is due, and none is left
-  Exhausts : State → Out A
+abbrev pub Outcome : Type 0 → Type 0
+Outcome A = Out State Cause A
 
 -- how a statement ends
 pub data Flow : Type 0 where

@@ -3,10 +3,11 @@ use Rattle.std.specs.Prelude.{ℕ, zero, suc, Bool, true, false, if◌then◌els
 use Rattle.std.specs.Option.{option_map_or}
 use Rattle.sa_tree.specs.declared.pos.Pos.{Pos}
 use Rattle.sa_core.specs.Tree.{Expr, Stmt, Let, Do, If, Loop, Leave, TypeCase, Protect, Return, Yield, Quit, Raise, Stop, Stmts, no_stmts, stmt, Tests, no_tests, branch, Arms, no_arms, arm, Else, no_else, otherwise}
+use Rattle.sa_meaning.specs.Sequence.{resolve, ◌>>=◌, ◌>>◌, pure, look, change, stop, Exhausts, stuck}
 use Rattle.sa_meaning.specs.Value.{Value, Void, is_nothing, unwrapped}
 use Rattle.sa_meaning.specs.Program.{Program, holds, is_immutable}
-use Rattle.sa_meaning.specs.State.{Residue, Over, Next, Rest, all_of, joined, Cause, Broke, Raised, Stuck, Flow, Done, Yielding, Returning, Quitting, Exhausts}
-use Rattle.sa_meaning.specs.Steps.{Eval, resolve, ◌>>=◌, ◌>>◌, pure, look, change, stop, turn, void, no_branch, uncaught, fault, read, write}
+use Rattle.sa_meaning.specs.State.{Residue, Over, Next, Rest, all_of, joined, Cause, Broke, Raised, Flow, Done, Yielding, Returning, Quitting}
+use Rattle.sa_meaning.specs.Steps.{Eval, turn, void, no_branch, uncaught, fault, read, write}
 use Rattle.sa_meaning.specs.Calls.{dynamic_type}
 use Rattle.sa_meaning.specs.Instances.{clear_loop, end_loop}
 use Rattle.sa_meaning.specs.Evaluation.{evaluate, truth_of, evaluate_tests}
@@ -29,7 +30,7 @@ set_exception exception = change (λ s. record s { here = record (s.here) { exce
 
 -- Nothing is suspended in a protect.
 abbrev pub not_suspended : Flow → Eval Flow
-not_suspended (Yielding v r) = stop Stuck
+not_suspended (Yielding v r) = stuck
 not_suspended flow = pure flow
 
 -- the statements of a branch of a protect, and then, however they end, the exception that was there before

@@ -1,49 +1,13 @@
--- The steps of which a run is made, and how they follow one another.
-use Rattle.std.specs.Prelude.{ℕ, zero, suc, ◌+◌, ◌-◌, ◌*◌, ◌/◌, ℤ, pos, negsuc, if◌then◌else◌, nat_le, List, [], ◌∷◌, ◌++◌, length, set, slice_get, Option, Some, None}
+-- The steps of which a run is made.
+use Rattle.std.specs.Prelude.{ℕ, zero, suc, ◌+◌, ◌-◌, ◌*◌, ◌/◌, ℤ, pos, negsuc, Bool, ◌&&◌, if◌then◌else◌, nat_le, List, [], ◌∷◌, ◌++◌, length, set, Option, Some, None}
 use Rattle.sa_tree.specs.declared.pos.Pos.{Pos}
-use Rattle.sa_meaning.specs.Value.{Value, Int, Text, Ref}
-use Rattle.sa_meaning.specs.Program.{Program, fault_type, line_at}
-use Rattle.sa_meaning.specs.State.{State, Object, Activation, Enter, Leave, Byte, Cause, Raised, Failed, InputFailed, Stuck, Out, Gives, Stops, Exhausts}
+use Rattle.sa_meaning.specs.Value.{Value, Int, Text, Ref, fault_type}
+use Rattle.sa_meaning.specs.Program.{Program, line_at}
+use Rattle.sa_meaning.specs.Sequence.{Step, Gives, Exhausts, ◌>>=◌, ◌>>◌, pure, look, change, stop, at_place, with_place}
+use Rattle.sa_meaning.specs.State.{State, Object, Activation, Enter, Leave, Byte, Cause, Raised, Failed, InputFailed}
 
 abbrev pub Eval : Type 0 → Type 0
-Eval A = State → Out A
-
-abbrev pub resolved : {A B : Type 0} → Out A → (A → Eval B) → (Cause → Eval B) → Out B
-resolved (Gives a s) next stopped = next a s
-resolved (Stops c s) next stopped = stopped c s
-resolved (Exhausts s) next stopped = Exhausts s
-
--- a step, and then one step where it gives a value, and another where it stops
-unfoldable pub resolve : {A B : Type 0} → Eval A → (A → Eval B) → (Cause → Eval B) → Eval B
-resolve f next stopped = λ s. resolved (f s) next stopped
-
-abbrev pub stop : {A : Type 0} → Cause → Eval A
-stop c = λ s. Stops c s
-
-infixl 10 ◌>>=◌
-abbrev pub ◌>>=◌ : {A B : Type 0} → Eval A → (A → Eval B) → Eval B
-f >>= next = resolve f next stop
-
-infixl 10 ◌>>◌
-abbrev pub ◌>>◌ : {A B : Type 0} → Eval A → Eval B → Eval B
-f >> g = resolve f (λ _. g) stop
-
-abbrev pub pure : {A : Type 0} → A → Eval A
-pure a = λ s. Gives a s
-
-abbrev pub look : {A : Type 0} → (State → A) → Eval A
-look see = λ s. Gives (see s) s
-
-abbrev pub change : (State → State) → Eval (Unit {0})
-change f = λ s. Gives tt (f s)
-
-unfoldable pub or_stuck : {A : Type 0} → Option A → Eval A
-or_stuck (Some a) = pure a
-or_stuck None = stop Stuck
-
--- what the option has, where the program has such a thing
-abbrev pub at_place : {A : Type 0} → List A → ℕ → Eval A
-at_place list place = or_stuck (slice_get list place)
+Eval A = Step State Cause A
 
 -- ---- turns
 
@@ -143,11 +107,16 @@ raise_new o kind at = do
   number ← add_object o
   stop (Raised (Ref number) kind at)
 
--- A fault raises a new object that tells its kind and its line. Where the room lacks, nothing catches it.
+-- The kinds from `overflow` to `assertion` can be caught.
+abbrev pub can_be_caught : ℕ → Bool
+can_be_caught kind = nat_le overflow kind && nat_le kind assertion
+
+-- Such a fault raises a new object that tells its kind and its line. Where the room lacks, and of the other kinds, nothing
+-- catches it.
 abbrev pub fault : {A : Type 0} → Program → ℕ → Pos → Eval A
 fault p kind at = do
   room ← look (λ s. s.room)
-  if nat_le (object_size 2 0) room then raise_new (fault_object p kind at) kind at else stop (Failed kind at)
+  if p.faults_raise && can_be_caught kind && nat_le (object_size 2 0) room then raise_new (fault_object p kind at) kind at else stop (Failed kind at)
 
 -- ---- texts, output and input
 
@@ -186,7 +155,10 @@ abbrev pub read : ℕ → Eval Value
 read var = look (λ s. s.here.variables) >>= (λ variables. at_place variables var)
 
 abbrev pub write : ℕ → Value → Eval (Unit {0})
-write var v = change (λ s. record s { here = record (s.here) { variables = set s.here.variables var v } })
+write var v = do
+  variables ← look (λ s. s.here.variables)
+  changed ← with_place variables var v
+  change (λ s. record s { here = record (s.here) { variables = changed } })
 
 -- ---- entries and exits of features
 

@@ -1,6 +1,25 @@
 -- The values of a running program.
 use Rattle.std.specs.Prelude.{ℕ, ℤ, pos, negsuc, Bool, true, false, not, ◌&&◌, ◌==◌, List, [], ◌∷◌, Option, Some, None}
 
+-- ---- types whose numbers are the same in each program
+
+abbrev pub bool_type : ℕ
+bool_type = 3
+
+abbrev pub int_type : ℕ
+int_type = 4
+
+abbrev pub char_type : ℕ
+char_type = 5
+
+abbrev pub str_type : ℕ
+str_type = 6
+
+abbrev pub fault_type : ℕ
+fault_type = 7
+
+-- ---- values
+
 mutual
   pub data Value : Type 0 where
     -- the void of a reference, an abstract or a bound type
@@ -84,6 +103,14 @@ as_object _ = None
 abbrev pub as_bound : Value → Option ℕ
 as_bound (Bound object) = Some object
 as_bound _ = None
+
+-- the number of the type of a value of an immutable class that isn't widened
+abbrev pub raw_type : Value → Option ℕ
+raw_type (Int z) = Some int_type
+raw_type (Truth b) = Some bool_type
+raw_type (Char byte) = Some char_type
+raw_type (Imm ty _) = Some ty
+raw_type _ = None
 
 -- the value behind a wide one
 abbrev pub unwrapped : Value → Value

@@ -7,7 +7,7 @@ use Rattle.wa_syntax.specs.declared.module.ValTy.{ValTy}
 use Rattle.wa_syntax.specs.Instructions.{Sequence}
 use Rattle.wa_syntax.specs.Machine.{Entry, Label, Activation, State}
 use Rattle.wa_syntax.specs.Operations.{enter, return_in, return, branch_in, branch}
-use Rattle.wa_sound.specs.Typing.{Setting, AreOf, IsStore, Place, IsCode, IsTarget, IsInFunction, IsInside, IsAround, IsState}
+use Rattle.wa_sound.specs.Typing.{Setting, AreOf, IsStore, Place, IsCode, IsTypedTarget, IsTypedInFunction, IsInside, IsAround, IsState}
 use Rattle.wa_sound.proofs.Values.{AreOf-none, AreOf-append, AreOf-front}
 use Rattle.wa_sound.proofs.Rules.{Holds, IsSafe}
 
@@ -17,7 +17,7 @@ use Rattle.wa_sound.proofs.Rules.{Holds, IsSafe}
 abbrev pub in_block : List ValTy → Place → Place
 in_block wanted p = record p { labels = wanted ∷ p.labels }
 
-pub enter-safe : (r : Setting) (p : Place) (wanted left below : List ValTy) (kept : ℕ) (again : Option Sequence) (body : Sequence) → IsCode r (in_block wanted p) body [] left → kept ≡ length wanted → IsTarget r (in_block wanted p) wanted left again → IsSafe true r p below (left ++ below) (enter kept again body)
+pub enter-safe : (r : Setting) (p : Place) (wanted left below : List ValTy) (kept : ℕ) (again : Option Sequence) (body : Sequence) → IsCode r (in_block wanted p) body [] left → kept ≡ length wanted → IsTypedTarget r (in_block wanted p) wanted left again → IsSafe true r p below (left ++ below) (enter kept again body)
 enter-safe r p wanted left below kept again body typed keeps target = record {
   holds = λ s h. record {
     place = in_block wanted p;
@@ -52,7 +52,7 @@ kept-values types below ns ks more kept h e k =
     AreOf-append (reverse types) below (take kept ns) ks (AreOf-front (reverse types) more ns kept h (e ∙ sym (length-reverse types))) k
 
 module _ (r : Setting) (s : State) (store : IsStore r s.globals s.memory s.input) where
-  leave-function : (p : Place) (code : Sequence) (types below : List ValTy) (kept : ℕ) (behind : Sequence) (values locals : List ℕ) (stack : List Entry) → AreOf r (reverse p.results ++ below) s.operands → IsInFunction r p code types kept values locals (λ q ts. IsAround r q behind ts stack) → IsState r (record s { code = behind; operands = take kept s.operands ++ values; locals = locals; stack = stack })
+  leave-function : (p : Place) (code : Sequence) (types below : List ValTy) (kept : ℕ) (behind : Sequence) (values locals : List ℕ) (stack : List Entry) → AreOf r (reverse p.results ++ below) s.operands → IsTypedInFunction r p code types kept values locals (λ q ts. IsAround r q behind ts stack) → IsState r (record s { code = behind; operands = take kept s.operands ++ values; locals = locals; stack = stack })
   leave-function p code types below kept behind values locals stack are f = record {
     place = f.caller;
     types = reverse p.results ++ f.types_below;

@@ -66,13 +66,13 @@ IsCode r p code before after = AreTyped (context r.program p) code before after 
 
 -- a branch to the label of a block goes on behind it, with what the block leaves, and one to a loop's with the loop's
 -- instructions, with nothing
-abbrev pub IsTarget : Setting → Place → (wanted left : List ValTy) → Option Sequence → Type 0
-IsTarget r p wanted left None = left ≡ reverse wanted
-IsTarget r p wanted left (Some body) = (wanted ≡ []) × IsCode r p body [] left
+abbrev pub IsTypedTarget : Setting → Place → (wanted left : List ValTy) → Option Sequence → Type 0
+IsTypedTarget r p wanted left None = left ≡ reverse wanted
+IsTypedTarget r p wanted left (Some body) = (wanted ≡ []) × IsCode r p body [] left
 
 -- From operands of these types the rest of a block at place p leads to its end. Behind it stand the instructions that are outside
 -- its label.
-pub record IsInBlock (r : Setting) (p : Place) (code : Sequence) (types : List ValTy) (kept : ℕ) (again : Option Sequence) (below : List ℕ) (Outside : Place → List ValTy → Type 0) : Type 0 where
+pub record IsTypedInBlock (r : Setting) (p : Place) (code : Sequence) (types : List ValTy) (kept : ℕ) (again : Option Sequence) (below : List ℕ) (Outside : Place → List ValTy → Type 0) : Type 0 where
   pub wanted : List ValTy
   pub labels : List (List ValTy)
   pub left : List ValTy
@@ -80,12 +80,12 @@ pub record IsInBlock (r : Setting) (p : Place) (code : Sequence) (types : List V
   pub label : p.labels ≡ wanted ∷ labels
   pub typed : IsCode r p code types left
   pub keeps : kept ≡ length wanted
-  pub target : IsTarget r p wanted left again
+  pub target : IsTypedTarget r p wanted left again
   pub values_below : AreOf r types_below below
   pub outside : Outside (record p { labels = labels }) (left ++ types_below)
 
 -- From operands of these types the rest of a function's body leads to its end. Behind it stands the caller.
-pub record IsInFunction (r : Setting) (p : Place) (code : Sequence) (types : List ValTy) (kept : ℕ) (below locals : List ℕ) (Outside : Place → List ValTy → Type 0) : Type 0 where
+pub record IsTypedInFunction (r : Setting) (p : Place) (code : Sequence) (types : List ValTy) (kept : ℕ) (below locals : List ℕ) (Outside : Place → List ValTy → Type 0) : Type 0 where
   pub caller : Place
   pub types_below : List ValTy
   pub label : p.labels ≡ p.results ∷ []
@@ -104,9 +104,9 @@ IsOutside r code types stack = (code ≡ nothing) × (stack ≡ []) × (types �
 abbrev pub IsInside : Setting → Place → Sequence → List ValTy → List Entry → Type 0
 IsInside r p code types [] = ⊥
 IsInside r p code types (Label kept again behind below ∷ stack) =
-    IsInBlock r p code types kept again below (λ q ts. IsInside r q behind ts stack)
+    IsTypedInBlock r p code types kept again below (λ q ts. IsInside r q behind ts stack)
 IsInside r p code types (Activation kept behind below locals ∷ stack) =
-    IsInFunction r p code types kept below locals (λ q ts. IsOutside r behind ts stack ⊎ IsInside r q behind ts stack)
+    IsTypedInFunction r p code types kept below locals (λ q ts. IsOutside r behind ts stack ⊎ IsInside r q behind ts stack)
 
 -- outside all functions or inside one
 abbrev pub IsAround : Setting → Place → Sequence → List ValTy → List Entry → Type 0
