@@ -19,7 +19,7 @@ pub const VOID: u32 = 3;
 pub const INDEX: u32 = 4;
 
 /// The fault `no room`.
-const NO_ROOM: u32 = 9;
+pub const NO_ROOM: u32 = 9;
 
 /// Ends a feature without a value.
 pub const DONE: Part = Line(&[I32(0)]);

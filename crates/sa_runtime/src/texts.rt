@@ -1,31 +1,46 @@
 //! The features of `STR`. A void text is the address 0, where the length is 0.
 
-use crate::answers::{GIVE_ADDRESS, GIVE_WORD, INDEX_IF, NO_ROOM_IF};
+use crate::answers::{GIVE_ADDRESS, GIVE_WORD, INDEX_IF, NO_ROOM, NO_ROOM_IF};
 use crate::copying::{
     BYTE_IS_DONE, COPY_BYTES, LEAVE_WITHOUT_BYTE, LEAVE_WITHOUT_WORD, READ_WORD_ON, WORD_IS_DONE,
     WRITE_BYTE_ON, WRITE_WORD_ON,
 };
 use crate::layout::{ALLOCATE, STR, TEXT};
-use crate::line::Op::{Br, Call, Do, Get, I32, I64, Memory, Set, Tee};
+use crate::line::Op::{Br, BrIf, Call, Do, Get, I32, I64, Memory, Set, Tee};
 use crate::locals::{FIRST, FROM, LEFT, MADE, SECOND, SELF, SIZE, TO};
 use crate::operations::{LOAD_COUNT, LOAD_LENGTH, TO_ADDRESS, TO_WORD};
-use crate::parts::Part::{self, Block, Line, Loop, Sequence};
+use crate::parts::Part::{self, Block, If, Line, Loop, Sequence};
 use wa_syntax::opcode::{
-    I32_ADD, I32_EQZ, I32_LOAD8_U, I32_OR, I32_STORE8, I32_SUB, I64_ADD, I64_AND, I64_GE_U,
-    I64_GT_S, I64_GT_U, I64_LOAD8_U, I64_LT_S, I64_OR, I64_SHL,
+    I32_ADD, I32_EQZ, I32_GT_S, I32_LOAD8_U, I32_OR, I32_STORE8, I32_SUB, I64_ADD, I64_AND,
+    I64_GE_U, I64_GT_S, I64_GT_U, I64_LOAD8_U, I64_LT_S, I64_OR, I64_SHL, RETURN,
 };
 
 /// The header of a text without its length.
 const TEXT_HEADER: u64 = STR as u64 + 0x0100_0000 * TEXT as u64;
 
-/// Makes a text of so many bytes, all 0, or ends the feature by `no room`. Its header and its bytes are filled up to whole words.
-pub const MAKE_TEXT: Part = Sequence(&[
+/// Makes a text of so many bytes, all 0: whether there was no room for it. Its header and its bytes are filled up to whole words.
+const ALLOCATE_TEXT: Part = Sequence(&[
     Line(&[Get(SIZE), TO_WORD, I64(32), Do(I64_SHL)]),
     Line(&[I64(TEXT_HEADER), Do(I64_OR)]),
     Line(&[Get(SIZE), TO_WORD, I64(15), Do(I64_ADD)]),
     Line(&[I64(0xffff_ffff_ffff_fff8), Do(I64_AND)]),
     Line(&[Call(ALLOCATE), Tee(MADE), Do(I32_EQZ)]),
-    NO_ROOM_IF,
+]);
+
+/// Makes a short text of so many bytes, all 0, or ends the feature by `no room`.
+pub const MAKE_TEXT: Part = Sequence(&[ALLOCATE_TEXT, NO_ROOM_IF]);
+
+/// Goes round once for each 8 bytes that the text begins, and once for none. No text has 2^31 bytes.
+const SPEND_TURNS: Part = Loop(&[
+    Line(&[Get(SIZE), I32(8), Do(I32_SUB), Tee(SIZE)]),
+    Line(&[I32(0), Do(I32_GT_S), BrIf(0)]),
+]);
+
+/// Makes a text of so many bytes, all 0, for a feature that spends a turn for each 8 bytes that the text begins, or ends the
+/// feature by `no room`. The turns are spent before the room is asked for, so they have their instructions there too.
+const MAKE_LONG_TEXT: Part = Sequence(&[
+    ALLOCATE_TEXT,
+    If(&[SPEND_TURNS, Line(&[I32(NO_ROOM), Do(RETURN)])]),
 ]);
 
 /// `STR.size`.
@@ -47,7 +62,7 @@ pub const CAT: &[Part] = &[
     Line(&[LOAD_COUNT, Tee(LEFT)]),
     Line(&[Get(FIRST), TO_ADDRESS, LOAD_COUNT]),
     Line(&[Do(I32_ADD), Set(SIZE)]),
-    MAKE_TEXT,
+    MAKE_LONG_TEXT,
     Line(&[Get(MADE), Set(TO)]),
     COPY_BYTES,
     Line(&[Get(FIRST), TO_ADDRESS, Tee(FROM)]),
@@ -66,7 +81,7 @@ pub const SUBSTRING: &[Part] = &[
     Line(&[Do(I64_GT_S), Do(I32_OR)]),
     INDEX_IF,
     Line(&[Get(SECOND), TO_ADDRESS, Tee(SIZE), Set(LEFT)]),
-    MAKE_TEXT,
+    MAKE_LONG_TEXT,
     Line(&[Get(MADE), Set(TO)]),
     Line(&[Get(SELF), Get(FIRST), Do(I64_ADD)]),
     Line(&[TO_ADDRESS, Set(FROM)]),
@@ -104,7 +119,7 @@ pub const OF: &[Part] = &[
     Line(&[Do(I64_GT_U)]),
     INDEX_IF,
     Line(&[Get(SECOND), TO_ADDRESS, Tee(SIZE), Set(LEFT)]),
-    MAKE_TEXT,
+    MAKE_LONG_TEXT,
     Line(&[Get(MADE), Set(TO)]),
     Line(&[Get(FIRST), TO_ADDRESS, Get(ELEMENTS), Do(I32_ADD)]),
     Line(&[I32(8), Do(I32_SUB), Set(FROM)]),
