@@ -129,7 +129,15 @@ fn add_block(
     spot: Spot,
 ) -> Result<Behind, NoMemory> {
     let block = held(around.body.blocks.get(number as usize))?;
-    add_steps(alloc, code, around, block.steps.as_slice(), spot.inside)?;
+    let is_paid = is_jumped_to(around, number)?;
+    add_steps(
+        alloc,
+        code,
+        around,
+        block.steps.as_slice(),
+        is_paid,
+        spot.inside,
+    )?;
     match &block.exit {
         FlatExit::Jump(to) => add_going_on(code, around, *to, spot),
         FlatExit::Branch { test, yes, no } => {
@@ -143,18 +151,34 @@ fn add_block(
     }
 }
 
-/// Adds the code of steps.
+/// Adds the code of the steps of a block. A turn has an instruction of its own, so that a run never has more turns than
+/// instructions: the jump to the block where the turn is its first step, and else a `nop`. `is_paid` tells of that jump.
 fn add_steps(
     alloc: Global,
     code: &mut Items<Instr>,
     around: &Around<'_>,
     steps: &[FlatStep],
+    mut is_paid: bool,
     inside: u32,
 ) -> Result<(), NoMemory> {
     for step in steps {
+        if is_turn(step) && !is_paid {
+            code.push(Instr::Plain(opcode::NOP))?;
+        }
+        is_paid = false;
         add_step(alloc, code, around, step, inside)?;
     }
     Ok(())
+}
+
+/// Whether a step spends a turn and does nothing else.
+fn is_turn(step: &FlatStep) -> bool {
+    matches!(step, FlatStep::Turn)
+}
+
+/// Whether each way into a block is a jump: it is a head, and not the one that the body begins with.
+fn is_jumped_to(around: &Around<'_>, block: u32) -> Result<bool, NoMemory> {
+    Ok(block > 0 && is_head(around, block)?)
 }
 
 /// Adds a jump to a block that is a head. The code of another one stands here.
