@@ -1,0 +1,65 @@
+//! Prints the typed tree of a program as JSON, of the sources whose files the arguments name. Where a rule refuses the sources,
+//! `["Refused", RULE, [FILE, BYTE]]` is printed in its place, with the number of the rule.
+#![tactic(auto)]
+
+mod expr;
+mod program;
+mod stmt;
+mod writer;
+
+use crate::writer::Writer;
+use anyhow::{Result, anyhow};
+use sa_check::check;
+use sa_outside::{FileStore, Store};
+use sa_read::{Program, ReadFault, classes, read_program};
+use sa_tree::{FrontFault, Refusal};
+use std::alloc::{AllocError, Global};
+use std::env;
+
+fn main(rt: HostRuntime) -> Result<()> {
+    let alloc = rt.alloc();
+    let words: Vec<String> = env::args(&rt)?.skip(1).collect(alloc)?;
+    let mut files = Vec::new(alloc);
+    for word in words.iter() {
+        files.push(word.as_str())?;
+    }
+    let mut store = FileStore::new(&rt);
+    let Ok(program) = read_program(alloc, &mut store, files.as_slice()) else {
+        return Err(anyhow!("a file can't be read"));
+    };
+    let tree = tree(alloc, &program)?;
+    println!(rt; "{tree}")?;
+    Ok(())
+}
+
+/// The typed tree of a program, or the rule that refuses it.
+fn tree(alloc: Global, program: &Program) -> Result<String, AllocError> {
+    let mut writer = Writer::new(alloc);
+    match add_tree(alloc, &mut writer, program) {
+        Ok(()) => {}
+        Err(FrontFault::Refused(refusal)) => add_refusal(&mut writer, refusal)?,
+        Err(FrontFault::NoMemory) => return Err(AllocError),
+    }
+    let Writer { text, .. } = writer;
+    Ok(text)
+}
+
+/// Adds the typed tree of a program that no rule refuses.
+fn add_tree(alloc: Global, writer: &mut Writer, program: &Program) -> Result<(), FrontFault> {
+    if let Some(refusal) = program.cut {
+        return Err(FrontFault::Refused(refusal));
+    }
+    let texts = program.sources.texts.as_slice();
+    let classes = classes(alloc, texts)?;
+    let core = check(alloc, classes.as_slice())?;
+    writer.program(&core, texts)?;
+    Ok(())
+}
+
+/// Adds the rule that refuses a program.
+fn add_refusal(writer: &mut Writer, refusal: Refusal) -> Result<(), AllocError> {
+    writer.open("Refused")?;
+    writer.number(u32::from(refusal.code))?;
+    writer.pos(refusal.pos)?;
+    writer.close_list()
+}

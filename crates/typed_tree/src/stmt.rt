@@ -1,0 +1,132 @@
+//! Statements as JSON: each a list of the name of its form and of its fields, in their order.
+
+use crate::writer::Writer;
+use sa_core::{ArmCore, ExprCore, StmtCore, TestCore};
+use std::alloc::AllocError;
+
+impl Writer {
+    /// A statement.
+    #[cycle(write_stmt)]
+    fn stmt(&mut self, stmt: &StmtCore) -> Result<(), AllocError> {
+        match stmt {
+            StmtCore::Let(var, value) => {
+                self.open("Let")?;
+                self.number(*var)?;
+                self.expr(value)?;
+            }
+            StmtCore::Do(value) => {
+                self.open("Do")?;
+                self.expr(value)?;
+            }
+            StmtCore::If(tests, other) => {
+                self.open("If")?;
+                self.tests(tests.as_slice())?;
+                self.stmts(other.as_slice())?;
+            }
+            StmtCore::Loop(number, body) => {
+                self.open("Loop")?;
+                self.number(*number)?;
+                self.stmts(body.as_slice())?;
+            }
+            StmtCore::Leave(kind, test) => {
+                self.open("Leave")?;
+                self.number(u32::from(*kind))?;
+                self.expr_or_nothing(test)?;
+            }
+            StmtCore::TypeCase(var, arms, other, pos) => {
+                self.open("TypeCase")?;
+                self.number(*var)?;
+                self.arms(arms.as_slice())?;
+                match other {
+                    Some(other) => self.stmts(other.as_slice())?,
+                    None => self.nothing()?,
+                }
+                self.pos(*pos)?;
+            }
+            StmtCore::Protect(body, arms, other) => {
+                self.open("Protect")?;
+                self.stmts(body.as_slice())?;
+                self.arms(arms.as_slice())?;
+                match other {
+                    Some(other) => self.stmts(other.as_slice())?,
+                    None => self.nothing()?,
+                }
+            }
+            StmtCore::Return(value) => {
+                self.open("Return")?;
+                self.expr_or_nothing(value)?;
+            }
+            StmtCore::Yield(value) => {
+                self.open("Yield")?;
+                self.expr_or_nothing(value)?;
+            }
+            StmtCore::Quit => self.open("Quit")?,
+            StmtCore::Raise(value, pos) => {
+                self.open("Raise")?;
+                self.expr(value)?;
+                self.pos(*pos)?;
+            }
+            StmtCore::Stop(kind, pos) => {
+                self.open("Stop")?;
+                self.number(u32::from(*kind))?;
+                self.pos(*pos)?;
+            }
+        }
+        self.close_list()
+    }
+
+    /// Statements in order.
+    #[cycle(write_stmt)]
+    pub fn stmts(&mut self, stmts: &[StmtCore]) -> Result<(), AllocError> {
+        self.open_list()?;
+        for stmt in stmts {
+            self.stmt(stmt)?;
+        }
+        self.close_list()
+    }
+
+    #[cycle(write_stmt)]
+    fn tests(&mut self, tests: &[TestCore]) -> Result<(), AllocError> {
+        self.open_list()?;
+        for test in tests {
+            self.test(test)?;
+        }
+        self.close_list()
+    }
+
+    /// Tests, and the statements that are done where one of them is true.
+    #[cycle(write_stmt)]
+    fn test(&mut self, test: &TestCore) -> Result<(), AllocError> {
+        self.open_list()?;
+        self.exprs(test.tests.as_slice())?;
+        self.stmts(test.body.as_slice())?;
+        self.close_list()
+    }
+
+    #[cycle(write_stmt)]
+    fn arms(&mut self, arms: &[ArmCore]) -> Result<(), AllocError> {
+        self.open_list()?;
+        for arm in arms {
+            self.arm(arm)?;
+        }
+        self.close_list()
+    }
+
+    /// The type of a branch, its variable, and its statements.
+    #[cycle(write_stmt)]
+    fn arm(&mut self, arm: &ArmCore) -> Result<(), AllocError> {
+        self.open_list()?;
+        self.number(arm.ty)?;
+        self.number(arm.var)?;
+        self.stmts(arm.body.as_slice())?;
+        self.close_list()
+    }
+
+    /// An expression, or `null` for none.
+    pub fn expr_or_nothing(&mut self, e: &Option<ExprCore>) -> Result<(), AllocError> {
+        match e {
+            Some(e) => self.expr(e),
+            None => self.nothing(),
+        }
+    }
+}
