@@ -1,5 +1,5 @@
 #!/usr/bin/env python3
-"""turns.py PROGRAM TREE [--seed S] [--count N] [--only WORD] [--jobs N] [--slow]
+"""turns.py PROGRAM TREE [--seed S] [--count N] [--only WORD] [--slow]
 
 Compares programs compiled by PROGRAM with their meaning, and the machine steps of their runs with the turns that they spend.
 
@@ -16,21 +16,19 @@ Where the fuel is spent, the turns that the bound gives for it have to be too fe
 the meaning puts. Prints each program that differs, the least and the greatest number of steps for a turn, and a last line
 'N passed, M failed'; the status is 1 where any failed."""
 import argparse
-import concurrent.futures
+import functools
 import glob
 import os
-import subprocess
 import sys
-import tempfile
 
 import judges
 import meaning
 import programs
 import random_programs
+import report
 
 EXAMPLES = os.path.join(os.path.dirname(os.path.abspath(__file__)), '..', 'examples', '*.sa')
 MOST_TURNS = 20_000_000      # a run with more turns takes minutes here, and is left out without --slow
-SECONDS = 600                # the longest that a run of the program may take
 SPENT = b'fuel spent\n'      # the line where the fuel is spent
 NODES = {'Int', 'Bool', 'Char', 'Text', 'VoidOf', 'Me', 'Var', 'Exception', 'IsVoid', 'New', 'NewArray', 'Items', 'Call', 'IterCall',
          'Bind', 'Swapped', 'And', 'Or', 'Widen', 'Let', 'Do', 'If', 'Loop', 'Leave', 'TypeCase', 'Protect', 'Return', 'Yield',
@@ -116,42 +114,39 @@ def wrong_front(tree, given, words, ran, most):
 
 
 class Tried:
-    """What came of a program: whether it was left out, what is wrong with it, and its turns and steps where it ended."""
+    """What came of a program: why it was left out, or what is wrong with it, and its turns and steps where it ended."""
 
-    def __init__(self, name, left_out=False, wrong=None, turns=None, steps=None):
-        self.name, self.left_out, self.wrong, self.turns, self.steps = name, left_out, wrong, turns, steps
+    def __init__(self, left_out=None, wrong=None, turns=None, steps=None):
+        self.left_out, self.wrong, self.turns, self.steps = left_out, wrong, turns, steps
 
 
-def tried(program, tree_program, name, files, words, given, slow):
+def tried(program, tree_program, slow, task):
     """Runs a program in both ways."""
-    with tempfile.TemporaryDirectory() as folder:
-        programs.lay(files, folder)
-        done = subprocess.run([program, 'run', '--stats', *words], cwd=folder, input=given, capture_output=True, timeout=SECONDS)
-        ran = programs.Ended(done)
+    _, files, words, given = task
+    with report.folder_with(files) as folder:
+        ran = programs.Ended(report.run([program, 'run', '--stats', *words], folder, input=given))
         if not ran.stats:
-            return Tried(name, left_out=True)
+            return Tried(left_out='programs of cases that are refused')
         words = Words(words)
         tree = meaning.typed_tree(tree_program, words.files, folder)
     if isinstance(tree, list):
-        return Tried(name, wrong='the tree is refused: %s' % tree)
+        return Tried(wrong='the tree is refused: %s' % tree)
     most, steps = bound(tree), int(judges.STATS.search(ran.stats).group(1))
     if ran.line == SPENT:
-        return Tried(name, wrong=wrong_front(tree, given, words, ran, most))
+        return Tried(wrong=wrong_front(tree, given, words, ran, most))
     answer = meaning.run_tree(tree, given, words.room, sys.maxsize if slow else MOST_TURNS)
     if answer.end == ('spent',):
-        return Tried(name, left_out=True)
+        return Tried(left_out='programs with more turns than %d' % MOST_TURNS)
     wrong = wrong_end(answer, ran, words.files) or wrong_steps(answer.turns, steps, most)
-    return Tried(name, False, wrong, answer.turns, steps)
+    return Tried(None, wrong, answer.turns, steps)
 
 
-def try_one(task):
-    """Tries a program in a process of its own."""
+def try_one(program, tree_program, slow, task):
+    """Tries a program in a thread with a large stack. What has no meaning is told."""
     try:
-        return meaning.with_large_stack(lambda: tried(*task))
-    except subprocess.TimeoutExpired:
-        return Tried(task[2], wrong='no end within %d seconds' % SECONDS)
+        return meaning.with_large_stack(lambda: tried(program, tree_program, slow, task))
     except (IndexError, KeyError, TypeError, AttributeError) as error:
-        return Tried(task[2], wrong='the tree has no meaning: %r' % error)
+        return Tried(wrong='the tree has no meaning: %r' % error)
 
 
 def tasks(given):
@@ -166,6 +161,23 @@ def tasks(given):
         yield 'random program %d' % number, {'f.sa': random_programs.program(number).encode()}, ['--room', '64', 'f.sa'], b''
 
 
+def try_all(told, given):
+    """Tries the programs, and gives the steps for a turn of each that ended, with its name."""
+    every, ratios = list(tasks(given)), []
+    told.part('steps and turns', len(every))
+    work = functools.partial(try_one, os.path.abspath(given.program), os.path.abspath(given.tree), given.slow)
+    for task, one in zip(every, report.side_by_side(work, every)):
+        if isinstance(one, report.Late):
+            told.count(task[0], one)
+        elif one.left_out:
+            told.leave_out(one.left_out)
+        else:
+            told.count(task[0], one.wrong)
+            if one.turns:
+                ratios.append((one.steps / one.turns, task[0]))
+    return ratios
+
+
 def main():
     words = argparse.ArgumentParser(description=__doc__, formatter_class=argparse.RawDescriptionHelpFormatter)
     words.add_argument('program')
@@ -173,27 +185,14 @@ def main():
     words.add_argument('--seed', type=int, default=0)
     words.add_argument('--count', type=int, default=100)
     words.add_argument('--only', default='')
-    words.add_argument('--jobs', type=int, default=os.cpu_count())
     words.add_argument('--slow', action='store_true')
     given = words.parse_args()
-    paths = os.path.abspath(given.program), os.path.abspath(given.tree)
-    passed, failed, left_out, ratios = 0, 0, 0, []
-    with concurrent.futures.ProcessPoolExecutor(given.jobs) as pool:
-        for one in pool.map(try_one, [(*paths, *task, given.slow) for task in tasks(given)]):
-            if one.left_out:
-                left_out += 1
-            elif one.wrong is not None:
-                failed += 1
-                print('%s: %s' % (one.name, one.wrong), flush=True)
-            else:
-                passed += 1
-            if one.turns:
-                ratios.append((one.steps / one.turns, one.name))
+    told = report.Report()
+    ratios = try_all(told, given)
+    told.close_part()
     for word, ratio in (('least', min(ratios)), ('most', max(ratios))) if ratios else ():
-        print('%s steps for a turn: %.2f (%s)' % (word, *ratio))
-    print('%d programs are refused, or too long for the interpreter, and left out' % left_out)
-    print('%d passed, %d failed' % (passed, failed))
-    return 1 if failed else 0
+        told.line('%s steps for a turn: %.2f (%s)' % (word, *ratio))
+    return told.close()
 
 
 if __name__ == '__main__':
