@@ -3,8 +3,8 @@
 
 Compares programs compiled by PROGRAM with their meaning, and the machine steps of their runs with the turns that they spend.
 
-The programs are those of the table of cases with the words `run ..`, no failing device and an accepted source, the examples, and
-N random ones, 100 without --count, from the number S on (see random_programs.py). TREE is the program `typed_tree`, whose tree
+The programs are those of the table of cases with the words `run ..`, no failing device and an accepted source, the examples, some
+that spend turns with little else to do, and N random ones, 100 without --count, from the number S on (see random_programs.py). TREE is the program `typed_tree`, whose tree
 meaning.py runs. `PROGRAM run --stats` has to leave the output and the end of that run, the same status or the same fault in the
 same line, and the steps have to be
 
@@ -149,16 +149,38 @@ def try_one(program, tree_program, slow, task):
         return Tried(wrong='the tree has no meaning: %r' % error)
 
 
+def sources():
+    """Programs that spend turns with little else to do, by their names."""
+    text = 'a' * 70_000
+    yield 'loops that are left in their first round', main_of('loop break!; end; ' * 200)
+    yield 'loops inside one another that are left in their first round', main_of('loop ' * 90 + 'break!; end; ' * 90)
+    yield 'initialisers of shareds', main_of('', ''.join('shared s%d:INT := %d; ' % (n, n) for n in range(100)))
+    yield 'two texts that there is no room for', main_of('x ::= "%s"; y ::= x + x;' % text)
+    yield 'a part of a text that there is no room for', main_of('x ::= "%s"; y ::= x.substring(0, 69999);' % text)
+    yield 'a text of an array that there is no room for', main_of('x ::= #ARRAY{CHAR}(8000); y ::= STR::of(x, 7000);')
+
+
+def main_of(body, shareds=''):
+    return 'class MAIN is %smain is %s end; end;' % (shareds, body)
+
+
 def tasks(given):
     """Each program: its name, its files, the words behind `run`, and its input."""
     for case in programs.programs(given.only):
         yield case.name, case.files, case.words, case.input
     for path in sorted(glob.glob(EXAMPLES)):
-        if given.only in path:
-            with open(path, 'rb') as file:
-                yield os.path.basename(path), {'f.sa': file.read()}, ['f.sa'], b''
+        with open(path, 'rb') as file:
+            yield from task_of(os.path.basename(path), file.read(), given.only)
+    for name, text in sources():
+        yield from task_of(name, text.encode(), given.only)
     for number in range(given.seed, given.seed + given.count):
-        yield 'random program %d' % number, {'f.sa': random_programs.program(number).encode()}, ['--room', '64', 'f.sa'], b''
+        yield from task_of('random program %d' % number, random_programs.program(number).encode(), given.only)
+
+
+def task_of(name, text, word):
+    """A program of one file, in the least room, where its name holds the word."""
+    if word in name:
+        yield name, {'f.sa': text}, ['--room', '64', 'f.sa'], b''
 
 
 def try_all(told, given):
