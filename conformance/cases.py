@@ -110,7 +110,7 @@ def repeated(line):
 def text_of(form, text):
     """The bytes of a part of a case, by the form that stands in its heading."""
     if form == 'parts':
-        return b''.join(repeated(line) for line in text.splitlines())
+        return b''.join(repeated(line) for line in text.splitlines() if line)
     if form == 'hex':
         return b''.join(bytes.fromhex(line.partition(';;')[0]) for line in text.splitlines())
     bare = text.rstrip('\n').encode()
@@ -158,6 +158,14 @@ def cases_of_list(subject, text):
             raise Malformed('%s: this is no line of a head: %s' % (subject, line))
     for each in texts:
         yield case_of(subject, words, each)
+
+
+def without_head(source):
+    """A program without its head comment."""
+    lines = source.splitlines(keepends=True)
+    while lines and lines[0].startswith(b'--'):
+        del lines[0]
+    return b''.join(lines)
 
 
 def case_of_program(subject, text):

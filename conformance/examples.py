@@ -3,7 +3,6 @@
 
 Runs the examples: examples/NAME.sa, with examples/NAME.in as its input where that is there, has to print examples/NAME.out, tell
 nothing on err and end with status 0. --only takes the examples whose names hold a word."""
-import argparse
 import functools
 import glob
 import os
@@ -42,15 +41,5 @@ def try_all(program, told, word=''):
         told.count('examples/%s.sa' % name, wrong)
 
 
-def main():
-    words = argparse.ArgumentParser(description=__doc__, formatter_class=argparse.RawDescriptionHelpFormatter)
-    words.add_argument('program')
-    words.add_argument('--only', default='')
-    given = words.parse_args()
-    told = report.Report()
-    try_all(os.path.abspath(given.program), told, given.only)
-    return told.close()
-
-
 if __name__ == '__main__':
-    sys.exit(main())
+    sys.exit(report.of_script(__doc__, try_all))

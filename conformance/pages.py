@@ -3,8 +3,7 @@
 
 Each block of docs/LANGUAGE.md and docs/ITERS.md that has a class MAIN is the program of a case in the folder `manual` of the
 table, and what the page says behind it is what the case wants: what it prints, the fault that stops it, the code that
-refuses it, or that it is accepted. Each case of that folder is an example of a page. Prints what differs, and a last line
-'N passed, M failed'; the status is 1 where any failed."""
+refuses it, or that it is accepted. Each case of that folder is an example of a page."""
 import os
 import re
 import sys

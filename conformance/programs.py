@@ -11,7 +11,6 @@ compiled is run by `PROGRAM run --stats`. Its files are made into a module by `P
 
 A tool that is missing is named, and what needs it is left out. --only takes the cases whose names hold a word. Prints each
 program that differs, and a last line 'N passed, M failed'; the status is 1 where any failed."""
-import argparse
 import functools
 import os
 import re
@@ -154,15 +153,5 @@ def try_all(command, told, word=''):
     compare_with_v8(told, agreed)
 
 
-def main():
-    words = argparse.ArgumentParser(description=__doc__, formatter_class=argparse.RawDescriptionHelpFormatter)
-    words.add_argument('program')
-    words.add_argument('--only', default='')
-    given = words.parse_args()
-    told = report.Report()
-    try_all(os.path.abspath(given.program), told, given.only)
-    return told.close()
-
-
 if __name__ == '__main__':
-    sys.exit(main())
+    sys.exit(report.of_script(__doc__, try_all))

@@ -1,5 +1,6 @@
 """What the scripts of this folder share: how the program is run, how what it left is compared, how work goes side by side, and
 how a script tells what it found."""
+import argparse
 import collections
 import concurrent.futures
 import contextlib
@@ -166,3 +167,15 @@ class Report:
             self.failed = 1
         self.line('%d passed, %d failed' % (self.passed, self.failed))
         return 1 if self.failed else 0
+
+
+def of_script(about, try_all):
+    """What a script does that is called as `PROGRAM [--only WORD]`: tries what it has whose name holds the word, and gives the
+    status."""
+    words = argparse.ArgumentParser(description=about, formatter_class=argparse.RawDescriptionHelpFormatter)
+    words.add_argument('program')
+    words.add_argument('--only', default='')
+    given = words.parse_args()
+    told = Report()
+    try_all(os.path.abspath(given.program), told, given.only)
+    return told.close()

@@ -3,7 +3,6 @@
 
 Tries the program from the shell, with real files and streams: files that are written, missing or may not be read, folders, and
 streams that are files, full or closed. --only takes the tries whose names hold a word."""
-import argparse
 import os
 import shutil
 import sys
@@ -97,15 +96,5 @@ def try_all(program, told, word=''):
         told.count(name, wrong)
 
 
-def main():
-    words = argparse.ArgumentParser(description=__doc__, formatter_class=argparse.RawDescriptionHelpFormatter)
-    words.add_argument('program')
-    words.add_argument('--only', default='')
-    given = words.parse_args()
-    told = report.Report()
-    try_all(os.path.abspath(given.program), told, given.only)
-    return told.close()
-
-
 if __name__ == '__main__':
-    sys.exit(main())
+    sys.exit(report.of_script(__doc__, try_all))

@@ -5,9 +5,7 @@ Runs the cases of the table from the shell, each in a folder of its own that hol
 the status have to be those of the case. A case with a device that fails can't be had from the shell, and is left out: the gate
 runs it over objects in memory. --only takes the cases whose names hold a word; the name of a case
 has its subject behind it."""
-import argparse
 import functools
-import os
 import sys
 
 import cases
@@ -31,15 +29,5 @@ def try_all(program, told, word=''):
         told.count(report.label(case), wrong)
 
 
-def main():
-    words = argparse.ArgumentParser(description=__doc__, formatter_class=argparse.RawDescriptionHelpFormatter)
-    words.add_argument('program')
-    words.add_argument('--only', default='')
-    given = words.parse_args()
-    told = report.Report()
-    try_all(os.path.abspath(given.program), told, given.only)
-    return told.close()
-
-
 if __name__ == '__main__':
-    sys.exit(main())
+    sys.exit(report.of_script(__doc__, try_all))

@@ -2,6 +2,8 @@
 //! `["Refused", RULE, [FILE, BYTE]]` is printed in its place, with the number of the rule.
 #![tactic(auto)]
 
+ghost use Rattle.std.specs.Prelude.{◌≤◌, ◌<◌, All, length};
+
 mod expr;
 mod program;
 mod stmt;
@@ -10,8 +12,8 @@ mod writer;
 use crate::writer::Writer;
 use anyhow::{Result, anyhow};
 use sa_check::check;
-use sa_outside::{FileStore, Store};
-use sa_read::{Program, ReadFault, classes, read_program};
+use sa_outside::FileStore;
+use sa_read::{Program, classes, read_program};
 use sa_tree::{FrontFault, Refusal};
 use std::alloc::{AllocError, Global};
 use std::env;
@@ -33,7 +35,10 @@ fn main(rt: HostRuntime) -> Result<()> {
 }
 
 /// The typed tree of a program, or the rule that refuses it.
-fn tree(alloc: Global, program: &Program) -> Result<String, AllocError> {
+fn tree(alloc: Global, program: &Program) -> Result<String, AllocError>
+    requires short { All (λ text. length text < 4294967295) program.now.sources.texts }
+    requires few { length program.now.sources.texts ≤ 65536 }
+{
     let mut writer = Writer::new(alloc);
     match add_tree(alloc, &mut writer, program) {
         Ok(()) => {}
@@ -45,7 +50,10 @@ fn tree(alloc: Global, program: &Program) -> Result<String, AllocError> {
 }
 
 /// Adds the typed tree of a program that no rule refuses.
-fn add_tree(alloc: Global, writer: &mut Writer, program: &Program) -> Result<(), FrontFault> {
+fn add_tree(alloc: Global, writer: &mut Writer, program: &Program) -> Result<(), FrontFault>
+    requires short { All (λ text. length text < 4294967295) program.now.sources.texts }
+    requires few { length program.now.sources.texts ≤ 65536 }
+{
     if let Some(refusal) = program.cut {
         return Err(FrontFault::Refused(refusal));
     }
