@@ -32,9 +32,11 @@ function! s:LineBefore(number) abort
   return number
 endfunction
 
-" Whether the statement of the first line goes on in the second one. A | behind a sign opens an array.
+" Whether the statement of the first line goes on in the second one. A | behind a sign, return or yield opens an array.
 function! s:GoesOn(before, number) abort
-  let last = '\%([-+*/%^~=<>#,.({[]\s*|\=\|\<\%(and\|or\)\>\)\s*$'
+  let sign = '[-+*/%^~=<>#,.({[]'
+  let opened = '\%(' . sign . '\|\<\%(return\|yield\)\>\)\s*|'
+  let last = '\%(' . sign . '\|\<\%(and\|or\)\>\|' . opened . '\)\s*$'
   let first = '^\s*\%([-+*/%^=<>.,|)}\]]\|\<\%(and\|or\)\>\)'
   return a:before > 0 && (s:Code(a:before) =~# last || s:Code(a:number) =~# first)
 endfunction
