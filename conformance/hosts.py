@@ -24,6 +24,7 @@ HOSTS = os.path.join(os.path.dirname(os.path.abspath(__file__)), '..', 'hosts')
 RUN_JS = os.path.join(HOSTS, 'node', 'run.js')
 BUILD = os.path.join(HOSTS, 'c', 'build')
 WABT = '1.0.32'     # the version of wasm2c that hosts/c fits
+SPENT = 122         # the status of a run whose time is up
 RUNTIME = os.environ.get('WASM2C_RUNTIME', '/usr/share/wabt/wasm2c')
 DEEP = b'class MAIN is f(n:INT):INT is a ::= n * 2; return f(n + 1) + a; end; main is #OUT + "a\\n"; #OUT + f(0); end; end;'
 ENDLESS = b'class MAIN is main is #OUT + "a\\n"; loop end; end; end;'
@@ -116,7 +117,9 @@ def with_options(program, option):
     _, words, source, wanted = option
     with report.folder_with({'m.sa': source}) as folder:
         report.run([program, 'build', '-o', 'm.wasm', 'm.sa'], folder)
-        return report.difference(wanted, report.run(['node', RUN_JS, *words], folder))
+        left = report.run(['node', RUN_JS, *words], folder)
+        # Where the machine is busy, the time may be up before anything was put out.
+        return report.difference(wanted, left, output_may_be_cut=wanted.status == SPENT)
 
 
 def of_examples():

@@ -17,6 +17,7 @@ const STACK = 1024;                 // MiB of stack without the option: calls 10
 const PAGES = 16;                   // pages of a memory in a MiB
 const BUFFER = 65536;               // bytes that are written together
 const [PENDING, ANSWERED] = [0, 1]; // places of `counts`: bytes that are to be written; whether the worker may go on
+const NO_MEMORY = ['ERR_WORKER_INIT_FAILED', 'ERR_WORKER_OUT_OF_MEMORY'];
 
 // How a run ends: its status, and the line on err where there is one.
 class End extends Error {
@@ -118,7 +119,9 @@ async function main(words) {
   await Promise.race(ends);
 }
 
+// Tells how the run has ended, and ends the process.
 function leave(error) {
+  if (!(error instanceof End) && !NO_MEMORY.includes(error.code)) throw error;
   const end = error instanceof End ? error : new End(125, 'out of memory');
   if (end.message) fs.writeSync(2, `${end.message}\n`);
   process.exit(end.status);
@@ -174,7 +177,8 @@ function endOf(error, name) {
   if (error instanceof End) return error;
   const before = error.message.startsWith('WebAssembly.Instance()');
   if (error instanceof RangeError) return before ? new End(125, 'out of memory') : new End(126, `${name}: too deep`);
-  return new End(126, `${name}: ${before ? 'segment' : 'trap'}`);
+  if (error instanceof WebAssembly.RuntimeError) return new End(126, `${name}: ${before ? 'segment' : 'trap'}`);
+  throw error;
 }
 
 function runModule({name, bytes, shared}) {
