@@ -9,6 +9,7 @@
 const fs = require('fs');
 const v8 = require('v8');
 const {on} = require('events');
+const {setTimeout} = require('timers/promises');
 const {parseArgs} = require('util');
 const {Worker, isMainThread, parentPort, receiveMessageOnPort, workerData} = require('worker_threads');
 
@@ -16,6 +17,7 @@ const USAGE = 'usage: node run.js [--seconds N] [--stack MIB] [--memory MIB] MOD
 const STACK = 1024;                 // MiB of stack without the option: calls 10,000 deep have room in it
 const PAGES = 16;                   // pages of a memory in a MiB
 const BUFFER = 65536;               // bytes that are written together
+const LONGEST = 2 ** 31 - 1;        // milliseconds that node can wait
 const [PENDING, ANSWERED] = [0, 1]; // places of `counts`: bytes that are to be written; whether the worker may go on
 const NO_MEMORY = ['ERR_WORKER_INIT_FAILED', 'ERR_WORKER_OUT_OF_MEMORY'];
 
@@ -52,7 +54,7 @@ function bytesOf(name) {
   }
 }
 
-// Writes the bytes that are pending. What takes none of them now without being full is asked again.
+// Writes the bytes that are pending. A pipe that takes none for now is asked again.
 function write({output, counts}) {
   let from = 0;
   while (from < counts[PENDING]) {
@@ -66,41 +68,33 @@ function write({output, counts}) {
   counts[PENDING] = 0;
 }
 
-// The next bytes of the input, or null at its end.
-async function read() {
-  read.chunks ??= process.stdin[Symbol.asyncIterator]();
+// The bytes of the input, some at a time. The input is touched when some are asked for, and not before.
+async function* pieces() {
   try {
-    const {done, value} = await read.chunks.next();
-    return done ? null : value;
+    yield* process.stdin;
   } catch {
     throw new End(123, 'input fault');
   }
 }
 
-// Does what the worker asks for, up to its end.
+// Does what the worker asks for, up to its end. At the end of the input it gets null in place of bytes.
 async function serve(worker, shared) {
+  const input = pieces();
   for await (const [asked] of on(worker, 'message')) {
     write(shared);
     if (asked.end) throw new End(...asked.end);
-    if (asked.read) worker.postMessage(await read());
+    if (asked.read) worker.postMessage((await input.next()).value ?? null);
     Atomics.store(shared.counts, ANSWERED, 1);
     Atomics.notify(shared.counts, ANSWERED);
   }
 }
 
 // Ends the worker after so many seconds, and then writes what it has left.
-function timeLimit(seconds, worker, shared) {
-  return new Promise((_, reject) => {
-    setTimeout(async () => {
-      await worker.terminate();
-      try {
-        write(shared);
-        reject(new End(122, 'time spent'));
-      } catch (end) {
-        reject(end);
-      }
-    }, seconds * 1000);
-  });
+async function timeLimit(seconds, worker, shared) {
+  await setTimeout(Math.min(seconds * 1000, LONGEST));
+  await worker.terminate();
+  write(shared);
+  throw new End(122, 'time spent');
 }
 
 async function main(words) {
