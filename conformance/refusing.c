@@ -4,7 +4,7 @@
    REFUSE  WHAT NUMBER HOW
            allocation N once   the allocation N, from 1, is refused
            allocation N on     this one and all behind it
-           call N once         the call N of open, lseek, read, write and close fails, each with an error that it can have
+           call N once         the call N of open, lseek, read and write fails, each with an error that it can have
            transfer 0 short    a read and a write do one byte at a time
            transfer 0 broken   a read and a write are interrupted by a signal first, each time
    CALLS   the file into which the numbers of calls are written at the end: a line `allocations N`, and for each call of the
@@ -112,9 +112,3 @@ ssize_t write(int file, const void *from, size_t size) {
 }
 
 ssize_t __write(int file, const void *from, size_t size) { return write(file, from, size); }
-
-int close(int file) {
-  tell("close", file);
-  int closed = syscall(SYS_close, file);
-  return fails(EIO) ? -1 : closed;
-}
