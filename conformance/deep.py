@@ -1,4 +1,4 @@
-"""The deepest sources and modules that the limits allow, one for each form that nests and for each kind of chain, by their names."""
+"""The deepest sources and modules that the limits allow: one for each form that nests and for each kind of chain."""
 import binary
 from report import Left
 
