@@ -6,12 +6,9 @@ use crate::leaving::leave_of;
 use crate::passing::{PassedArgs, passed, seen_arguments};
 use crate::ready::ReadyArg;
 use crate::receiver::Receiver;
-use sa_choice::{
-    Built, ChosenFeature, NONE_FITS, Place, Reached, Typed, UNKNOWN_NAME, View, bound_callee,
-    bound_name, chosen, first_iter, refused,
-};
+use sa_choice::{Built, ChosenFeature, Place, Reached, Typed, View, bound_callee, bound_name, chosen, first_iter};
 use sa_core::{CalledCore, ExprCore};
-use sa_tree::{FrontFault, Name, NoMemory, Pos, Recv};
+use sa_tree::{FrontFault, Name, NoMemory, Pos, Recv, Rule};
 use sqlite_items::Boxed;
 use std::alloc::Global;
 
@@ -31,7 +28,7 @@ pub fn call_form(
 ) -> Result<Typed, FrontFault> {
     if leave_of(on, name).is_some() {
         innermost_loop(place, pos)?;
-        return Err(refused(NONE_FITS, pos));
+        return Err(Rule::NoFeatureFits.at(pos).into());
     }
     call(
         alloc,
@@ -140,7 +137,7 @@ pub(crate) fn callee(
         return chosen(alloc, view, of, name, seen.as_slice(), wants, pos);
     };
     if name != word {
-        return Err(refused(UNKNOWN_NAME, pos));
+        return Err(Rule::UnknownName.at(pos).into());
     }
     bound_callee(alloc, view, built, of, seen.as_slice(), pos, wants)
 }

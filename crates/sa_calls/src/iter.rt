@@ -4,20 +4,11 @@ use crate::calls::callee;
 use crate::passing::{PassedArgs, passed};
 use crate::ready::ReadyArg;
 use crate::receiver::Receiver;
-use sa_choice::{Built, ChosenFeature, Place, Typed, View, first_iter, held, refused};
+use sa_choice::{Built, ChosenFeature, Place, Typed, View, first_iter};
 use sa_core::{CalledCore, ExprCore, SiteCore};
-use sa_tree::{FrontFault, NoMemory, Pos};
+use sa_tree::{FrontFault, NoMemory, Pos, Rule, held};
 use sqlite_items::Boxed;
 use std::alloc::Global;
-
-/// E35: iter call outside a loop.
-const OUTSIDE_LOOP: u8 = 35;
-
-/// E36: iter call in self or once.
-const ITER_IN_ITER: u8 = 36;
-
-/// E38: not allowed in protect.
-const IN_PROTECT: u8 = 38;
 
 /// Whether a name is that of an iter.
 pub fn is_iter_name(name: &[u8]) -> bool {
@@ -28,10 +19,10 @@ pub fn is_iter_name(name: &[u8]) -> bool {
 /// and its loop.
 pub(crate) fn innermost_loop(place: &Place, pos: Pos) -> Result<u32, FrontFault> {
     let Some(owner) = place.owner else {
-        return Err(refused(OUTSIDE_LOOP, pos));
+        return Err(Rule::IterOutsideLoop.at(pos).into());
     };
     if place.guard > place.loops {
-        return Err(refused(IN_PROTECT, pos));
+        return Err(Rule::NotAllowedInProtect.at(pos).into());
     }
     Ok(owner)
 }
@@ -52,7 +43,7 @@ pub(crate) fn iter_call(
     let callee = callee(alloc, view, built, &on, name, args.as_slice(), pos, wants)?;
     let passed = passed(alloc, view, built, args, callee.params.as_slice(), pos)?;
     if let Some(inner) = first_iter(on.iter(), passed.once) {
-        return Err(refused(ITER_IN_ITER, inner));
+        return Err(Rule::IterInSelfOrOnce.at(inner).into());
     }
     Ok(at_site(alloc, built, owner, callee, on, passed, pos)?)
 }

@@ -3,10 +3,10 @@
 use crate::iter::innermost_loop;
 use crate::ready::ReadyArg;
 use crate::settle::settled;
-use sa_choice::{Built, NONE_FITS, Place, View, WRONG_TYPE, refused};
+use sa_choice::{Built, Place, View};
 use sa_core::ExprCore;
 use sa_program::BOOL;
-use sa_tree::{FrontFault, Name, Pos, Recv};
+use sa_tree::{FrontFault, Name, Pos, Recv, Rule};
 use std::alloc::Global;
 
 /// The number of `break!`.
@@ -51,7 +51,7 @@ pub fn leave_form(
     let mut args = args;
     let only = args.pop();
     if !args.is_empty() || only.is_none() != (number == BREAK) {
-        return Err(refused(NONE_FITS, pos));
+        return Err(Rule::NoFeatureFits.at(pos).into());
     }
     match only {
         None => Ok(None),
@@ -68,11 +68,11 @@ fn test(
     pos: Pos,
 ) -> Result<ExprCore, FrontFault> {
     let ReadyArg::Value(value) = arg else {
-        return Err(refused(NONE_FITS, pos));
+        return Err(Rule::NoFeatureFits.at(pos).into());
     };
     let value = settled(alloc, view, built, value, Some(BOOL))?;
     if value.ty != Some(BOOL) {
-        return Err(refused(WRONG_TYPE, pos));
+        return Err(Rule::WrongType.at(pos).into());
     }
     Ok(value.core)
 }

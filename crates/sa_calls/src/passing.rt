@@ -2,10 +2,10 @@
 
 use crate::ready::{ReadyArg, ReadyExpr};
 use crate::settle::settled_to;
-use sa_choice::{Built, NONE_FITS, Param, View, first_iter, held, refused, type_of};
+use sa_choice::{Built, Param, View, first_iter, type_of};
 use sa_core::ArgCore;
 use sa_overload::ArgIn;
-use sa_tree::{FrontFault, Mode, NoMemory, Pos, Ty};
+use sa_tree::{FrontFault, Mode, NoMemory, Pos, Rule, Ty, held};
 use sqlite_items::Items;
 use std::alloc::Global;
 
@@ -131,7 +131,7 @@ pub fn passed(
         all.add(passed, param.mode)?;
     }
     if !all.fit {
-        return Err(refused(NONE_FITS, pos));
+        return Err(Rule::NoFeatureFits.at(pos).into());
     }
     Ok(all)
 }

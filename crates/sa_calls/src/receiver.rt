@@ -1,9 +1,9 @@
 //! What a call is made on.
 
 use crate::ready::ReadyExpr;
-use sa_choice::{NO_CLASS, NO_CONTEXT, Typed, View, held, is_concrete, refused};
+use sa_choice::{Typed, View, is_concrete};
 use sa_core::ExprCore;
-use sa_tree::{FrontFault, NoMemory, Pos};
+use sa_tree::{FrontFault, NoMemory, Pos, Rule, held};
 use std::alloc::Global;
 
 /// What a call is made on, its children typed.
@@ -34,8 +34,8 @@ impl Receiver {
             Receiver::Own => Ok(view.class),
             Receiver::Value(value, _) => Ok(held(value.ty)?),
             Receiver::Class(class) if is_concrete(view, *class) => Ok(*class),
-            Receiver::Class(_) => Err(refused(NO_CLASS, pos)),
-            Receiver::Untyped => Err(refused(NO_CONTEXT, pos)),
+            Receiver::Class(_) => Err(Rule::ClassNotUsable.at(pos).into()),
+            Receiver::Untyped => Err(Rule::NoTypeFromContext.at(pos).into()),
         }
     }
 

@@ -4,12 +4,9 @@ use crate::calls::{called_value, callee};
 use crate::passing::{PassedArgs, passed};
 use crate::ready::{ReadyArg, ReadyExpr};
 use crate::receiver::Receiver;
-use sa_choice::{
-    Built, ChosenFeature, NO_CONTEXT, Reached, Typed, View, WRONG_TYPE, first_iter, held,
-    is_concrete, is_sub, number_of, refused, type_of, widened,
-};
+use sa_choice::{Built, ChosenFeature, Reached, Typed, View, first_iter, is_concrete, is_sub, number_of, type_of, widened};
 use sa_core::ExprCore;
-use sa_tree::{FrontFault, NoMemory, Pos, Ty};
+use sa_tree::{FrontFault, NoMemory, Pos, Rule, Ty, held};
 use sqlite_items::Items;
 use std::alloc::Global;
 
@@ -36,7 +33,7 @@ pub fn settled(
 /// `void`: E41 where no type is wanted.
 fn void(wanted: Option<u32>, pos: Pos) -> Result<Typed, FrontFault> {
     let Some(ty) = wanted else {
-        return Err(refused(NO_CONTEXT, pos));
+        return Err(Rule::NoTypeFromContext.at(pos).into());
     };
     Ok(Typed {
         core: ExprCore::VoidOf(ty),
@@ -136,11 +133,11 @@ fn array(
     pos: Pos,
 ) -> Result<Typed, FrontFault> {
     let Some((ty, of)) = array_type(view, built, wanted) else {
-        return Err(refused(NO_CONTEXT, pos));
+        return Err(Rule::NoTypeFromContext.at(pos).into());
     };
     let elements = elements(alloc, view, built, items, of)?;
     if !elements.go {
-        return Err(refused(WRONG_TYPE, pos));
+        return Err(Rule::WrongType.at(pos).into());
     }
     Ok(Typed {
         core: ExprCore::Items(ty, elements.cores, pos),

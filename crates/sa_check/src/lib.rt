@@ -2,7 +2,6 @@
 #![tactic(auto)]
 
 mod above;
-mod codes;
 mod limits;
 mod sigs;
 mod target;

@@ -1,7 +1,6 @@
 //! The size of a typed program, and the number of its dispatch pairs.
 
-use crate::codes::{TOO_LARGE, refused};
-use sa_tree::{FrontFault, Pos};
+use sa_tree::{FrontFault, Pos, Rule};
 
 /// How many nodes, features and shareds a program has at most, together.
 const MOST_NODES: u32 = 200_000;
@@ -38,7 +37,7 @@ impl Size {
     pub(crate) fn within(&self) -> Result<(), FrontFault> {
         match self.passed {
             None => Ok(()),
-            Some(name) => Err(refused(TOO_LARGE, name)),
+            Some(name) => Err(Rule::ProgramTooLarge.at(name).into()),
         }
     }
 }

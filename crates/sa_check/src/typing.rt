@@ -1,6 +1,5 @@
 //! The bodies of a program: of each needed type in order, feature by feature.
 
-use crate::codes::{TOO_MANY_PAIRS, held, refused};
 use crate::limits::{MOST_PAIRS, Size};
 use crate::sigs::sig_pos;
 use indexmap::IndexMap;
@@ -10,7 +9,7 @@ use sa_conformance::Signatures;
 use sa_const::ConstTable;
 use sa_core::{FeatureCore, SharedCore};
 use sa_program::Program;
-use sa_tree::{Feature, FrontFault, Kind, NoMemory, Part};
+use sa_tree::{Feature, FrontFault, Kind, NoMemory, Part, Rule, held};
 use sqlite_items::Items;
 use std::alloc::Global;
 
@@ -127,7 +126,7 @@ fn count_pairs(view: &View<'_>, typing: &mut Typing, below: u32) -> Result<(), F
         typing.pairs = typing.pairs.saturating_add(below);
         if typing.pairs > MOST_PAIRS {
             let pos = sig_pos(view.program, view.signatures, place)?;
-            return Err(refused(TOO_MANY_PAIRS, pos));
+            return Err(Rule::TooManyPairs.at(pos).into());
         }
     }
     Ok(())

@@ -2,7 +2,6 @@
 #![tactic(auto)]
 
 mod assign;
-mod codes;
 mod copy;
 mod declare;
 mod draft;

@@ -3,7 +3,6 @@
 
 mod block;
 mod case;
-mod codes;
 mod features;
 mod protect;
 mod public;

@@ -1,6 +1,5 @@
 //! The public call: the scope of a feature in types, made into numbers.
 
-use crate::codes::held;
 use crate::features::body;
 use indexmap::IndexMap;
 use sa_check_expr::{Built, Made, Scope, View};
@@ -9,7 +8,7 @@ use sa_conformance::Signatures;
 use sa_const::ConstTable;
 use sa_core::FeatureCore;
 use sa_program::Program;
-use sa_tree::{Feature, FrontFault, NoMemory, Ty};
+use sa_tree::{Feature, FrontFault, NoMemory, Ty, held};
 use sqlite_items::Items;
 use std::alloc::Global;
 

@@ -1,12 +1,11 @@
 //! Calls of bound values: `call` of a bound routine, and `call!` of a bound iter.
 
 use crate::choice::{ChosenFeature, Param};
-use crate::codes::{NONE_FITS, held, refused};
 use crate::target::Reached;
 use crate::view::{Built, View, number_of, type_of};
 use sa_core::CalledCore;
 use sa_overload::{ArgIn, Cand, fits};
-use sa_tree::{FrontFault, ModeTy, NoMemory, Pos, Ty};
+use sa_tree::{FrontFault, ModeTy, NoMemory, Pos, Rule, Ty, held};
 use sqlite_items::{Boxed, Items};
 use std::alloc::Global;
 
@@ -32,7 +31,7 @@ pub fn bound_callee(
 ) -> Result<ChosenFeature, FrontFault> {
     let described = description(alloc, held(type_of(view, built, of))?)?;
     if !fits(&described, seen, wants, view.program.edges()) {
-        return Err(refused(NONE_FITS, pos));
+        return Err(Rule::NoFeatureFits.at(pos).into());
     }
     Ok(ChosenFeature {
         reached: Reached::Called(CalledCore::Bound),

@@ -1,15 +1,11 @@
 //! The features and signatures that a call by name can choose.
 
-use crate::codes::{UNKNOWN_NAME, held, refused};
 use crate::view::View;
 use sa_overload::Cand;
-use sa_tree::{FrontFault, Kind, NoMemory, Pos};
+use sa_tree::{FrontFault, Kind, NoMemory, Pos, Rule, held};
 use sa_types::Sig;
 use sqlite_items::Items;
 use std::alloc::Global;
-
-/// E34: private feature.
-const PRIVATE_FEATURE: u8 = 34;
 
 /// A feature of a concrete class, or a signature of an abstract type.
 #[derive(Clone, Copy, Debug, PartialEq, Eq)]
@@ -45,7 +41,7 @@ fn signatures(
     pos: Pos,
 ) -> Result<Items<Candidate>, FrontFault> {
     if places.is_empty() {
-        return Err(refused(UNKNOWN_NAME, pos));
+        return Err(Rule::UnknownName.at(pos).into());
     }
     let mut found = Items::new(alloc);
     for place in places {
@@ -68,7 +64,7 @@ fn features(
     pos: Pos,
 ) -> Result<Items<Candidate>, FrontFault> {
     if places.is_empty() {
-        return Err(refused(UNKNOWN_NAME, pos));
+        return Err(Rule::UnknownName.at(pos).into());
     }
     let is_own = is_own_class(view, of);
     let mut found = Items::new(alloc);
@@ -83,7 +79,7 @@ fn features(
         }
     }
     if found.is_empty() {
-        return Err(refused(PRIVATE_FEATURE, pos));
+        return Err(Rule::PrivateFeature.at(pos).into());
     }
     Ok(found)
 }

@@ -1,16 +1,12 @@
 //! Which candidate a call chooses, and what it then reaches.
 
 use crate::candidates::{Candidate, candidates, described};
-use crate::codes::{NO_CONTEXT, NONE_FITS, held, refused};
 use crate::target::{Reached, reached_by};
 use crate::view::View;
 use sa_overload::{ArgIn, Cand, Choice, choose, fits};
-use sa_tree::{FrontFault, Mode, NoMemory, Pos};
+use sa_tree::{FrontFault, Mode, NoMemory, Pos, Rule, held};
 use sqlite_items::Items;
 use std::alloc::Global;
-
-/// E32: several features fit.
-const SEVERAL_FIT: u8 = 32;
 
 /// A parameter of what is called.
 #[derive(Clone, Copy, Debug, PartialEq, Eq)]
@@ -130,12 +126,12 @@ impl Call {
         }
         let place = match choose(described, args, wants, view.program.edges()) {
             Choice::One(place) => place as usize,
-            Choice::NoneFits => return Err(refused(NONE_FITS, pos)),
-            Choice::Several(_, _) => return Err(refused(SEVERAL_FIT, pos)),
+            Choice::NoneFits => return Err(Rule::NoFeatureFits.at(pos).into()),
+            Choice::Several(_, _) => return Err(Rule::SeveralFeaturesFit.at(pos).into()),
         };
         let cand = held(described.get(place))?;
         if !have_one_context(view, described, cand, args, wants) {
-            return Err(refused(NO_CONTEXT, pos));
+            return Err(Rule::NoTypeFromContext.at(pos).into());
         }
         Ok(*held(self.candidates.get(place))?)
     }

@@ -4,7 +4,6 @@
 mod bound;
 mod candidates;
 mod choice;
-mod codes;
 mod constant;
 mod literal;
 mod target;
@@ -14,10 +13,6 @@ mod view;
 pub use bound::{bound_callee, bound_name};
 pub use candidates::{Candidate, description};
 pub use choice::{ChosenFeature, Param, bound_candidate, chosen, described_choice};
-pub use codes::{
-    BAD_BIND, NARROWED, NO_CLASS, NO_CONTEXT, NONE_FITS, NOT_ASSIGNABLE, UNKNOWN_NAME, WRONG_TYPE,
-    held, refused,
-};
 pub use literal::{character, exception, int, me, of_type, text, truth};
 pub use target::Reached;
 pub use variables::{variable_named, variable_value};

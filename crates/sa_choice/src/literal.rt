@@ -1,10 +1,9 @@
 //! Forms without children: literals, `self`, `exception` and `new`.
 
-use crate::codes::{NO_EXCEPTION, held, refused};
 use crate::view::{Place, Typed, View};
 use sa_core::ExprCore;
 use sa_program::{BOOL, CHAR, INT, STR};
-use sa_tree::{FrontFault, Name, NoMemory, Pos};
+use sa_tree::{FrontFault, Name, NoMemory, Pos, Rule, held};
 use std::alloc::Global;
 
 /// An expression of a type without an iter call in it.
@@ -45,7 +44,7 @@ pub fn me(view: &View<'_>) -> Typed {
 /// `exception`: E44 outside a branch of a protect.
 pub fn exception(place: &Place, pos: Pos) -> Result<Typed, FrontFault> {
     match place.branch {
-        None => Err(refused(NO_EXCEPTION, pos)),
+        None => Err(Rule::ExceptionOutsideBranch.at(pos).into()),
         Some(ty) => Ok(of_type(ExprCore::Exception, ty)),
     }
 }

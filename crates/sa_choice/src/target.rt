@@ -1,13 +1,12 @@
 //! What a chosen feature or signature is when the program runs.
 
 use crate::candidates::Candidate;
-use crate::codes::held;
 use crate::constant::constant_value;
 use crate::view::View;
 use sa_core::{CalledCore, ExprCore, Target};
 use sa_prelude::builtin;
 use sa_program::{Member, Side};
-use sa_tree::{Feature, NoMemory, Part};
+use sa_tree::{Feature, NoMemory, Part, held};
 use std::alloc::Global;
 
 /// What a call reaches.

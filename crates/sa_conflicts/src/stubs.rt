@@ -2,10 +2,7 @@
 
 use crate::features::ClassFeatures;
 use crate::lists::is_set;
-use sa_tree::{Kind, NoMemory, Refusal};
-
-/// E22: a class that isn't partial has a stub.
-const STUB_LEFT: u8 = 22;
+use sa_tree::{Kind, NoMemory, Refusal, Rule};
 
 /// The refusal, with E22 at its name, of the first stub that stays, of a class that isn't partial.
 ///
@@ -23,10 +20,7 @@ pub fn stub_left(
     for place in 0..features.len() {
         if features.is_stub(place) && is_set(stays, place) {
             let pos = features.at(place)?.name.pos;
-            return Ok(Some(Refusal {
-                code: STUB_LEFT,
-                pos,
-            }));
+            return Ok(Some(Rule::StubLeft.at(pos)));
         }
     }
     Ok(None)

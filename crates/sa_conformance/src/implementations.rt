@@ -7,16 +7,10 @@ use crate::signatures::Signatures;
 use sa_program::Program;
 use sa_sig::conforms;
 use sa_subtypes::Edges;
-use sa_tree::{FrontFault, NoMemory, Refusal};
+use sa_tree::{FrontFault, NoMemory, Rule};
 use sa_types::{Instance, Sig};
 use sqlite_items::Items;
 use std::alloc::Global;
-
-/// E20: no conforming feature.
-const NONE_CONFORMS: u8 = 20;
-
-/// E21: several conforming features.
-const SEVERAL_CONFORM: u8 = 21;
 
 /// How many pairs of a signature and a type that implements it are listed. A program with so many has one more than the
 /// checker of bodies takes.
@@ -63,7 +57,7 @@ pub fn check_conformance(
     let mut found = Found::new(alloc, program, signatures)?;
     for ty in 0..program.count() {
         if signatures.unlike == Some(ty) {
-            return Err(refused(NONE_CONFORMS, program, ty));
+            return Err(refused(Rule::NoConformingFeature, program, ty));
         }
         if program.class(ty).is_some() && !is_abstract(program, ty) {
             found.implement_all(alloc, program, signatures, ty)?;
@@ -175,12 +169,12 @@ fn conforming(
     for member in program.named(ty, name) {
         if does_implement(alloc, program, ty, *member, &signature)? {
             if found.is_some() {
-                return Err(refused(SEVERAL_CONFORM, program, ty));
+                return Err(refused(Rule::SeveralConformingFeatures, program, ty));
             }
             found = Some(*member);
         }
     }
-    found.ok_or(refused(NONE_CONFORMS, program, ty))
+    found.ok_or(refused(Rule::NoConformingFeature, program, ty))
 }
 
 /// Whether a member of a class implements a signature.
@@ -200,12 +194,9 @@ fn does_implement(
 }
 
 /// The refusal at the name of a type's class.
-fn refused(code: u8, program: &Program<'_>, ty: u32) -> FrontFault {
+fn refused(rule: Rule, program: &Program<'_>, ty: u32) -> FrontFault {
     match program.class(ty) {
         None => FrontFault::NoMemory,
-        Some(class) => FrontFault::Refused(Refusal {
-            code,
-            pos: class.name.pos,
-        }),
+        Some(class) => rule.at(class.name.pos).into(),
     }
 }

@@ -8,13 +8,10 @@ use indexmap::IndexMap;
 use sa_graph::{entry, put};
 use sa_program::Program;
 use sa_subtypes::Edges;
-use sa_tree::{Flat, FrontFault, NoMemory, Refusal};
+use sa_tree::{Flat, FrontFault, NoMemory, Rule};
 use sa_types::Instance;
 use sqlite_items::Items;
 use std::alloc::Global;
-
-/// E23: not a constant.
-const NOT_A_CONSTANT: u8 = 23;
 
 /// The values of the constants of a program, found by instance and feature.
 #[derive(Drop)]
@@ -141,9 +138,6 @@ fn refusal(program: &Program<'_>, places: &Places, place: usize) -> FrontFault {
     };
     match class.features.get(*feature as usize) {
         None => FrontFault::NoMemory,
-        Some(feature) => FrontFault::Refused(Refusal {
-            code: NOT_A_CONSTANT,
-            pos: feature.name.pos,
-        }),
+        Some(feature) => Rule::NotConstant.at(feature.name.pos).into(),
     }
 }

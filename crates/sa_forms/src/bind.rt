@@ -1,13 +1,10 @@
 //! Binds: a call some of whose arguments are given later.
 
 use sa_calls::{PassedArgs, ReadyArg, Receiver, is_iter_name, leave_of, passed, seen_arguments};
-use sa_choice::{
-    BAD_BIND, Built, Candidate, Place, Typed, View, bound_candidate, described_choice, description,
-    first_iter, held, number_of, position, refused, variable_named,
-};
+use sa_choice::{Built, Candidate, Place, Typed, View, bound_candidate, described_choice, description, first_iter, number_of, position, variable_named};
 use sa_core::{CalledCore, ExprCore};
 use sa_overload::Cand;
-use sa_tree::{Expr, FrontFault, ModeTy, Name, NoMemory, Pos, Ty};
+use sa_tree::{Expr, FrontFault, ModeTy, Name, NoMemory, Pos, Rule, Ty, held};
 use sqlite_items::{Boxed, Items};
 use std::alloc::Global;
 
@@ -30,7 +27,7 @@ pub fn bind_form(
     pos: Pos,
 ) -> Result<Typed, FrontFault> {
     if !is_bindable(place, head) || writes(args.as_slice()) {
-        return Err(refused(BAD_BIND, pos));
+        return Err(Rule::BadBind.at(pos).into());
     }
     bind(
         alloc,
@@ -99,7 +96,7 @@ fn head_of(
     let of = on.ty(view, at)?;
     let candidate = head_candidate(alloc, view, built, of, name, args, at)?;
     let Some(called) = head_called(alloc, view, of, candidate)? else {
-        return Err(refused(BAD_BIND, pos));
+        return Err(Rule::BadBind.at(pos).into());
     };
     let ty = bound_number(alloc, view, built, name, args, candidate, pos)?;
     Ok(Head {

@@ -1,23 +1,20 @@
 //! New objects, those that a class creates, and the test for void.
 
 use sa_calls::{ReadyArg, ReadyExpr, Receiver, call};
-use sa_choice::{
-    Built, NO_CONTEXT, NONE_FITS, Place, Typed, UNKNOWN_NAME, View, WRONG_TYPE, held, kind_of,
-    of_type, refused,
-};
+use sa_choice::{Built, Place, Typed, View, kind_of, of_type};
 use sa_core::ExprCore;
 use sa_program::{BOOL, INT};
-use sa_tree::{FrontFault, Kind, Pos};
+use sa_tree::{FrontFault, Kind, Pos, Rule, held};
 use sqlite_items::Boxed;
 use std::alloc::Global;
 
 /// `new`. E30: the class is no reference class. E31: its objects have an array part, whose length is missing.
 pub fn new_object(view: &View<'_>, pos: Pos) -> Result<Typed, FrontFault> {
     if kind_of(view, view.class) != Kind::Reference {
-        return Err(refused(UNKNOWN_NAME, pos));
+        return Err(Rule::UnknownName.at(pos).into());
     }
     if view.program.has_array(view.class) {
-        return Err(refused(NONE_FITS, pos));
+        return Err(Rule::NoFeatureFits.at(pos).into());
     }
     Ok(of_type(ExprCore::New(view.class, pos), view.class))
 }
@@ -30,13 +27,13 @@ pub fn new_array(
     pos: Pos,
 ) -> Result<Typed, FrontFault> {
     if kind_of(view, view.class) != Kind::Reference {
-        return Err(refused(UNKNOWN_NAME, pos));
+        return Err(Rule::UnknownName.at(pos).into());
     }
     if !view.program.has_array(view.class) {
-        return Err(refused(NONE_FITS, pos));
+        return Err(Rule::NoFeatureFits.at(pos).into());
     }
     if length.ty != Some(INT) {
-        return Err(refused(WRONG_TYPE, pos));
+        return Err(Rule::WrongType.at(pos).into());
     }
     Ok(Typed {
         core: ExprCore::NewArray(view.class, Boxed::new(alloc, length.core)?, pos),
@@ -64,7 +61,7 @@ pub fn create(
 /// `void(e)`: E41 where the expression is contextual.
 pub fn is_void(alloc: Global, of: ReadyExpr, pos: Pos) -> Result<Typed, FrontFault> {
     let ReadyExpr::Typed(of, _) = of else {
-        return Err(refused(NO_CONTEXT, pos));
+        return Err(Rule::NoTypeFromContext.at(pos).into());
     };
     Ok(Typed {
         core: ExprCore::IsVoid(Boxed::new(alloc, of.core)?),

@@ -6,10 +6,10 @@
 
 use crate::swapped::swapped;
 use sa_calls::{ReadyArg, ReadyExpr, Receiver, call};
-use sa_choice::{Built, Place, Typed, View, WRONG_TYPE, first_iter, kind_of, refused};
+use sa_choice::{Built, Place, Typed, View, first_iter, kind_of};
 use sa_core::ExprCore;
 use sa_program::BOOL;
-use sa_tree::{FrontFault, Kind, NoMemory, Op, Pos};
+use sa_tree::{FrontFault, Kind, NoMemory, Op, Pos, Rule};
 use sqlite_items::Boxed;
 use std::alloc::Global;
 
@@ -44,7 +44,7 @@ pub fn connected(
     pos: Pos,
 ) -> Result<Typed, FrontFault> {
     if one.ty != Some(BOOL) || other.ty != Some(BOOL) {
-        return Err(refused(WRONG_TYPE, pos));
+        return Err(Rule::WrongType.at(pos).into());
     }
     let iter = first_iter(one.iter, other.iter);
     let one = Boxed::new(alloc, one.core)?;
@@ -195,7 +195,7 @@ fn negated(
     wants: bool,
 ) -> Result<Typed, FrontFault> {
     if compared.ty != Some(BOOL) {
-        return Err(refused(WRONG_TYPE, pos));
+        return Err(Rule::WrongType.at(pos).into());
     }
     let sites = built.sites.len();
     let on = Receiver::Value(compared, sites);

@@ -1,14 +1,11 @@
 //! Comparisons that are called on their second operand.
 
 use sa_calls::{ReadyExpr, Receiver};
-use sa_choice::{
-    Built, NO_CONTEXT, NONE_FITS, Typed, UNKNOWN_NAME, View, WRONG_TYPE, chosen, first_iter, held,
-    kind_of, refused, type_of, widened,
-};
+use sa_choice::{Built, Typed, View, chosen, first_iter, kind_of, type_of, widened};
 use sa_core::{CalledCore, ExprCore, Target};
 use sa_overload::ArgIn;
 use sa_program::BOOL;
-use sa_tree::{FrontFault, Kind, Mode, NoMemory, Pos};
+use sa_tree::{FrontFault, Kind, Mode, NoMemory, Pos, Rule, held};
 use sqlite_items::Boxed;
 use std::alloc::Global;
 
@@ -31,7 +28,7 @@ pub(crate) fn swapped(
 ) -> Result<Typed, FrontFault> {
     let less = less_of(alloc, view, built, &one, &other, wants, pos)?;
     if !less.gives_bool {
-        return Err(refused(WRONG_TYPE, pos));
+        return Err(Rule::WrongType.at(pos).into());
     }
     Ok(call_of(alloc, view, less, one, at, other, pos)?)
 }
@@ -47,10 +44,10 @@ fn less_of(
     pos: Pos,
 ) -> Result<Comparison, FrontFault> {
     let Receiver::Value(one, _) = one else {
-        return Err(refused(NO_CONTEXT, pos));
+        return Err(Rule::NoTypeFromContext.at(pos).into());
     };
     let ReadyExpr::Typed(other, _) = other else {
-        return Err(refused(NO_CONTEXT, pos));
+        return Err(Rule::NoTypeFromContext.at(pos).into());
     };
     less(
         alloc,
@@ -117,7 +114,7 @@ fn less(
     pos: Pos,
 ) -> Result<Comparison, FrontFault> {
     if kind_of(view, of) == Kind::Abstract {
-        return Err(refused(abstract_code(view, of), pos));
+        return Err(none_on_abstract(view, of).at(pos).into());
     }
     let arg = argument(alloc, view, built, from)?;
     let less = chosen(alloc, view, of, IS_LT, &[arg], wants, pos)?;
@@ -134,11 +131,11 @@ fn less(
 }
 
 /// The rule that a call on an abstract type breaks here: it has no `is_lt`, or none that fits.
-fn abstract_code(view: &View<'_>, of: u32) -> u8 {
+fn none_on_abstract(view: &View<'_>, of: u32) -> Rule {
     if view.signatures.named(of, IS_LT).is_empty() {
-        UNKNOWN_NAME
+        Rule::UnknownName
     } else {
-        NONE_FITS
+        Rule::NoFeatureFits
     }
 }
 

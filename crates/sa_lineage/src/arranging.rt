@@ -6,11 +6,8 @@ use crate::lineage::{Edged, Lineage, Lists, links_of};
 use crate::links::Link;
 use sa_graph::{Graph, Grouped, put, word};
 use sa_pairs::{Edge, Names, Pairs, Work, Written, edges_of, lowers, uppers};
-use sa_tree::{Class, FrontFault, NoMemory, Refusal};
+use sa_tree::{Class, FrontFault, NoMemory, Rule};
 use std::alloc::Global;
-
-/// E18: a class lies on a cycle of edges.
-const SUBTYPE_CYCLE: u8 = 18;
 
 /// The tables of the written edges. E18 where edges form a cycle.
 pub fn arranged(
@@ -88,10 +85,7 @@ fn order_of(
 /// The refusal at the name of a class that lies on a cycle.
 fn cycle_at(classes: &[Class], number: usize) -> FrontFault {
     match classes.get(number) {
-        Some(class) => FrontFault::Refused(Refusal {
-            code: SUBTYPE_CYCLE,
-            pos: class.name.pos,
-        }),
+        Some(class) => Rule::SubtypeCycle.at(class.name.pos).into(),
         None => FrontFault::NoMemory,
     }
 }

@@ -1,13 +1,10 @@
 //! The names in headers and include clauses: each is that of a class, or of a parameter, that may stand there (E12).
 
 use crate::graph::is_marked;
-use crate::names::{ClassNumbers, ParamNames, refused};
-use sa_tree::{Class, FrontFault, Include, Kind, ModeTy, Name, Param, Ty};
+use crate::names::{ClassNumbers, ParamNames};
+use sa_tree::{Class, FrontFault, Include, Kind, ModeTy, Name, Param, Rule, Ty};
 use sqlite_items::Boxed;
 use std::alloc::Global;
-
-/// There is no such class, or it can't be used there.
-const NOT_USABLE: u8 = 12;
 
 /// The classes of the prelude that can't be included in any class.
 const NEVER_INCLUDED: [&'static [u8]; 7] = [
@@ -75,11 +72,11 @@ fn check_all_above(scope: &Scope<'_>, above: &[Ty]) -> Result<(), FrontFault> {
 /// A type after `>`, which is no bound type and no parameter.
 fn check_above(scope: &Scope<'_>, ty: &Ty) -> Result<(), FrontFault> {
     match ty {
-        Ty::Rout(_, _, pos) => return Err(refused(NOT_USABLE, *pos)),
-        Ty::Iter(_, _, pos) => return Err(refused(NOT_USABLE, *pos)),
+        Ty::Rout(_, _, pos) => return Err(Rule::ClassNotUsable.at(*pos).into()),
+        Ty::Iter(_, _, pos) => return Err(Rule::ClassNotUsable.at(*pos).into()),
         Ty::Named(_, _, pos) => {
             if scope.params.has(ty) {
-                return Err(refused(NOT_USABLE, *pos));
+                return Err(Rule::ClassNotUsable.at(*pos).into());
             }
         }
         Ty::Same(_) => {}
@@ -96,7 +93,7 @@ fn check_type(scope: &Scope<'_>, ty: &Ty) -> Result<(), FrontFault> {
                 return Ok(());
             }
             if !is_type(scope, name) {
-                return Err(refused(NOT_USABLE, *pos));
+                return Err(Rule::ClassNotUsable.at(*pos).into());
             }
             check_types(scope, given.as_slice())
         }
@@ -159,13 +156,13 @@ fn check_include(scope: &Scope<'_>, kind: Kind, ty: &Ty) -> Result<(), FrontFaul
     match ty {
         Ty::Named(name, given, pos) => {
             if scope.params.has(ty) || !may_include(scope, kind, name) {
-                return Err(refused(NOT_USABLE, *pos));
+                return Err(Rule::ClassNotUsable.at(*pos).into());
             }
             check_types(scope, given.as_slice())
         }
-        Ty::Same(pos) => Err(refused(NOT_USABLE, *pos)),
-        Ty::Rout(_, _, pos) => Err(refused(NOT_USABLE, *pos)),
-        Ty::Iter(_, _, pos) => Err(refused(NOT_USABLE, *pos)),
+        Ty::Same(pos) => Err(Rule::ClassNotUsable.at(*pos).into()),
+        Ty::Rout(_, _, pos) => Err(Rule::ClassNotUsable.at(*pos).into()),
+        Ty::Iter(_, _, pos) => Err(Rule::ClassNotUsable.at(*pos).into()),
     }
 }
 

@@ -2,11 +2,8 @@
 
 use indexmap::{IndexMap, IndexSet};
 use sa_graph::word;
-use sa_tree::{Class, FrontFault, Name, Param, Pos, Refusal, Ty};
+use sa_tree::{Class, FrontFault, Name, Param, Rule, Ty};
 use std::alloc::{AllocError, Global};
-
-/// Two classes have one name.
-const DEFINED_TWICE: u8 = 10;
 
 /// The number of each class, its place in the program's list, by its name.
 #[derive(Drop)]
@@ -30,7 +27,7 @@ impl ClassNumbers {
         let name = class.name.name.copy(alloc)?;
         match self.by_name.insert(name, number)? {
             None => Ok(()),
-            Some(_) => Err(refused(DEFINED_TWICE, class.name.pos)),
+            Some(_) => Err(Rule::ClassDefinedTwice.at(class.name.pos).into()),
         }
     }
 
@@ -38,11 +35,6 @@ impl ClassNumbers {
     pub(crate) fn of(&self, name: &Name) -> Option<u32> {
         self.by_name.get(name).copied()
     }
-}
-
-/// A refusal at a position.
-pub(crate) fn refused(code: u8, pos: Pos) -> FrontFault {
-    FrontFault::Refused(Refusal { code, pos })
 }
 
 /// The names of a class's parameters. Inside the class such a name, written without parameters of its own, is the

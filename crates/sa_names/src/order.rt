@@ -3,13 +3,10 @@
 
 use crate::graph::{Edges, is_marked, reaching_arrays};
 use crate::header::check_names;
-use crate::names::{ClassNumbers, refused};
+use crate::names::ClassNumbers;
 use sa_graph::Graph;
-use sa_tree::{Class, FrontFault, NoMemory};
+use sa_tree::{Class, FrontFault, NoMemory, Rule};
 use std::alloc::Global;
-
-/// A class includes itself, by itself or by others.
-const CYCLE: u8 = 15;
 
 /// Which classes of a program include which. A class has the number of its place in the program's list, and a clause that
 /// of its place in its class.
@@ -90,5 +87,5 @@ fn include_order(alloc: Global, classes: &[Class], graph: &Graph) -> Result<Vec<
         return Ok(order);
     };
     let class = classes.get(number).ok_or(NoMemory)?;
-    Err(refused(CYCLE, class.name.pos))
+    Err(Rule::Cycle.at(class.name.pos).into())
 }

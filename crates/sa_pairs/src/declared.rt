@@ -5,11 +5,8 @@ use crate::names::Names;
 use crate::pair::Pairs;
 use crate::work::Work;
 use crate::written::Written;
-use sa_tree::{Class, FrontFault, Kind, NoMemory, Pos, Refusal, Ty};
+use sa_tree::{Class, FrontFault, Kind, NoMemory, Pos, Rule, Ty};
 use std::alloc::Global;
-
-/// E19: a type after `<` is no abstract class.
-const NOT_ABSTRACT: u8 = 19;
 
 /// A declared edge: the lower class, the upper class, and the pair that it declares.
 #[derive(Clone, Copy)]
@@ -35,10 +32,7 @@ pub fn check_supertypes(classes: &[Class], names: &Names) -> Result<(), FrontFau
 fn check_below(types: &[Ty], names: &Names) -> Result<(), FrontFault> {
     for ty in types {
         if !is_abstract_class(ty, names) {
-            return Err(FrontFault::Refused(Refusal {
-                code: NOT_ABSTRACT,
-                pos: position(ty),
-            }));
+            return Err(Rule::SupertypeNotAbstract.at(position(ty)).into());
         }
     }
     Ok(())

@@ -2,11 +2,8 @@
 
 use crate::program::Program;
 use sa_graph::{Graph, word};
-use sa_tree::{FrontFault, Kind, NoMemory, Refusal};
+use sa_tree::{FrontFault, Kind, NoMemory, Rule};
 use std::alloc::Global;
-
-/// E15: an instance lies on a cycle.
-const CYCLE: u8 = 15;
 
 /// Refuses with E15 at the name of the class of the first immutable instance that holds itself through attributes of
 /// immutable classes.
@@ -26,10 +23,7 @@ fn cycle_at(program: &Program<'_>, ty: usize) -> FrontFault {
     };
     match program.class(ty) {
         None => FrontFault::NoMemory,
-        Some(class) => FrontFault::Refused(Refusal {
-            code: CYCLE,
-            pos: class.name.pos,
-        }),
+        Some(class) => Rule::Cycle.at(class.name.pos).into(),
     }
 }
 

@@ -1,10 +1,7 @@
 //! The routine that a program runs: the `main` of the class MAIN.
 
 use sa_graph::word;
-use sa_tree::{Class, Feature, Flat, FrontFault, Kind, NoMemory, Part, Pos, Refusal, Ty};
-
-/// E24: no class MAIN with a `main`.
-const NO_MAIN: u8 = 24;
+use sa_tree::{Class, Feature, Flat, FrontFault, Kind, NoMemory, Part, Pos, Rule, Ty};
 
 /// The place of `main` among the features of MAIN, which stands at this place among the classes, if there is one.
 ///
@@ -27,7 +24,7 @@ pub(crate) fn main_routine(flat: &Flat, place: Option<u32>) -> Result<u32, Front
 }
 
 fn no_main(pos: Pos) -> FrontFault {
-    FrontFault::Refused(Refusal { code: NO_MAIN, pos })
+    Rule::NoMain.at(pos).into()
 }
 
 /// The place of the one routine of a class that can be run.

@@ -9,20 +9,9 @@ use indexmap::IndexSet;
 use sa_class_table::{DEEPEST, depth, size, there};
 use sa_graph::word;
 use sa_subtypes::Edges;
-use sa_tree::{Class, Flat, FrontFault, Kind, Name, NoMemory, Param, Pos, Refusal, Ty};
+use sa_tree::{Class, Flat, FrontFault, Kind, Name, NoMemory, Param, Pos, Rule, Ty};
 use sqlite_items::Items;
 use std::alloc::Global;
-
-/// E12: the name is no class, or that of a partial one.
-const UNKNOWN_CLASS: u8 = 12;
-/// E13: the class has another number of parameters.
-const PARAMETERS: u8 = 13;
-/// E14: a type isn't below the bound of its parameter.
-const BOUND: u8 = 14;
-/// E51: more than 2,000 instances are needed.
-const INSTANCES: u8 = 51;
-/// E52: the type is deeper than 8.
-const TYPE_DEPTH: u8 = 52;
 
 /// The greatest number of instances.
 const MOST_INSTANCES: usize = 2_000;
@@ -82,7 +71,7 @@ impl<'a> Walk<'a> {
     /// Puts one of the first types at the end of the list.
     fn add_first(&mut self, alloc: Global, name: &[u8]) -> Result<(), FrontFault> {
         let Some((place, class)) = self.class(name) else {
-            return Err(refused(UNKNOWN_CLASS, Pos { file: 0, at: 0 }));
+            return Err(Rule::ClassNotUsable.at(Pos { file: 0, at: 0 }).into());
         };
         let table = self.table(alloc, place, class)?;
         let name = Name::from_slice(alloc, name)?;
@@ -154,13 +143,13 @@ impl<'a> Walk<'a> {
             return Ok(None);
         };
         let Some((place, class)) = self.class(name.as_slice()) else {
-            return Err(refused(UNKNOWN_CLASS, *pos));
+            return Err(Rule::ClassNotUsable.at(*pos).into());
         };
         if args.len() != class.params.len() {
-            return Err(refused(PARAMETERS, *pos));
+            return Err(Rule::ParameterCount.at(*pos).into());
         }
         if !self.meets_bounds(alloc, class.params.as_slice(), ty)? {
-            return Err(refused(BOUND, *pos));
+            return Err(Rule::BoundNotMet.at(*pos).into());
         }
         Ok(Some(self.table(alloc, place, class)?))
     }
@@ -193,17 +182,13 @@ impl<'a> Walk<'a> {
     /// The refusal of a type that is too deep or one too many.
     fn check_limits(&self, ty: &Ty) -> Result<(), FrontFault> {
         if depth(ty) > DEEPEST {
-            return Err(refused(TYPE_DEPTH, position(ty)));
+            return Err(Rule::TypeTooDeep.at(position(ty)).into());
         }
         if self.list.rows.len() >= MOST_INSTANCES {
-            return Err(refused(INSTANCES, position(ty)));
+            return Err(Rule::TooManyInstances.at(position(ty)).into());
         }
         Ok(())
     }
-}
-
-fn refused(code: u8, pos: Pos) -> FrontFault {
-    FrontFault::Refused(Refusal { code, pos })
 }
 
 /// Where a type stands.
