@@ -6,7 +6,9 @@ use crate::leaving::leave_of;
 use crate::passing::{PassedArgs, passed, seen_arguments};
 use crate::ready::ReadyArg;
 use crate::receiver::Receiver;
-use sa_choice::{Built, ChosenFeature, Place, Reached, Typed, View, bound_callee, bound_name, chosen, first_iter};
+use sa_choice::{
+    Built, ChosenFeature, Place, Reached, Typed, View, bound_callee, bound_name, chosen, first_iter,
+};
 use sa_core::{CalledCore, ExprCore};
 use sa_tree::{FrontFault, Name, NoMemory, Pos, Recv, Rule};
 use sqlite_items::Boxed;

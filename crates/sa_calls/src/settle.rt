@@ -4,7 +4,10 @@ use crate::calls::{called_value, callee};
 use crate::passing::{PassedArgs, passed};
 use crate::ready::{ReadyArg, ReadyExpr};
 use crate::receiver::Receiver;
-use sa_choice::{Built, ChosenFeature, Reached, Typed, View, first_iter, is_concrete, is_sub, number_of, type_of, widened};
+use sa_choice::{
+    Built, ChosenFeature, Reached, Typed, View, first_iter, is_concrete, is_sub, number_of,
+    type_of, widened,
+};
 use sa_core::ExprCore;
 use sa_tree::{FrontFault, NoMemory, Pos, Rule, Ty, held};
 use sqlite_items::Items;

@@ -1,10 +1,9 @@
 //! The members of a class by their names.
 
 use crate::members::Member;
-use crate::numbers::there;
 use indexmap::IndexSet;
 use sa_graph::{Grouped, word};
-use sa_tree::{Class, NoMemory};
+use sa_tree::{Class, NoMemory, held};
 use std::alloc::Global;
 
 /// The places of the members of a class by their names.
@@ -45,7 +44,7 @@ impl<'a> MemberNames<'a> {
 }
 
 fn name_of<'a>(class: &'a Class, member: &Member) -> Result<&'a [u8], NoMemory> {
-    let feature = there(class.features.get(member.feature as usize))?;
+    let feature = held(class.features.get(member.feature as usize))?;
     Ok(feature.name.name.as_slice())
 }
 

@@ -1,9 +1,8 @@
 //! The features of a class as calls can name them: an attribute and a shared are a reader and a writer.
 
-use crate::numbers::there;
 use crate::terms::{OWN, PLAIN_INT, Terms};
 use sa_graph::word;
-use sa_tree::{Access, Class, Feature, Formal, Kind, Mode, NoMemory, Part};
+use sa_tree::{Access, Class, Feature, Formal, Kind, Mode, NoMemory, Part, held};
 use sqlite_items::Items;
 use std::alloc::Global;
 
@@ -133,7 +132,7 @@ fn modes_of(alloc: Global, formals: &[Formal]) -> Result<Items<Mode>, NoMemory> 
 fn arg_terms(alloc: Global, formals: &[Formal], terms: &Terms<'_>) -> Result<Items<u32>, NoMemory> {
     let mut args = Items::new(alloc);
     for formal in formals {
-        args.push(there(terms.term(&formal.ty))?)?;
+        args.push(held(terms.term(&formal.ty))?)?;
     }
     Ok(args)
 }
@@ -147,7 +146,7 @@ pub(crate) fn result_terms(
 ) -> Result<Items<u32>, NoMemory> {
     let mut list = Items::new(alloc);
     for place in places {
-        let feature = there(features.get(*place as usize))?;
+        let feature = held(features.get(*place as usize))?;
         list.push(result_term(feature, terms)?)?;
     }
     Ok(list)
@@ -157,14 +156,14 @@ pub(crate) fn result_terms(
 fn result_term(feature: &Feature, terms: &Terms<'_>) -> Result<u32, NoMemory> {
     match &feature.result {
         None => Ok(PLAIN_INT),
-        Some(ty) => there(terms.term(ty)),
+        Some(ty) => held(terms.term(ty)),
     }
 }
 
 /// The term of the result, if there is one. A constant always has one.
 fn whole_result(feature: &Feature, terms: &Terms<'_>) -> Result<Option<u32>, NoMemory> {
     if let Some(ty) = &feature.result {
-        return Ok(Some(there(terms.term(ty))?));
+        return Ok(Some(held(terms.term(ty))?));
     }
     match &feature.part {
         Part::Const(_, _) => Ok(Some(PLAIN_INT)),

@@ -1,7 +1,5 @@
 //! The numbers that are the same in each program.
 
-use sa_tree::NoMemory;
-
 /// The number of `$OB`. The first needed instances are the same in each program.
 pub const OB: u32 = 0;
 /// The number of `$STR`.
@@ -20,11 +18,3 @@ pub const STR: u32 = 6;
 pub const FAULT: u32 = 7;
 /// The number of MAIN.
 pub const MAIN: u32 = 8;
-
-/// What stands at a place that is there by construction. Where it weren't there, the answer is that memory has run out.
-pub fn there<T>(found: Option<T>) -> Result<T, NoMemory> {
-    match found {
-        Some(found) => Ok(found),
-        None => Err(NoMemory),
-    }
-}

@@ -1,11 +1,11 @@
 //! Places in lists.
 
-use sa_tree::NoMemory;
+use sa_tree::{NoMemory, held};
 
 /// What a list holds at a place where it holds something. That it does is known to the writer and not to a proof, so
 /// another place is answered as want of memory.
 pub fn item<T>(list: &[T], at: usize) -> Result<&T, NoMemory> {
-    list.get(at).ok_or(NoMemory)
+    held(list.get(at))
 }
 
 /// Whether there is a mark at a place. There is none behind the list.

@@ -1,7 +1,7 @@
 //! What members are as features: their names and whether they are constants.
 
 use sa_program::{Member, Program};
-use sa_tree::{Feature, NoMemory, Part};
+use sa_tree::{Feature, NoMemory, Part, held};
 
 /// The feature of a member of a type.
 pub(crate) fn feature_of<'p>(
@@ -9,8 +9,8 @@ pub(crate) fn feature_of<'p>(
     ty: u32,
     member: &Member,
 ) -> Result<&'p Feature, NoMemory> {
-    let class = program.class(ty).ok_or(NoMemory)?;
-    class.features.get(member.feature as usize).ok_or(NoMemory)
+    let class = held(program.class(ty))?;
+    held(class.features.get(member.feature as usize))
 }
 
 /// Whether a member may implement a signature: it is public, and no constant.

@@ -7,7 +7,7 @@ use crate::signatures::Signatures;
 use sa_program::Program;
 use sa_sig::conforms;
 use sa_subtypes::Edges;
-use sa_tree::{FrontFault, NoMemory, Rule};
+use sa_tree::{FrontFault, NoMemory, Rule, held};
 use sa_types::{Instance, Sig};
 use sqlite_items::Items;
 use std::alloc::Global;
@@ -144,7 +144,7 @@ impl Found {
         if self.pairs > MOST_LISTED {
             return Ok(());
         }
-        let list = self.by_signature.get_mut(place as usize).ok_or(NoMemory)?;
+        let list = held(self.by_signature.get_mut(place as usize))?;
         list.push(implementation)?;
         Ok(())
     }
@@ -158,9 +158,9 @@ fn conforming(
     ty: u32,
     place: u32,
 ) -> Result<u32, FrontFault> {
-    let origin = signatures.origin(place).ok_or(NoMemory)?;
+    let origin = held(signatures.origin(place))?;
     let signature = program.signature(alloc, origin.from, origin.member)?;
-    let wanted = program.member(origin.from, origin.member).ok_or(NoMemory)?;
+    let wanted = held(program.member(origin.from, origin.member))?;
     let name = feature_of(program, origin.from, wanted)?
         .name
         .name
@@ -185,7 +185,7 @@ fn does_implement(
     place: u32,
     wanted: &Sig,
 ) -> Result<bool, NoMemory> {
-    let member = program.member(ty, place).ok_or(NoMemory)?;
+    let member = held(program.member(ty, place))?;
     if !may_implement(program, ty, member)? {
         return Ok(false);
     }

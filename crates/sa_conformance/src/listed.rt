@@ -5,7 +5,7 @@ use crate::shapes::{Shape, Shapes};
 use indexmap::IndexMap;
 use sa_program::{Member, Program};
 use sa_sig::conforms;
-use sa_tree::NoMemory;
+use sa_tree::{NoMemory, held};
 use sqlite_items::Items;
 use std::alloc::Global;
 
@@ -118,7 +118,7 @@ impl Lists {
         parent: u32,
         growing: &mut Growing,
     ) -> Result<(), NoMemory> {
-        let inherited = self.by_type.get(parent as usize).ok_or(NoMemory)?;
+        let inherited = held(self.by_type.get(parent as usize))?;
         for listed in inherited.as_slice() {
             growing.take_over(alloc, program, listed)?;
         }
@@ -131,7 +131,7 @@ impl Lists {
         if self.count > MOST_SIGNATURES {
             return Err(NoMemory);
         }
-        let place = self.by_type.get_mut(growing.ty as usize).ok_or(NoMemory)?;
+        let place = held(self.by_type.get_mut(growing.ty as usize))?;
         *place = growing.list;
         Ok(())
     }

@@ -6,7 +6,7 @@ use crate::parents::number;
 use crate::signatures::{Names, Origin, Signatures};
 use indexmap::IndexMap;
 use sa_program::Program;
-use sa_tree::NoMemory;
+use sa_tree::{NoMemory, held};
 use smallvec::SmallVec;
 use sqlite_items::Items;
 use std::alloc::Global;
@@ -67,7 +67,7 @@ fn add_name(
     listed: &Listed,
     place: u32,
 ) -> Result<(), NoMemory> {
-    let member = program.member(listed.from, listed.member).ok_or(NoMemory)?;
+    let member = held(program.member(listed.from, listed.member))?;
     let name = feature_of(program, listed.from, member)?
         .name
         .name

@@ -2,7 +2,7 @@
 
 use sa_graph::{Graph, word};
 use sa_program::Program;
-use sa_tree::{Kind, NoMemory};
+use sa_tree::{Kind, NoMemory, held};
 use std::alloc::Global;
 
 /// The numbers of the types after the `<` of a type.
@@ -12,7 +12,7 @@ pub(crate) fn parents(alloc: Global, program: &Program<'_>, ty: u32) -> Result<V
         return Ok(numbers);
     };
     for below in class.below.as_slice() {
-        numbers.push(program.number_of(ty, below).ok_or(NoMemory)?)?;
+        numbers.push(held(program.number_of(ty, below))?)?;
     }
     Ok(numbers)
 }

@@ -4,7 +4,7 @@ use crate::features::feature_of;
 use crate::parents::number;
 use indexmap::IndexMap;
 use sa_program::{Member, Program};
-use sa_tree::{Mode, Name, NoMemory};
+use sa_tree::{Mode, Name, NoMemory, held};
 use std::alloc::Global;
 
 /// What a signature hides others by: its name, the modes and types of its arguments, and whether it has a result.
@@ -63,7 +63,7 @@ impl Shapes {
     fn args(&mut self, program: &Program<'_>, ty: u32, member: &Member) -> Result<u32, NoMemory> {
         let mut list = 0;
         for (k, mode) in member.modes.as_slice().iter().enumerate() {
-            let ty = program.argument(ty, member, k).ok_or(NoMemory)?;
+            let ty = held(program.argument(ty, member, k))?;
             list = self.longer(Longer {
                 others: list,
                 mode: *mode,

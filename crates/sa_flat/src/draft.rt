@@ -7,7 +7,7 @@ use crate::loops::OwnSites;
 use crate::program::BindEntry;
 use crate::step::{FlatExit, FlatStep};
 use indexmap::{IndexMap, IndexSet};
-use sa_tree::{Name, NoMemory, Pos, Ty};
+use sa_tree::{Name, NoMemory, Pos, Ty, held};
 use sqlite_items::Items;
 use std::alloc::Global;
 use std::mem;
@@ -82,11 +82,6 @@ impl Ends {
 pub struct Spot {
     pub place: u32,
     pub line: u32,
-}
-
-/// What is there by the way that the tables were made. Where it isn't, memory is said to have run out.
-pub fn held<T>(found: Option<T>) -> Result<T, NoMemory> {
-    found.ok_or(NoMemory)
 }
 
 /// The body that is being filled, and the program's texts and positions.

@@ -12,7 +12,7 @@ mod step;
 
 pub use body::{FlatBlock, FlatBody, FlatFormal};
 pub use call::{CallPlan, Callee, Fail, FlatArg, Raised};
-pub use draft::{Draft, Ends, Guard, LoopEnd, Placed, Spot, held};
+pub use draft::{Draft, Ends, Guard, LoopEnd, Placed, Spot};
 pub use piece::{ArmTest, BoundPiece, IterPiece, RaisePiece};
 pub use program::{BindEntry, FlatProgram, Layout, STEPS_A_NODE};
 pub use step::{FlatConst, FlatExit, FlatStep};

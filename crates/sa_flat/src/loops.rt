@@ -1,8 +1,7 @@
 //! The sites of a body by the loops that own their instances: for each loop its first site, and for each site the next one of
 //! its loop, so that all loops together cost one walk over the sites.
 
-use crate::draft::held;
-use sa_tree::NoMemory;
+use sa_tree::{NoMemory, held};
 use sqlite_items::Items;
 use std::alloc::Global;
 

@@ -1,7 +1,10 @@
 //! Binds: a call some of whose arguments are given later.
 
 use sa_calls::{PassedArgs, ReadyArg, Receiver, is_iter_name, leave_of, passed, seen_arguments};
-use sa_choice::{Built, Candidate, Place, Typed, View, bound_candidate, described_choice, description, first_iter, number_of, position, variable_named};
+use sa_choice::{
+    Built, Candidate, Place, Typed, View, bound_candidate, described_choice, description,
+    first_iter, number_of, position, variable_named,
+};
 use sa_core::{CalledCore, ExprCore};
 use sa_overload::Cand;
 use sa_tree::{Expr, FrontFault, ModeTy, Name, NoMemory, Pos, Rule, Ty, held};

@@ -2,8 +2,8 @@
 
 use crate::reading::{Handed, raised_by_step, read_by_exit, read_by_step, set_by_step};
 use crate::sets::VarSet;
-use sa_flat::{FlatBlock, FlatBody, FlatExit, FlatStep, held};
-use sa_tree::NoMemory;
+use sa_flat::{FlatBlock, FlatBody, FlatExit, FlatStep};
+use sa_tree::{NoMemory, held};
 use sqlite_items::Items;
 use std::alloc::Global;
 

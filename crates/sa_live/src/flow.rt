@@ -2,8 +2,7 @@
 
 use crate::edges::Ways;
 use crate::sets::{FIRST_TEMPORARY, VarSet};
-use sa_flat::held;
-use sa_tree::NoMemory;
+use sa_tree::{NoMemory, held};
 use sqlite_items::Items;
 use std::alloc::Global;
 

@@ -4,8 +4,8 @@ use crate::edges::Ways;
 use crate::flow::live_at_beginnings;
 use crate::reading::Handed;
 use crate::sets::VarSet;
-use sa_flat::{FlatBlock, FlatBody, FlatExit, held};
-use sa_tree::NoMemory;
+use sa_flat::{FlatBlock, FlatBody, FlatExit};
+use sa_tree::{NoMemory, held};
 use sqlite_items::Items;
 use std::alloc::Global;
 

@@ -1,8 +1,8 @@
 //! Which variables steps and exits read and set, and which a suspension hands out and a resumption hands over.
 
 use crate::sets::VarSet;
-use sa_flat::{FlatArg, FlatExit, FlatFormal, FlatStep, held};
-use sa_tree::{Mode, NoMemory};
+use sa_flat::{FlatArg, FlatExit, FlatFormal, FlatStep};
+use sa_tree::{Mode, NoMemory, held};
 
 /// The arguments of a body by what a suspension and a resumption do with them.
 #[derive(Clone, Copy)]

@@ -2,10 +2,10 @@
 
 use crate::own_body::ended;
 use sa_core::{Core, FeatureCore, SiteCore};
-use sa_flat::{Draft, Ends, FlatBody, FlatExit, FlatFormal, held};
+use sa_flat::{Draft, Ends, FlatBody, FlatExit, FlatFormal};
 use sa_live::kept_variables;
 use sa_lower_body::place_stmts;
-use sa_tree::NoMemory;
+use sa_tree::{NoMemory, held};
 use sqlite_items::Items;
 use std::alloc::Global;
 

@@ -7,8 +7,8 @@ use crate::own_body::{ended, receiver, value_of};
 use crate::passing::{Passing, passing_of, widened_result};
 use crate::signatures::SignatureTypes;
 use sa_core::{Core, ImplCore};
-use sa_flat::{Draft, FlatArg, FlatBody, FlatExit, FlatFormal, FlatStep, held};
-use sa_tree::{Mode, NoMemory};
+use sa_flat::{Draft, FlatArg, FlatBody, FlatExit, FlatFormal, FlatStep};
+use sa_tree::{Mode, NoMemory, held};
 use sqlite_items::Items;
 use std::alloc::Global;
 

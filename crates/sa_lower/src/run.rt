@@ -4,9 +4,9 @@
 use crate::giving::feature;
 use crate::own_body::{ended, no_position};
 use sa_core::{Core, SharedCore};
-use sa_flat::{CallPlan, Callee, Draft, Ends, FlatBody, FlatConst, FlatExit, FlatStep, held};
+use sa_flat::{CallPlan, Callee, Draft, Ends, FlatBody, FlatConst, FlatExit, FlatStep};
 use sa_lower_expr::{Inside, place_expr, writes};
-use sa_tree::NoMemory;
+use sa_tree::{NoMemory, held};
 use sqlite_items::Items;
 use std::alloc::Global;
 

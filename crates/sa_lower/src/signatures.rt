@@ -2,8 +2,8 @@
 
 use indexmap::IndexMap;
 use sa_core::{Core, SigCore, TypeInfo};
-use sa_flat::{Draft, FlatFormal, held};
-use sa_tree::{Kind, ModeTy, NoMemory, Ty};
+use sa_flat::{Draft, FlatFormal};
+use sa_tree::{Kind, ModeTy, NoMemory, Ty, held};
 use sqlite_items::Items;
 use std::alloc::Global;
 

@@ -1,8 +1,8 @@
 //! What is around a statement, and what its program says of types and variables.
 
 use sa_core::{Core, FeatureCore};
-use sa_flat::{Ends, held};
-use sa_tree::{Kind, NoMemory};
+use sa_flat::Ends;
+use sa_tree::{Kind, NoMemory, held};
 
 /// What is around a statement.
 #[derive(Clone, Copy)]

@@ -4,8 +4,8 @@ use crate::around::Around;
 use crate::looping::returned;
 use crate::value::value_of;
 use sa_core::ExprCore;
-use sa_flat::{Draft, FlatExit, FlatStep, held};
-use sa_tree::{NoMemory, Pos};
+use sa_flat::{Draft, FlatExit, FlatStep};
+use sa_tree::{NoMemory, Pos, held};
 use std::alloc::Global;
 
 /// The forms of leaving a loop, by their numbers: always, and where the test is false. Else it is where the test is true.

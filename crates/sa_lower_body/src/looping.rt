@@ -1,9 +1,9 @@
 //! Loops: each round spends a turn, and each way out of a loop ends the instances that belong to it.
 
 use crate::around::{Around, feature};
-use sa_flat::{Draft, Ends, FlatExit, FlatStep, IterPiece, LoopEnd, Raised, held};
+use sa_flat::{Draft, Ends, FlatExit, FlatStep, IterPiece, LoopEnd, Raised};
 use sa_lower_iter::place_iter;
-use sa_tree::NoMemory;
+use sa_tree::{NoMemory, held};
 use sqlite_items::Items;
 use std::alloc::Global;
 

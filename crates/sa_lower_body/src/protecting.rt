@@ -5,9 +5,9 @@
 use crate::around::{Around, is_immutable};
 use crate::stmts::stmts;
 use sa_core::{ArmCore, Core, StmtCore};
-use sa_flat::{ArmTest, Draft, Ends, FlatExit, FlatStep, Guard, RaisePiece, Raised, held};
+use sa_flat::{ArmTest, Draft, Ends, FlatExit, FlatStep, Guard, RaisePiece, Raised};
 use sa_lower_raise::place_raise;
-use sa_tree::NoMemory;
+use sa_tree::{NoMemory, held};
 use sqlite_items::Items;
 use std::alloc::Global;
 

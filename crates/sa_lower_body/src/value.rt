@@ -2,9 +2,9 @@
 
 use crate::around::Around;
 use sa_core::ExprCore;
-use sa_flat::{Draft, held};
+use sa_flat::Draft;
 use sa_lower_expr::{Inside, place_expr, writes};
-use sa_tree::NoMemory;
+use sa_tree::{NoMemory, held};
 use std::alloc::Global;
 
 /// Places the expression of a statement, or one of its tests, and gives the variable that holds its value, if it has one.

@@ -1,8 +1,8 @@
 //! What is around an expression, and what its program says of types, features and signatures by their numbers.
 
 use sa_core::{CalledCore, Core, FeatureCore, SigCore, TypeInfo};
-use sa_flat::{Ends, held};
-use sa_tree::{Kind, NoMemory};
+use sa_flat::Ends;
+use sa_tree::{Kind, NoMemory, held};
 
 /// What an expression stands in.
 #[derive(Clone, Copy, Debug, PartialEq, Eq)]

@@ -6,9 +6,9 @@ use crate::passing::{Passed, pass_value};
 use crate::reached::{Reached, bound_result};
 use sa_bound::place_bound;
 use sa_core::{Core, Target};
-use sa_flat::{BoundPiece, CallPlan, Callee, Draft, FlatArg, FlatStep, held};
+use sa_flat::{BoundPiece, CallPlan, Callee, Draft, FlatArg, FlatStep};
 use sa_prelude::BuiltinFeature;
-use sa_tree::{Kind, Mode, NoMemory, Pos};
+use sa_tree::{Kind, Mode, NoMemory, Pos, held};
 use sqlite_items::Items;
 use std::alloc::Global;
 

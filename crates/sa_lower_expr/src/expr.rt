@@ -9,8 +9,8 @@ use crate::reached::reached_on;
 use crate::simple::{array, new_array, void_test, widened, without_parts};
 use crate::sites::{begin_others, begin_site, end_site};
 use sa_core::{Core, ExprCore};
-use sa_flat::{Draft, Ends, Placed, held};
-use sa_tree::NoMemory;
+use sa_flat::{Draft, Ends, Placed};
+use sa_tree::{NoMemory, held};
 use sqlite_items::Items;
 use std::alloc::Global;
 

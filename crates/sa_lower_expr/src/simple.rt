@@ -2,8 +2,8 @@
 
 use crate::around::{Around, Inside};
 use sa_core::ExprCore;
-use sa_flat::{Draft, Fail, FlatConst, FlatStep, held};
-use sa_tree::{Name, NoMemory, Pos};
+use sa_flat::{Draft, Fail, FlatConst, FlatStep};
+use sa_tree::{Name, NoMemory, Pos, held};
 use std::alloc::Global;
 
 /// A form that holds no expressions. The others are no such form.

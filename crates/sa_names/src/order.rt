@@ -5,7 +5,7 @@ use crate::graph::{Edges, is_marked, reaching_arrays};
 use crate::header::check_names;
 use crate::names::ClassNumbers;
 use sa_graph::Graph;
-use sa_tree::{Class, FrontFault, NoMemory, Rule};
+use sa_tree::{Class, FrontFault, Rule, held};
 use std::alloc::Global;
 
 /// Which classes of a program include which. A class has the number of its place in the program's list, and a clause that
@@ -86,6 +86,6 @@ fn include_order(alloc: Global, classes: &[Class], graph: &Graph) -> Result<Vec<
     let Some(number) = graph.first_on_cycle(alloc, &order)? else {
         return Ok(order);
     };
-    let class = classes.get(number).ok_or(NoMemory)?;
+    let class = held(classes.get(number))?;
     Err(Rule::Cycle.at(class.name.pos).into())
 }

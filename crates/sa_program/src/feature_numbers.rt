@@ -1,9 +1,8 @@
 //! The numbers of bodies and shareds, counted over all instances in order.
 
 use crate::type_list::TypeList;
-use sa_class_table::there;
 use sa_graph::word;
-use sa_tree::NoMemory;
+use sa_tree::{NoMemory, held};
 use sqlite_items::Items;
 use std::alloc::Global;
 
@@ -17,7 +16,7 @@ pub(crate) fn first_bodies(
     let mut first = 0u32;
     for ty in 0..count {
         firsts.push(first)?;
-        first = there(first.checked_add(bodies_of(list, ty)?))?;
+        first = held(first.checked_add(bodies_of(list, ty)?))?;
     }
     Ok(firsts)
 }
@@ -32,7 +31,7 @@ pub(crate) fn first_shareds(
     let mut first = 0u32;
     for ty in 0..count {
         firsts.push(first)?;
-        first = there(first.checked_add(shareds_of(list, ty)?))?;
+        first = held(first.checked_add(shareds_of(list, ty)?))?;
     }
     Ok(firsts)
 }

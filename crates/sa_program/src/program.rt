@@ -7,10 +7,10 @@ use crate::signature::signature_of;
 use crate::specialised::listed_types;
 use crate::type_list::{TypeList, TypeRow, given};
 use crate::walk::needed_types;
-use sa_class_table::{MAIN, Member, there};
+use sa_class_table::{MAIN, Member};
 use sa_graph::word;
 use sa_subtypes::Edges;
-use sa_tree::{Class, Flat, FrontFault, Kind, NoMemory, Param, Ty};
+use sa_tree::{Class, Flat, FrontFault, Kind, NoMemory, Param, Ty, held};
 use sa_types::{Instance, Sig, Substitution};
 use sqlite_items::Items;
 use std::alloc::Global;
@@ -183,10 +183,10 @@ impl<'a> Program<'a> {
 
     /// The signature of a member: its name, its modes, and its types with the instance's types put in.
     pub fn signature(&self, alloc: Global, ty: u32, place: u32) -> Result<Sig, NoMemory> {
-        let class = there(self.list.class(ty))?;
-        let member = there(self.member(ty, place))?;
-        let feature = there(class.features.get(member.feature as usize))?;
-        let own = &there(self.row(ty))?.ty;
+        let class = held(self.list.class(ty))?;
+        let member = held(self.member(ty, place))?;
+        let feature = held(class.features.get(member.feature as usize))?;
+        let own = &held(self.row(ty))?.ty;
         let by = Substitution::make(alloc, self.params(class), given(own), own)?;
         signature_of(alloc, feature, member, &by)
     }

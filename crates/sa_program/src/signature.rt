@@ -1,7 +1,7 @@
 //! The signature of a member: its name and modes, and its types with types put in.
 
-use sa_class_table::{Member, Side, there};
-use sa_tree::{Feature, Formal, Mode, ModeTy, Name, NoMemory, Part, Ty};
+use sa_class_table::{Member, Side};
+use sa_tree::{Feature, Formal, Mode, ModeTy, Name, NoMemory, Part, Ty, held};
 use sa_types::{Sig, Substitution, subst_with};
 use sqlite_items::Items;
 use std::alloc::Global;
@@ -79,7 +79,7 @@ fn new_value(
     feature: &Feature,
     by: &Substitution<'_>,
 ) -> Result<Items<ModeTy>, NoMemory> {
-    let ty = there(written_result(alloc, feature, by)?)?;
+    let ty = held(written_result(alloc, feature, by)?)?;
     let mut args = Items::new(alloc);
     args.push(ModeTy { mode: Mode::In, ty })?;
     Ok(args)

@@ -2,11 +2,10 @@
 
 use crate::program::Program;
 use crate::type_list::{TypeList, first_terms, given};
-use sa_class_table::there;
 use sa_graph::word;
 use sa_instance::instance_of;
 use sa_subtypes::Edges;
-use sa_tree::{Class, Flat, FrontFault, Kind, Local, Name, NoMemory, Pos, Ty};
+use sa_tree::{Class, Flat, FrontFault, Kind, Local, Name, NoMemory, Pos, Ty, held};
 use sa_types::Instance;
 use sqlite_items::Items;
 use std::alloc::Global;
@@ -24,7 +23,7 @@ pub fn instances(alloc: Global, flat: &Flat, edges: &Edges) -> Result<Items<Inst
 }
 
 fn instance(alloc: Global, program: &Program<'_>, number: u32) -> Result<Instance, NoMemory> {
-    let ty = there(program.row(number))?.ty.copy(alloc)?;
+    let ty = held(program.row(number))?.ty.copy(alloc)?;
     let class = class_of(alloc, program, number, &ty)?;
     Ok(Instance { ty, class })
 }

@@ -1,9 +1,9 @@
 //! The types of a program by number, with the tables of their classes.
 
 use indexmap::IndexSet;
-use sa_class_table::{ClassTable, INT, there};
+use sa_class_table::{ClassTable, INT};
 use sa_graph::word;
-use sa_tree::{Class, NoMemory, Ty};
+use sa_tree::{Class, NoMemory, Ty, held};
 use sqlite_items::Items;
 use std::alloc::Global;
 
@@ -96,8 +96,8 @@ impl<'a> TypeList<'a> {
     }
 
     pub(crate) fn written_at(&self, ty: u32, place: usize) -> Result<&'a Ty, NoMemory> {
-        let table = there(self.table(ty))?;
-        there(table.written_at(place))
+        let table = held(self.table(ty))?;
+        held(table.written_at(place))
     }
 }
 

@@ -6,10 +6,10 @@
 use crate::instantiation::{Instantiation, MOST_NODES};
 use crate::type_list::{TypeList, first_terms, given};
 use indexmap::IndexSet;
-use sa_class_table::{DEEPEST, depth, size, there};
+use sa_class_table::{DEEPEST, depth, size};
 use sa_graph::word;
 use sa_subtypes::Edges;
-use sa_tree::{Class, Flat, FrontFault, Kind, Name, NoMemory, Param, Pos, Rule, Ty};
+use sa_tree::{Class, Flat, FrontFault, Kind, Name, NoMemory, Param, Pos, Rule, Ty, held};
 use sqlite_items::Items;
 use std::alloc::Global;
 
@@ -95,7 +95,7 @@ impl<'a> Walk<'a> {
             self.list.add_terms(Items::new(alloc))?;
             return Ok(());
         };
-        let own = there(self.list.row(ty))?.ty.copy(alloc)?;
+        let own = held(self.list.row(ty))?.ty.copy(alloc)?;
         let at = Instantiation::of(alloc, class.params.as_slice(), &own)?;
         let terms = self.terms(alloc, ty, &at)?;
         self.list.add_terms(terms)?;

@@ -97,7 +97,10 @@ const NUMBERS: [(&[u8], &str); 25] = [
     (b"0X1", "E04: number form not taken at 0"),
     (b"0b12", "E04: number form not taken at 0"),
     (b"0o8", "E04: number form not taken at 0"),
-    (b"0b11111111111111111111111111111111112", "E03: number too large at 0"),
+    (
+        b"0b11111111111111111111111111111111112",
+        "E03: number too large at 0",
+    ),
     (b"a 12a", "E04: number form not taken at 2"),
     (b"1_a", "E04: number form not taken at 0"),
     (b"1.5", "E04: number form not taken at 0"),

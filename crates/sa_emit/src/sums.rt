@@ -1,12 +1,7 @@
-//! Places that are there, and sums that fit, by the way that a flat program is made. Where they aren't or don't, memory is
-//! said to have run out.
+//! Sums and lengths that fit by the way that a flat program is made. Where they don't, memory is said to have run out.
 
+use sa_emit_value::held;
 use wa_syntax::NoMemory;
-
-/// What is there.
-pub fn held<T>(found: Option<T>) -> Result<T, NoMemory> {
-    found.ok_or(NoMemory)
-}
 
 /// The sum of two numbers.
 pub fn sum(number: u32, more: u32) -> Result<u32, NoMemory> {
