@@ -121,7 +121,7 @@ fn subst_named(
 
 /// The name of the class that a name with arguments is: the empty name, which no class has, where it is a parameter's.
 fn class_name(alloc: Global, name: &Name, by: &Substitution<'_>) -> Result<Name, NoMemory>
-    ensures { IfOk result (λ copy. copy.name ≡ class_named (value_in by.now name.now) name.now) }
+    ensures { IfOk result (λ copy. copy ≡ class_named (value_in by.now name.now) name.now) }
 {
     match by.of_name(name) {
         Some(_) => Ok(Name::from_slice(alloc, b"")?),
