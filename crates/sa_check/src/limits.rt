@@ -1,10 +1,8 @@
 //! The size of a typed program, and the number of its dispatch pairs.
 
 use crate::codes::{TOO_LARGE, refused};
+use sa_check_simple::MOST_NODES;
 use sa_tree::{FrontFault, Pos};
-
-/// How many nodes, features and shareds a program has at most, together.
-const MOST_NODES: u32 = 200_000;
 
 /// How many pairs of a signature and a concrete type below its own a program has at most.
 pub(crate) const MOST_PAIRS: u32 = 100_000;
