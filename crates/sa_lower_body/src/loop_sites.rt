@@ -1,6 +1,7 @@
-//! The sites of a body by the loops that own their instances: for each loop its first site, and for each site the next one of
+//! The sites of a feature by the loops that own their instances: for each loop its first site, and for each site the next one of
 //! its loop, so that all loops together cost one walk over the sites.
 
+use sa_core::SiteCore;
 use sa_tree::{NoMemory, held};
 use sqlite_items::Items;
 use std::alloc::Global;
@@ -8,35 +9,27 @@ use std::alloc::Global;
 /// What stands where no other site follows.
 const NO_SITE: u32 = u32::MAX;
 
-/// The sites of a body by their loops.
+/// The sites of a feature by their loops.
 #[derive(Drop)]
-pub struct OwnSites {
+pub(crate) struct LoopSites {
     /// The first site of each loop, by the loop's number.
     first: Items<u32>,
     /// The next site of the same loop, by the site's number.
     next: Items<u32>,
 }
 
-impl OwnSites {
-    /// No sites.
-    pub fn none(alloc: Global) -> OwnSites {
-        OwnSites {
-            first: Items::new(alloc),
-            next: Items::new(alloc),
-        }
-    }
-
-    /// The sites with these loops.
-    pub fn of(alloc: Global, owners: &[u32]) -> Result<OwnSites, NoMemory> {
-        let mut sites = OwnSites {
-            first: no_sites(alloc, loops(owners)?)?,
-            next: no_sites(alloc, owners.len())?,
+impl LoopSites {
+    /// These sites.
+    pub fn of(alloc: Global, sites: &[SiteCore]) -> Result<LoopSites, NoMemory> {
+        let mut by_loop = LoopSites {
+            first: no_sites(alloc, loops(sites)?)?,
+            next: no_sites(alloc, sites.len())?,
         };
-        for site in 0..owners.len() {
-            let site = owners.len() - 1 - site;
-            sites.put(site, held(owners.get(site).copied())?)?;
+        for site in 0..sites.len() {
+            let site = sites.len() - 1 - site;
+            by_loop.put(site, owner(sites, site)?)?;
         }
-        Ok(sites)
+        Ok(by_loop)
     }
 
     /// Puts a site in front of the others of its loop.
@@ -52,29 +45,45 @@ impl OwnSites {
         Ok(())
     }
 
+    /// The first site of a loop, if it has sites.
+    pub fn first_of(&self, number: u32) -> Option<u32> {
+        site_in(self.first.as_slice(), number)
+    }
+
     /// The sites of a loop, rising.
     pub fn of_loop(&self, alloc: Global, number: u32) -> Result<Items<u32>, NoMemory> {
         let mut sites = Items::new(alloc);
-        let mut site = self.first.get(number as usize).copied();
+        let mut site = self.first_of(number);
         for _ in 0..self.next.len() {
             let Some(number) = site else {
                 break;
             };
-            if number == NO_SITE {
-                break;
-            }
             sites.push(number)?;
-            site = self.next.get(number as usize).copied();
+            site = site_in(self.next.as_slice(), number);
         }
         Ok(sites)
     }
 }
 
+/// The loop that owns the instance of a site.
+fn owner(sites: &[SiteCore], site: usize) -> Result<u32, NoMemory> {
+    let site = held(sites.get(site))?;
+    Ok(site.owner)
+}
+
+/// The site at a place of a list, if one is there.
+fn site_in(list: &[u32], place: u32) -> Option<u32> {
+    match list.get(place as usize) {
+        Some(site) if *site != NO_SITE => Some(*site),
+        _ => None,
+    }
+}
+
 /// One more than the greatest number of a loop.
-fn loops(owners: &[u32]) -> Result<usize, NoMemory> {
+fn loops(sites: &[SiteCore]) -> Result<usize, NoMemory> {
     let mut count = 0u32;
-    for owner in owners {
-        count = count.max(held(owner.checked_add(1))?);
+    for site in sites {
+        count = count.max(held(site.owner.checked_add(1))?);
     }
     Ok(count as usize)
 }
