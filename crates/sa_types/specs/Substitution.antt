@@ -44,15 +44,10 @@ abbrev pub named_alone : Option Ty → List ℕ → Pos → Ty
 named_alone None name pos = ty.Named name [] pos
 named_alone (Some t) name pos = placed t pos
 
--- the name of a class, where a parameter of this name stands for this type: a parameter hides the class of its name, and no class has the empty name
-abbrev pub class_named : Option Ty → List ℕ → List ℕ
-class_named None name = name
-class_named (Some t) name = []
-
--- a name with its arguments. One with arguments is that of a class.
+-- a name with its arguments. One with arguments stands for itself.
 abbrev pub named : (List ℕ → Option Ty) → List ℕ → List Ty → Pos → Ty
 named value name [] pos = named_alone (value name) name pos
-named value name (a ∷ more) pos = ty.Named (class_named (value name) name) (a ∷ more) pos
+named value name (a ∷ more) pos = ty.Named name (a ∷ more) pos
 
 -- one level, where the types inside are done already
 abbrev pub substituted_level : (List ℕ → Option Ty) → Ty → Ty-F Ty ModeTy → Ty

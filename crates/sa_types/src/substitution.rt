@@ -1,12 +1,11 @@
 //! Types put in place of the parameters of a class and of SAME.
 //!
-//! A parameter is a name without arguments. It hides a class of its name: written with arguments it is the name of no class.
-//! What is put in place of a parameter or of SAME stands at the position of that place, and what it holds keeps its own
-//! positions.
+//! A parameter is a name without arguments; a parameter written with arguments is the name of a class. What is put in
+//! place of a parameter or of SAME stands at the position of that place, and what it holds keeps its own positions.
 
 ghost use Rattle.std.specs.Prelude.{◌≡◌, IfOk, map};
 ghost use Rattle.std.specs.Option.{option_copied, option_map};
-ghost use Rattle.sa_types.specs.Substitution.{HasPlaces, class_named, given_for, named, named_alone, placed, substituted, substituted_arg};
+ghost use Rattle.sa_types.specs.Substitution.{HasPlaces, given_for, named, named_alone, placed, substituted, substituted_arg};
 ghost use Rattle.sa_types.specs.Table.{IsTableFor, value_in};
 
 use sa_tree::{ModeTy, Name, NoMemory, Param, Pos, Ty};
@@ -115,18 +114,8 @@ fn subst_named(
     if args.is_empty() {
         return alone(alloc, name, pos, by);
     }
-    let name = class_name(alloc, name, by)?;
+    let name = name.copy(alloc)?;
     Ok(Ty::Named(name, subst_types(alloc, args, by)?, pos))
-}
-
-/// The name of the class that a name with arguments is: the empty name, which no class has, where it is a parameter's.
-fn class_name(alloc: Global, name: &Name, by: &Substitution<'_>) -> Result<Name, NoMemory>
-    ensures { IfOk result (λ copy. copy ≡ class_named (value_in by.now name.now) name.now) }
-{
-    match by.of_name(name) {
-        Some(_) => Ok(Name::from_slice(alloc, b"")?),
-        None => Ok(name.copy(alloc)?),
-    }
 }
 
 /// The same in a name without arguments.
