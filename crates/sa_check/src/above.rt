@@ -2,7 +2,7 @@
 //! types.
 
 use indexmap::IndexMap;
-use sa_program::Program;
+use sa_check_program::Program;
 use sa_subtypes::Edges;
 use sa_tree::{Kind, Mode, ModeTy, NoMemory, Ty, held};
 use sqlite_items::{Boxed, Items};

@@ -9,5 +9,5 @@ mod types;
 mod typing;
 mod whole;
 
-pub use sa_program::instances;
+pub use sa_check_program::instances;
 pub use whole::check;

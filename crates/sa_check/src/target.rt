@@ -2,7 +2,7 @@
 
 use sa_core::Target;
 use sa_prelude::builtin;
-use sa_program::{Member, Program, Side};
+use sa_check_program::{Member, Program, Side};
 use sa_tree::{Feature, Part};
 
 /// What a member of a type is, by its place. A const is nothing that can be called.

@@ -3,7 +3,7 @@
 use crate::above::{Shapes, abstract_types, uppers_of};
 use indexmap::IndexMap;
 use sa_core::TypeInfo;
-use sa_program::Program;
+use sa_check_program::Program;
 use sa_tree::{Kind, NoMemory, Ty, held};
 use sqlite_items::Items;
 use std::alloc::Global;

@@ -5,8 +5,8 @@
 //! form alone waits for its type.
 
 use crate::rows::typed;
-use sa_calls::{ReadyArg, ReadyExpr};
-use sa_choice::{Built, Place, Variable, View, position, variable_named, written};
+use sa_check_calls::{ReadyArg, ReadyExpr};
+use sa_check_choice::{Built, Place, Variable, View, position, variable_named, written};
 use sa_tree::{Expr, FrontFault, Given, Mode, Pos, Rule, Ty, held};
 use std::alloc::Global;
 

@@ -2,11 +2,11 @@
 
 use crate::rows::typed;
 use indexmap::IndexMap;
-use sa_choice::{Built, Place, Typed, Variable, View, number_of, type_of};
-use sa_conformance::Signatures;
-use sa_const::{ConstTable, Consts};
+use sa_check_choice::{Built, Place, Typed, Variable, View, number_of, type_of};
+use sa_check_conformance::Signatures;
+use sa_check_constants::{ConstTable, Consts};
 use sa_core::{ExprCore, SiteCore};
-use sa_program::Program;
+use sa_check_program::Program;
 use sa_subtypes::Edges;
 use sa_tree::{Expr, FrontFault, Name, NoMemory, Ty, held};
 use sa_types::Instance;

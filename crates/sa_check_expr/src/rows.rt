@@ -8,9 +8,9 @@ use crate::inside::{
 };
 use crate::part::parts;
 use crate::receiver::{operand, receiver_of};
-use sa_calls::Receiver;
-use sa_choice::{Built, Place, Typed, View, position, variable_named, variable_value};
-use sa_program::{BOOL, INT};
+use sa_check_calls::Receiver;
+use sa_check_choice::{Built, Place, Typed, View, position, variable_named, variable_value};
+use sa_check_program::{BOOL, INT};
 use sa_tree::{Expr, FrontFault, Op, Pos, Rule};
 use std::alloc::Global;
 

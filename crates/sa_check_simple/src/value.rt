@@ -2,7 +2,7 @@
 
 use sa_check_expr::{Built, Place, ReadyExpr, Typed, View, is_sub, ready, typed, widened};
 use sa_core::{ExprCore, StmtCore, TestCore};
-use sa_program::BOOL;
+use sa_check_program::BOOL;
 use sa_tree::{Expr, FrontFault, NoMemory, Pos, Rule, held};
 use sqlite_items::Items;
 use std::alloc::Global;

@@ -7,7 +7,7 @@ use crate::typecase::{tested_variable, typecase_arms};
 use sa_check_expr::{Built, View};
 use sa_check_simple::{Draft, simple_statement};
 use sa_core::StmtCore;
-use sa_program::OB;
+use sa_check_program::OB;
 use sa_tree::{FrontFault, Stmt};
 use sqlite_items::Items;
 use std::alloc::Global;

@@ -4,7 +4,7 @@
 use crate::clause::{Gathered, gather};
 use crate::resolved::{Flattened, Program};
 use crate::substitute::Maker;
-use sa_conflicts::{
+use sa_include_conflicts::{
     ClassFeatures, Conflicts, first_conflict, group_features, is_set, item, staying, stub_left,
 };
 use sa_graph::entry;

@@ -3,7 +3,7 @@
 use crate::renamed::{Renaming, access_after, name_after};
 use crate::resolved::{Flattened, Program};
 use crate::substitute::{Included, Maker, Renamed, TypeArguments};
-use sa_conflicts::{is_set, item};
+use sa_include_conflicts::{is_set, item};
 use sa_tree::{Class, Feature, Include, NoMemory, Refusal, Ty, held};
 use std::alloc::Global;
 

@@ -2,7 +2,7 @@
 
 use sa_core::{Core, FeatureCore};
 use sa_flat::{FlatBody, FlatExit, FlatFormal};
-use sa_live::kept_variables;
+use sa_lower_live::kept_variables;
 use sa_lower_body::place_body;
 use sa_lower_draft::{BodyHead, Draft, OpenBody};
 use sa_tree::{NoMemory, held};

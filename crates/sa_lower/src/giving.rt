@@ -1,7 +1,7 @@
 //! The types of what an implementation gives, which may differ from that of the signature that it implements.
 
 use crate::signatures::is_immutable;
-use sa_class_table::{BOOL, CHAR, INT, STR};
+use sa_check_classes::{BOOL, CHAR, INT, STR};
 use sa_core::{Core, FeatureCore, ImplCore, SharedCore, Target, TypeInfo};
 use sa_prelude::BuiltinFeature;
 use sa_tree::{NoMemory, held};
