@@ -2,8 +2,8 @@
 
 use crate::target::member_target;
 use sa_check_conformance::{Implementation, Signatures};
-use sa_core::{ImplCore, SigCore};
 use sa_check_program::Program;
+use sa_core::{ImplCore, SigCore};
 use sa_tree::{NoMemory, Pos, held};
 use sqlite_items::Items;
 use std::alloc::Global;

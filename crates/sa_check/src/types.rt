@@ -2,8 +2,8 @@
 
 use crate::above::{Shapes, abstract_types, uppers_of};
 use indexmap::IndexMap;
-use sa_core::TypeInfo;
 use sa_check_program::Program;
+use sa_core::TypeInfo;
 use sa_tree::{Kind, NoMemory, Ty, held};
 use sqlite_items::Items;
 use std::alloc::Global;

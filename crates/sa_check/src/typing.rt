@@ -3,12 +3,12 @@
 use crate::limits::{MOST_PAIRS, Size};
 use crate::sigs::sig_pos;
 use indexmap::IndexMap;
-use sa_check_expr::{Built, View};
-use sa_check_stmt::{body, shared_body};
 use sa_check_conformance::Signatures;
 use sa_check_constants::ConstTable;
-use sa_core::{FeatureCore, SharedCore, feature_nodes, shared_nodes};
+use sa_check_expr::{Built, View};
 use sa_check_program::Program;
+use sa_check_stmt::{body, shared_body};
+use sa_core::{FeatureCore, SharedCore, feature_nodes, shared_nodes};
 use sa_tree::{Feature, FrontFault, Kind, NoMemory, Part, Rule, held};
 use sqlite_items::Items;
 use std::alloc::Global;

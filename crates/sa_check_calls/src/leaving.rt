@@ -4,8 +4,8 @@ use crate::iter::innermost_loop;
 use crate::ready::ReadyArg;
 use crate::settle::settled;
 use sa_check_choice::{Built, Place, View};
-use sa_core::ExprCore;
 use sa_check_program::BOOL;
+use sa_core::ExprCore;
 use sa_tree::{FrontFault, Name, Pos, Recv, Rule};
 use std::alloc::Global;
 

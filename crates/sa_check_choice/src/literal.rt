@@ -1,8 +1,8 @@
 //! Forms without children: literals, `self`, `exception` and `new`.
 
 use crate::view::{Place, Typed, View};
-use sa_core::ExprCore;
 use sa_check_program::{BOOL, CHAR, INT, STR};
+use sa_core::ExprCore;
 use sa_tree::{FrontFault, Name, NoMemory, Pos, Rule, held};
 use std::alloc::Global;
 

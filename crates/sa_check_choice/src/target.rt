@@ -3,9 +3,9 @@
 use crate::candidates::Candidate;
 use crate::constant::constant_value;
 use crate::view::View;
+use sa_check_program::{Member, Side};
 use sa_core::{CalledCore, ExprCore, Target};
 use sa_prelude::builtin;
-use sa_check_program::{Member, Side};
 use sa_tree::{Feature, NoMemory, Part, held};
 use std::alloc::Global;
 

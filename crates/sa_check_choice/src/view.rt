@@ -6,8 +6,8 @@
 use indexmap::IndexMap;
 use sa_check_conformance::Signatures;
 use sa_check_constants::ConstTable;
-use sa_core::{ExprCore, SiteCore};
 use sa_check_program::Program;
+use sa_core::{ExprCore, SiteCore};
 use sa_tree::{Expr, Kind, Name, NoMemory, Pos, Ty};
 use sqlite_items::{Boxed, Items};
 use std::alloc::Global;

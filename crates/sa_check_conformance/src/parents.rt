@@ -1,7 +1,7 @@
 //! An order of the abstract types in which each stands behind those after its `<`.
 
-use sa_graph::{Graph, word};
 use sa_check_program::Program;
+use sa_graph::{Graph, word};
 use sa_tree::{Kind, NoMemory, held};
 use std::alloc::Global;
 

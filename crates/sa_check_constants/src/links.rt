@@ -1,8 +1,8 @@
 //! Which constants each constant names, and an order in which each comes behind those.
 
 use crate::names::{Places, named, part};
-use sa_graph::{Graph, word};
 use sa_check_program::Program;
+use sa_graph::{Graph, word};
 use sa_tree::{Expr, NoMemory, Part};
 use std::alloc::Global;
 

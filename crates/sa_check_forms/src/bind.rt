@@ -1,6 +1,8 @@
 //! Binds: a call some of whose arguments are given later.
 
-use sa_check_calls::{PassedArgs, ReadyArg, Receiver, is_iter_name, leave_of, passed, seen_arguments};
+use sa_check_calls::{
+    PassedArgs, ReadyArg, Receiver, is_iter_name, leave_of, passed, seen_arguments,
+};
 use sa_check_choice::{
     Built, Candidate, Place, Typed, View, bound_candidate, described_choice, description,
     first_iter, number_of, position, variable_named,

@@ -2,8 +2,8 @@
 
 use sa_check_calls::{ReadyArg, ReadyExpr, Receiver, call};
 use sa_check_choice::{Built, Place, Typed, View, kind_of, of_type};
-use sa_core::ExprCore;
 use sa_check_program::{BOOL, INT};
+use sa_core::ExprCore;
 use sa_tree::{FrontFault, Kind, Pos, Rule, held};
 use sqlite_items::Boxed;
 use std::alloc::Global;

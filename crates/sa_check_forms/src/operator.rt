@@ -7,8 +7,8 @@
 use crate::swapped::swapped;
 use sa_check_calls::{ReadyArg, ReadyExpr, Receiver, call};
 use sa_check_choice::{Built, Place, Typed, View, first_iter, kind_of};
-use sa_core::ExprCore;
 use sa_check_program::BOOL;
+use sa_core::ExprCore;
 use sa_tree::{FrontFault, Kind, NoMemory, Op, Pos, Rule};
 use sqlite_items::Boxed;
 use std::alloc::Global;

@@ -3,8 +3,8 @@
 use crate::draft::Draft;
 use crate::value::{entry, test, untyped_value};
 use sa_check_expr::{Built, View, leave, parts, position, ready, settled, typed, widened};
-use sa_core::{ExprCore, StmtCore};
 use sa_check_program::{BOOL, OB};
+use sa_core::{ExprCore, StmtCore};
 use sa_tree::{Expr, FrontFault, Name, Op, Pos, Recv, Rule, held};
 use sqlite_items::Items;
 use std::alloc::Global;

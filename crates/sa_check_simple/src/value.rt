@@ -1,8 +1,8 @@
 //! The expressions of a statement: those that want a type, and those that go to one.
 
 use sa_check_expr::{Built, Place, ReadyExpr, Typed, View, is_sub, ready, typed, widened};
-use sa_core::{ExprCore, StmtCore, TestCore};
 use sa_check_program::BOOL;
+use sa_core::{ExprCore, StmtCore, TestCore};
 use sa_tree::{Expr, FrontFault, NoMemory, Pos, Rule, held};
 use sqlite_items::Items;
 use std::alloc::Global;

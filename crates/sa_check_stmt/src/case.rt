@@ -2,9 +2,9 @@
 
 use crate::statement::statements;
 use sa_check_expr::{Built, ReadyArg, ReadyExpr, Receiver, Typed, View, call, ready, ready_all};
+use sa_check_program::{BOOL, OB};
 use sa_check_simple::{Draft, with_type};
 use sa_core::{ExprCore, StmtCore, TestCore};
-use sa_check_program::{BOOL, OB};
 use sa_tree::{CaseArm, Expr, FrontFault, NoMemory, Pos, Rule, held};
 use sqlite_items::Items;
 use std::alloc::Global;

@@ -2,12 +2,12 @@
 
 use crate::features::body;
 use indexmap::IndexMap;
-use sa_check_expr::{Built, Made, Scope, View};
-use sa_check_simple::MOST_NODES;
 use sa_check_conformance::Signatures;
 use sa_check_constants::ConstTable;
-use sa_core::{FeatureCore, feature_nodes};
+use sa_check_expr::{Built, Made, Scope, View};
 use sa_check_program::Program;
+use sa_check_simple::MOST_NODES;
+use sa_core::{FeatureCore, feature_nodes};
 use sa_tree::{Feature, FrontFault, NoMemory, Ty, held};
 use sqlite_items::Items;
 use std::alloc::Global;

@@ -4,10 +4,10 @@
 use crate::clause::{Gathered, gather};
 use crate::resolved::{Flattened, Program};
 use crate::substitute::Maker;
+use sa_graph::entry;
 use sa_include_conflicts::{
     ClassFeatures, Conflicts, first_conflict, group_features, is_set, item, staying, stub_left,
 };
-use sa_graph::entry;
 use sa_tree::{Class, Feature, Kind, NoMemory, Pos, Refusal, Rule, Ty};
 use sqlite_items::Items;
 use std::alloc::{AllocError, Global};

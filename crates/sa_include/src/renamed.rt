@@ -2,8 +2,8 @@
 //! clause brings, and its two names are both those of iters or neither is (else E16).
 
 use indexmap::IndexMap;
-use sa_include_conflicts::is_set;
 use sa_graph::put;
+use sa_include_conflicts::is_set;
 use sa_tree::{Access, Change, Include, Name, NoMemory, Refusal, Rule};
 use std::alloc::{AllocError, Global};
 

@@ -2,9 +2,9 @@
 
 use sa_core::{Core, FeatureCore};
 use sa_flat::{FlatBody, FlatExit, FlatFormal};
-use sa_lower_live::kept_variables;
 use sa_lower_body::place_body;
 use sa_lower_draft::{BodyHead, Draft, OpenBody};
+use sa_lower_live::kept_variables;
 use sa_tree::{NoMemory, held};
 use sqlite_items::Items;
 use std::alloc::Global;
@@ -36,9 +36,7 @@ fn feature_body(
     if feature.iter {
         return iter_body(alloc, &mut draft.body);
     }
-    draft
-        .body
-        .finish(alloc, FlatExit::Return { value: None })
+    draft.body.finish(alloc, FlatExit::Return { value: None })
 }
 
 /// What is known of the body of a feature before its blocks.

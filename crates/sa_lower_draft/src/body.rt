@@ -49,7 +49,10 @@ impl OpenBody {
         let mut body = OpenBody::empty(alloc, head);
         body.open = body.block(alloc)?;
         let Raised {
-            value, place, kind, ..
+            value,
+            place,
+            kind,
+            ..
         } = Inside::of_body().raised;
         body.body.blocks.push(FlatBlock {
             steps: Items::new(alloc),
