@@ -104,6 +104,11 @@ impl OpenBody {
         Ok(())
     }
 
+    /// Moves a variable's value into another one.
+    pub fn move_to(&mut self, to: u32, from: u32) -> Result<(), NoMemory> {
+        self.step(FlatStep::Move { to, from })
+    }
+
     /// Ends the open block with an exit, and opens another one.
     pub fn end(&mut self, alloc: Global, exit: FlatExit, next: u32) -> Result<(), NoMemory> {
         let at = self.open as usize;
