@@ -5,11 +5,8 @@ use crate::around::{Around, is_at_or_below, is_immutable, var_type};
 use crate::stmts::stmts;
 use sa_core::ArmCore;
 use sa_flat::{Draft, FlatExit, FlatStep};
-use sa_tree::{NoMemory, Pos};
+use sa_tree::{FaultKind, NoMemory, Pos};
 use std::alloc::Global;
-
-/// The fault of a typecase of which no arm fits.
-const NO_BRANCH: u8 = 5;
 
 /// The arms of a `typecase`. They leave the block open where none of them fits, and give the block behind the typecase; or
 /// None where the arm is known, and the block behind it is open.
@@ -136,7 +133,7 @@ pub(crate) fn no_arm_fits(
 ) -> Result<(), NoMemory> {
     let fail = draft.fail(pos, around.ends.raised)?;
     let exit = FlatExit::Stop {
-        kind: NO_BRANCH,
+        kind: FaultKind::NoBranch.number(),
         fail,
     };
     draft.end(alloc, exit, after)
