@@ -1,9 +1,7 @@
 //! The size of a typed program, and the number of its dispatch pairs.
 
+use sa_check_simple::MOST_NODES;
 use sa_tree::{FrontFault, Pos, Rule};
-
-/// How many nodes, features and shareds a program has at most, together.
-const MOST_NODES: u32 = 200_000;
 
 /// How many pairs of a signature and a concrete type below its own a program has at most.
 pub(crate) const MOST_PAIRS: u32 = 100_000;

@@ -4,10 +4,10 @@ use crate::limits::{MOST_PAIRS, Size};
 use crate::sigs::sig_pos;
 use indexmap::IndexMap;
 use sa_check_expr::{Built, View};
-use sa_check_stmt::{body, expr_nodes, feature_nodes, shared_body};
+use sa_check_stmt::{body, shared_body};
 use sa_conformance::Signatures;
 use sa_const::ConstTable;
-use sa_core::{FeatureCore, SharedCore};
+use sa_core::{FeatureCore, SharedCore, feature_nodes, shared_nodes};
 use sa_program::Program;
 use sa_tree::{Feature, FrontFault, Kind, NoMemory, Part, Rule, held};
 use sqlite_items::Items;
@@ -166,16 +166,8 @@ fn type_shared(
     f: &Feature,
 ) -> Result<(), FrontFault> {
     let core = shared_body(alloc, view, &mut typing.built, f)?;
-    if typing.size.add(f.name.pos, start_nodes(&core)) {
+    if typing.size.add(f.name.pos, shared_nodes(&core)) {
         typing.shareds.push(core)?;
     }
     Ok(())
-}
-
-/// The number of nodes of a shared's initialiser.
-fn start_nodes(shared: &SharedCore) -> u32 {
-    match &shared.start {
-        None => 0,
-        Some(start) => expr_nodes(start),
-    }
 }

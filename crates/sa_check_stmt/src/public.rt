@@ -3,10 +3,10 @@
 use crate::features::body;
 use indexmap::IndexMap;
 use sa_check_expr::{Built, Made, Scope, View};
-use sa_check_simple::{MOST_NODES, feature_nodes};
+use sa_check_simple::MOST_NODES;
 use sa_conformance::Signatures;
 use sa_const::ConstTable;
-use sa_core::FeatureCore;
+use sa_core::{FeatureCore, feature_nodes};
 use sa_program::Program;
 use sa_tree::{Feature, FrontFault, NoMemory, Ty, held};
 use sqlite_items::Items;

@@ -15,4 +15,5 @@ mod selftest;
 mod top;
 
 pub use cause::{Cause, Exit};
+pub use lines::NO_MEMORY;
 pub use top::sather;

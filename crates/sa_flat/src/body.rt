@@ -4,6 +4,12 @@ use crate::step::{FlatExit, FlatStep};
 use sa_tree::Mode;
 use sqlite_items::Items;
 
+/// The number of the first temporary. A feature has fewer variables.
+pub const FIRST_TEMPORARY: u32 = 200;
+
+/// The block of each body that leaves it with a raise.
+pub const LEAVING_BLOCK: u32 = 1;
+
 /// An argument of a body.
 #[derive(Clone, Copy, Debug, PartialEq, Eq, Hash)]
 pub struct FlatFormal {
@@ -27,7 +33,7 @@ pub struct FlatBody {
     pub feature: Option<u32>,
     pub iter: bool,
     pub formals: Items<FlatFormal>,
-    /// The number of variables of its own, arguments included. Numbers from 200 on are temporaries.
+    /// The number of variables of its own, arguments included. Numbers from `FIRST_TEMPORARY` on are temporaries.
     pub own: u32,
     /// One more than the greatest number of a temporary.
     pub temporaries: u32,

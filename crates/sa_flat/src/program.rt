@@ -5,9 +5,6 @@ use crate::call::Callee;
 use sa_tree::{Kind, Name, Pos};
 use sqlite_items::Items;
 
-/// How many flat steps a turn has at most for each node and variable of the largest feature, and one more.
-pub const STEPS_A_NODE: u64 = 1000;
-
 /// What is known of a type while a program runs.
 #[derive(Drop)]
 pub struct Layout {

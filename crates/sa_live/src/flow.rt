@@ -1,7 +1,8 @@
 //! Which variables are live at the beginning of each block: those that are read on a way from there and not set on it before.
 
 use crate::edges::Ways;
-use crate::sets::{FIRST_TEMPORARY, VarSet};
+use crate::sets::VarSet;
+use sa_flat::FIRST_TEMPORARY;
 use sa_tree::{NoMemory, held};
 use sqlite_items::Items;
 use std::alloc::Global;

@@ -1,11 +1,9 @@
 //! Sets of the variables that a body has of its own.
 
+use sa_flat::FIRST_TEMPORARY;
 use sa_tree::NoMemory;
 use sqlite_items::Items;
 use std::alloc::Global;
-
-/// The number of the first temporary, which is in no set.
-pub const FIRST_TEMPORARY: u32 = 200;
 
 /// How many variables a word tells of.
 const IN_A_WORD: u32 = 64;

@@ -4,7 +4,8 @@
 use crate::own_body::no_position;
 use crate::passing::{Passing, passing_of};
 use sa_core::{Core, ImplCore};
-use sa_flat::{Draft, FlatArg, FlatFormal, FlatStep};
+use sa_flat::{FlatArg, FlatFormal, FlatStep};
+use sa_lower_draft::OpenBody;
 use sa_tree::{NoMemory, held};
 use sqlite_items::Items;
 use std::alloc::Global;
@@ -40,11 +41,11 @@ pub fn pass_all(
     core: &Core,
     implementation: &ImplCore,
     formals: &[FlatFormal],
-    draft: &mut Draft,
+    body: &mut OpenBody,
 ) -> Result<Arguments, NoMemory> {
     let mut passed = Arguments::none(alloc);
     for (place, formal) in formals.iter().enumerate() {
-        pass(core, implementation, place, *formal, draft, &mut passed)?;
+        pass(core, implementation, place, *formal, body, &mut passed)?;
     }
     Ok(passed)
 }
@@ -55,12 +56,12 @@ pub fn pass(
     implementation: &ImplCore,
     place: usize,
     formal: FlatFormal,
-    draft: &mut Draft,
+    body: &mut OpenBody,
     passed: &mut Arguments,
 ) -> Result<(), NoMemory> {
     let how = passing_of(core, implementation, place, formal)?;
     let to = held(u32::try_from(place).ok())?;
-    let var = variable(how, to, draft, &mut passed.backs)?;
+    let var = variable(how, to, body, &mut passed.backs)?;
     passed.args.push(FlatArg {
         mode: formal.mode,
         var: Some(var),
@@ -72,14 +73,14 @@ pub fn pass(
 fn variable(
     how: Passing,
     to: u32,
-    draft: &mut Draft,
+    body: &mut OpenBody,
     backs: &mut Items<Back>,
 ) -> Result<u32, NoMemory> {
     match how {
         Passing::Plain => Ok(to),
-        Passing::WidenedIn(ty) => widened(to, ty, draft),
+        Passing::WidenedIn(ty) => widened(to, ty, body),
         Passing::WidenedOut(ty) => {
-            let from = draft.temporary()?;
+            let from = body.temporary()?;
             backs.push(Back { to, from, ty })?;
             Ok(from)
         }
@@ -87,9 +88,9 @@ fn variable(
 }
 
 /// The variable that holds the value of an immutable class as it stands at an abstract type.
-pub fn widened(from: u32, ty: u32, draft: &mut Draft) -> Result<u32, NoMemory> {
-    let to = draft.temporary()?;
-    draft.step(FlatStep::Widen {
+pub fn widened(from: u32, ty: u32, body: &mut OpenBody) -> Result<u32, NoMemory> {
+    let to = body.temporary()?;
+    body.step(FlatStep::Widen {
         to,
         from,
         ty,
@@ -102,18 +103,18 @@ pub fn widened(from: u32, ty: u32, draft: &mut Draft) -> Result<u32, NoMemory> {
 pub fn widened_value(
     value: Option<u32>,
     ty: Option<u32>,
-    draft: &mut Draft,
+    body: &mut OpenBody,
 ) -> Result<Option<u32>, NoMemory> {
     let (Some(from), Some(ty)) = (value, ty) else {
         return Ok(value);
     };
-    Ok(Some(widened(from, ty, draft)?))
+    Ok(Some(widened(from, ty, body)?))
 }
 
 /// Widens what is copied back, from left to right.
-pub fn widen_back(backs: &[Back], draft: &mut Draft) -> Result<(), NoMemory> {
+pub fn widen_back(backs: &[Back], body: &mut OpenBody) -> Result<(), NoMemory> {
     for back in backs {
-        draft.step(FlatStep::Widen {
+        body.step(FlatStep::Widen {
             to: back.to,
             from: back.from,
             ty: back.ty,

@@ -1,10 +1,10 @@
 //! The bodies of the features, each with the number of its feature.
 
-use crate::own_body::ended;
-use sa_core::{Core, FeatureCore, SiteCore};
-use sa_flat::{Draft, Ends, FlatBody, FlatExit, FlatFormal};
+use sa_core::{Core, FeatureCore};
+use sa_flat::{FlatBody, FlatExit, FlatFormal};
 use sa_live::kept_variables;
-use sa_lower_body::place_stmts;
+use sa_lower_body::place_body;
+use sa_lower_draft::{BodyHead, Draft, OpenBody};
 use sa_tree::{NoMemory, held};
 use sqlite_items::Items;
 use std::alloc::Global;
@@ -31,34 +31,32 @@ fn feature_body(
     feature: &FeatureCore,
     draft: &mut Draft,
 ) -> Result<FlatBody, NoMemory> {
-    let formals = formals(alloc, feature)?;
-    let own = held(u32::try_from(feature.vars.len()).ok())?;
-    draft.begin(alloc, Some(number), formals, own)?;
-    draft.body.iter = feature.iter;
-    let owners = owners(alloc, feature.sites.as_slice())?;
-    draft.own_sites(alloc, owners.as_slice())?;
-    let list = feature.body.as_slice();
-    place_stmts(alloc, core, number, list, draft, &Ends::of_body())?;
+    draft.begin(alloc, head(alloc, number, feature)?)?;
+    place_body(alloc, core, number, draft)?;
     if feature.iter {
-        return iter_body(alloc, draft);
+        return iter_body(alloc, &mut draft.body);
     }
-    ended(alloc, draft, FlatExit::Return { value: None })
+    draft
+        .body
+        .finish(alloc, FlatExit::Return { value: None })
+}
+
+/// What is known of the body of a feature before its blocks.
+fn head(alloc: Global, number: u32, feature: &FeatureCore) -> Result<BodyHead, NoMemory> {
+    Ok(BodyHead {
+        feature: Some(number),
+        iter: feature.iter,
+        formals: formals(alloc, feature)?,
+        own: held(u32::try_from(feature.vars.len()).ok())?,
+        sites: held(u32::try_from(feature.sites.len()).ok())?,
+    })
 }
 
 /// The body of an iter, whose statements have been placed: behind them the instance ends.
-fn iter_body(alloc: Global, draft: &mut Draft) -> Result<FlatBody, NoMemory> {
-    let mut body = ended(alloc, draft, FlatExit::Quit)?;
+fn iter_body(alloc: Global, body: &mut OpenBody) -> Result<FlatBody, NoMemory> {
+    let mut body = body.finish(alloc, FlatExit::Quit)?;
     body.kept = kept_variables(alloc, &body)?;
     Ok(body)
-}
-
-/// The loop that owns the instance of each site.
-fn owners(alloc: Global, sites: &[SiteCore]) -> Result<Items<u32>, NoMemory> {
-    let mut owners = Items::new(alloc);
-    for site in sites {
-        owners.push(site.owner)?;
-    }
-    Ok(owners)
 }
 
 /// The arguments of a feature, which are its first variables.

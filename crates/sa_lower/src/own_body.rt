@@ -8,7 +8,8 @@ use crate::own_iter::own_iter;
 use crate::passing::widened_result;
 use crate::signatures::{SignatureTypes, is_immutable};
 use sa_core::{Core, ImplCore, Target};
-use sa_flat::{CallPlan, Callee, Draft, Ends, Fail, FlatBody, FlatExit, FlatStep};
+use sa_flat::{CallPlan, Callee, Fail, FlatBody, FlatExit, FlatStep};
+use sa_lower_draft::{BodyHead, Inside, OpenBody};
 use sa_tree::{NoMemory, held};
 use sqlite_items::Items;
 use std::alloc::Global;
@@ -19,23 +20,32 @@ pub fn own_body(
     core: &Core,
     implementation: &ImplCore,
     types: &SignatureTypes,
-    draft: &mut Draft,
 ) -> Result<FlatBody, NoMemory> {
-    let formals = Items::from_slice(alloc, types.formals.as_slice())?;
-    let own = held(u32::try_from(formals.len()).ok())?;
-    draft.begin(alloc, None, formals, own)?;
-    draft.statement(false);
-    if let Some(iter) = iter_number(core, implementation)? {
-        return own_iter(alloc, core, implementation, iter, types, draft);
+    let iter = iter_number(core, implementation)?;
+    let head = head(alloc, iter, types)?;
+    let mut body = OpenBody::begin(alloc, head)?;
+    if let Some(iter) = iter {
+        return own_iter(alloc, core, implementation, iter, types, &mut body);
     }
-    let value = call(alloc, core, implementation, types, draft)?;
-    ended(alloc, draft, FlatExit::Return { value })
+    let value = call(alloc, core, implementation, types, &mut body)?;
+    body.finish(alloc, FlatExit::Return { value })
 }
 
-/// The body, which ends with this exit.
-pub fn ended(alloc: Global, draft: &mut Draft, exit: FlatExit) -> Result<FlatBody, NoMemory> {
-    draft.end(alloc, exit, 0)?;
-    Ok(draft.finish(alloc))
+/// What is known of a body before its blocks, where an iter with this number or something else implements the signature.
+fn head(
+    alloc: Global,
+    iter: Option<u32>,
+    types: &SignatureTypes,
+) -> Result<BodyHead, NoMemory> {
+    let formals = Items::from_slice(alloc, types.formals.as_slice())?;
+    let own = held(u32::try_from(formals.len()).ok())?;
+    Ok(BodyHead {
+        feature: None,
+        iter: iter.is_some(),
+        formals,
+        own,
+        sites: 0,
+    })
 }
 
 /// What the steps of a body tell that has no position of its own.
@@ -43,7 +53,7 @@ pub fn no_position() -> Fail {
     Fail {
         place: 0,
         line: 0,
-        raised: Ends::of_body().raised,
+        raised: Inside::of_body().raised,
     }
 }
 
@@ -64,18 +74,18 @@ fn call(
     core: &Core,
     implementation: &ImplCore,
     types: &SignatureTypes,
-    draft: &mut Draft,
+    body: &mut OpenBody,
 ) -> Result<Option<u32>, NoMemory> {
-    let recv = receiver(core, implementation, draft)?;
+    let recv = receiver(core, implementation, body)?;
     let Arguments { args, backs } = pass_all(
         alloc,
         core,
         implementation,
         types.formals.as_slice(),
-        draft,
+        body,
     )?;
-    let value = value_of(core, implementation, draft)?;
-    draft.step(FlatStep::Call {
+    let value = value_of(core, implementation, body)?;
+    body.step(FlatStep::Call {
         plan: CallPlan {
             callee: callee(implementation.target),
             class: implementation.ty,
@@ -85,8 +95,8 @@ fn call(
             fail: no_position(),
         },
     })?;
-    let value = widened_value(value, widened_result(core, implementation, types)?, draft)?;
-    widen_back(backs.as_slice(), draft)?;
+    let value = widened_value(value, widened_result(core, implementation, types)?, body)?;
+    widen_back(backs.as_slice(), body)?;
     Ok(value)
 }
 
@@ -94,15 +104,15 @@ fn call(
 pub fn receiver(
     core: &Core,
     implementation: &ImplCore,
-    draft: &mut Draft,
+    body: &mut OpenBody,
 ) -> Result<u32, NoMemory> {
-    let me = draft.temporary()?;
-    draft.step(FlatStep::Me { to: me })?;
+    let me = body.temporary()?;
+    body.step(FlatStep::Me { to: me })?;
     if !is_immutable(core, implementation.ty)? {
         return Ok(me);
     }
-    let to = draft.temporary()?;
-    draft.step(FlatStep::Unwrap {
+    let to = body.temporary()?;
+    body.step(FlatStep::Unwrap {
         to,
         from: me,
         ty: implementation.ty,
@@ -114,10 +124,10 @@ pub fn receiver(
 pub fn value_of(
     core: &Core,
     implementation: &ImplCore,
-    draft: &mut Draft,
+    body: &mut OpenBody,
 ) -> Result<Option<u32>, NoMemory> {
     match given(core, implementation)? {
-        Some(_) => Ok(Some(draft.temporary()?)),
+        Some(_) => Ok(Some(body.temporary()?)),
         None => Ok(None),
     }
 }

@@ -3,11 +3,12 @@
 //! they are unwrapped and widened there alone.
 
 use crate::arguments::{Arguments, pass, widen_back, widened, widened_value};
-use crate::own_body::{ended, receiver, value_of};
+use crate::own_body::{receiver, value_of};
 use crate::passing::{Passing, passing_of, widened_result};
 use crate::signatures::SignatureTypes;
 use sa_core::{Core, ImplCore};
-use sa_flat::{Draft, FlatArg, FlatBody, FlatExit, FlatFormal, FlatStep};
+use sa_flat::{FlatArg, FlatBody, FlatExit, FlatFormal, FlatStep};
+use sa_lower_draft::OpenBody;
 use sa_tree::{Mode, NoMemory, held};
 use sqlite_items::Items;
 use std::alloc::Global;
@@ -20,41 +21,37 @@ struct Begun {
     vars: Items<u32>,
 }
 
-/// The body of an implementation by the iter with this number, whose draft has begun.
+/// The body of an implementation by the iter with this number, which has begun.
 pub fn own_iter(
     alloc: Global,
     core: &Core,
     implementation: &ImplCore,
     iter: u32,
     types: &SignatureTypes,
-    draft: &mut Draft,
+    body: &mut OpenBody,
 ) -> Result<FlatBody, NoMemory> {
-    draft.body.iter = true;
     let formals = types.formals.as_slice();
-    let begun = begin(alloc, core, implementation, formals, draft)?;
-    let passed = pass_all(alloc, core, implementation, formals, &begun, draft)?;
+    let begun = begin(alloc, core, implementation, formals, body)?;
+    let passed = pass_all(alloc, core, implementation, formals, &begun, body)?;
     let Arguments { args, backs } = passed;
-    let value = value_of(core, implementation, draft)?;
-    let quit = draft.temporary()?;
-    draft.step(FlatStep::Enter {
+    let value = value_of(core, implementation, body)?;
+    let quit = body.temporary()?;
+    body.step(FlatStep::Enter {
         body: iter,
         recv: begun.recv,
         args,
         value,
         quit,
     })?;
-    end_or_go_on(alloc, draft, quit)?;
+    end_or_go_on(alloc, body, quit)?;
     let result = widened_result(core, implementation, types)?;
-    let value = widened_value(value, result, draft)?;
-    widen_back(backs.as_slice(), draft)?;
-    ended(
-        alloc,
-        draft,
-        FlatExit::Suspend {
-            value,
-            resume: None,
-        },
-    )
+    let value = widened_value(value, result, body)?;
+    widen_back(backs.as_slice(), body)?;
+    let exit = FlatExit::Suspend {
+        value,
+        resume: None,
+    };
+    body.finish(alloc, exit)
 }
 
 /// Takes what a start hands over. The block in which a start and a resumption go on is open afterwards.
@@ -63,21 +60,21 @@ fn begin(
     core: &Core,
     implementation: &ImplCore,
     formals: &[FlatFormal],
-    draft: &mut Draft,
+    body: &mut OpenBody,
 ) -> Result<Begun, NoMemory> {
-    let test = draft.temporary()?;
-    draft.step(FlatStep::HasFrame { to: test })?;
-    let fresh = draft.block(alloc)?;
-    let joined = draft.block(alloc)?;
+    let test = body.temporary()?;
+    body.step(FlatStep::HasFrame { to: test })?;
+    let fresh = body.block(alloc)?;
+    let joined = body.block(alloc)?;
     let branch = FlatExit::Branch {
         test,
         yes: joined,
         no: fresh,
     };
-    draft.end(alloc, branch, fresh)?;
-    let recv = receiver(core, implementation, draft)?;
-    let vars = once_arguments(alloc, core, implementation, formals, draft)?;
-    draft.end(alloc, FlatExit::Jump(joined), joined)?;
+    body.end(alloc, branch, fresh)?;
+    let recv = receiver(core, implementation, body)?;
+    let vars = once_arguments(alloc, core, implementation, formals, body)?;
+    body.end(alloc, FlatExit::Jump(joined), joined)?;
     Ok(Begun { recv, vars })
 }
 
@@ -87,11 +84,11 @@ fn once_arguments(
     core: &Core,
     implementation: &ImplCore,
     formals: &[FlatFormal],
-    draft: &mut Draft,
+    body: &mut OpenBody,
 ) -> Result<Items<u32>, NoMemory> {
     let mut vars = Items::new(alloc);
     for (place, formal) in formals.iter().enumerate() {
-        vars.push(once_argument(core, implementation, place, *formal, draft)?)?;
+        vars.push(once_argument(core, implementation, place, *formal, body)?)?;
     }
     Ok(vars)
 }
@@ -102,14 +99,14 @@ fn once_argument(
     implementation: &ImplCore,
     place: usize,
     formal: FlatFormal,
-    draft: &mut Draft,
+    body: &mut OpenBody,
 ) -> Result<u32, NoMemory> {
     let var = held(u32::try_from(place).ok())?;
     if formal.mode != Mode::Once {
         return Ok(var);
     }
     match passing_of(core, implementation, place, formal)? {
-        Passing::WidenedIn(ty) => widened(var, ty, draft),
+        Passing::WidenedIn(ty) => widened(var, ty, body),
         _ => Ok(var),
     }
 }
@@ -121,14 +118,14 @@ fn pass_all(
     implementation: &ImplCore,
     formals: &[FlatFormal],
     begun: &Begun,
-    draft: &mut Draft,
+    body: &mut OpenBody,
 ) -> Result<Arguments, NoMemory> {
     let mut passed = Arguments::none(alloc);
     for (place, formal) in formals.iter().enumerate() {
         if formal.mode == Mode::Once {
             pass_begun(place, begun, &mut passed)?;
         } else {
-            pass(core, implementation, place, *formal, draft, &mut passed)?;
+            pass(core, implementation, place, *formal, body, &mut passed)?;
         }
     }
     Ok(passed)
@@ -145,14 +142,14 @@ fn pass_begun(place: usize, begun: &Begun, passed: &mut Arguments) -> Result<(),
 }
 
 /// Ends the instance where the iter has ended. The block where it has yielded is open afterwards.
-fn end_or_go_on(alloc: Global, draft: &mut Draft, quit: u32) -> Result<(), NoMemory> {
-    let ended = draft.block(alloc)?;
-    let yielded = draft.block(alloc)?;
+fn end_or_go_on(alloc: Global, body: &mut OpenBody, quit: u32) -> Result<(), NoMemory> {
+    let ended = body.block(alloc)?;
+    let yielded = body.block(alloc)?;
     let branch = FlatExit::Branch {
         test: quit,
         yes: ended,
         no: yielded,
     };
-    draft.end(alloc, branch, ended)?;
-    draft.end(alloc, FlatExit::Quit, yielded)
+    body.end(alloc, branch, ended)?;
+    body.end(alloc, FlatExit::Quit, yielded)
 }

@@ -2,24 +2,35 @@
 //! void value of its class as `self`, and calls `main`.
 
 use crate::giving::feature;
-use crate::own_body::{ended, no_position};
+use crate::own_body::no_position;
 use sa_core::{Core, SharedCore};
-use sa_flat::{CallPlan, Callee, Draft, Ends, FlatBody, FlatConst, FlatExit, FlatStep};
-use sa_lower_expr::{Inside, place_expr, writes};
+use sa_flat::{CallPlan, Callee, FlatBody, FlatConst, FlatExit, FlatStep};
+use sa_lower_draft::{BodyHead, Draft, Inside, OpenBody};
+use sa_lower_expr::{Owner, place_expr};
 use sa_tree::{NoMemory, held};
 use sqlite_items::Items;
 use std::alloc::Global;
 
 /// The body that a run begins with.
 pub fn run_body(alloc: Global, core: &Core, draft: &mut Draft) -> Result<FlatBody, NoMemory> {
-    draft.begin(alloc, None, Items::new(alloc), 0)?;
+    draft.begin(alloc, head(alloc))?;
     for (number, shared) in core.shareds.as_slice().iter().enumerate() {
         let number = held(u32::try_from(number).ok())?;
         initialise(alloc, core, number, shared, draft)?;
     }
-    draft.statement(false);
-    let value = call_main(alloc, core, draft)?;
-    ended(alloc, draft, FlatExit::Return { value })
+    let value = call_main(alloc, core, &mut draft.body)?;
+    draft.body.finish(alloc, FlatExit::Return { value })
+}
+
+/// What is known of the body before its blocks.
+fn head(alloc: Global) -> BodyHead {
+    BodyHead {
+        feature: None,
+        iter: false,
+        formals: Items::new(alloc),
+        own: 0,
+        sites: 0,
+    }
 }
 
 /// A shared gets the value of its initialiser, where it has one.
@@ -33,30 +44,34 @@ fn initialise(
     let Some(start) = &shared.start else {
         return Ok(());
     };
-    draft.statement(writes(start));
-    draft.step(FlatStep::Turn)?;
-    let inside = Inside::Initialiser(shared.class);
-    let placed = place_expr(alloc, core, inside, start, draft, &Ends::of_body())?;
-    let from = held(placed.value)?;
-    draft.step(FlatStep::InitShared {
+    draft.body.step(FlatStep::Turn)?;
+    let owner = Owner::Initialiser(shared.class);
+    let value = place_expr(alloc, core, owner, &Inside::of_body(), draft, start)?;
+    let from = held(value)?;
+    draft.body.step(FlatStep::InitShared {
         shared: number,
         from,
     })
 }
 
 /// Calls `main` with a void self, and gives the variable that holds its result, if it has one.
-fn call_main(alloc: Global, core: &Core, draft: &mut Draft) -> Result<Option<u32>, NoMemory> {
+fn call_main(
+    alloc: Global,
+    core: &Core,
+    body: &mut OpenBody,
+) -> Result<Option<u32>, NoMemory> {
+    body.statement(&Inside::of_body());
     let main = feature(core, core.main)?;
-    let recv = draft.temporary()?;
-    draft.step(FlatStep::Const {
+    let recv = body.temporary()?;
+    body.step(FlatStep::Const {
         to: recv,
         value: FlatConst::Void(main.class),
     })?;
     let value = match main.result {
-        Some(_) => Some(draft.temporary()?),
+        Some(_) => Some(body.temporary()?),
         None => None,
     };
-    draft.step(FlatStep::Call {
+    body.step(FlatStep::Call {
         plan: CallPlan {
             callee: Callee::Body(core.main),
             class: main.class,

@@ -2,7 +2,8 @@
 
 use indexmap::IndexMap;
 use sa_core::{Core, SigCore, TypeInfo};
-use sa_flat::{Draft, FlatFormal};
+use sa_flat::FlatFormal;
+use sa_lower_draft::Tables;
 use sa_tree::{Kind, ModeTy, NoMemory, Ty, held};
 use sqlite_items::Items;
 use std::alloc::Global;
@@ -27,29 +28,29 @@ pub fn type_numbers(alloc: Global, types: &[TypeInfo]) -> Result<IndexMap<Ty, u3
 /// The types of a signature, which are types of the program.
 pub fn signature_types(
     alloc: Global,
-    draft: &Draft,
+    tables: &Tables,
     signature: &SigCore,
 ) -> Result<SignatureTypes, NoMemory> {
     let sig = &signature.sig;
     Ok(SignatureTypes {
-        formals: formals(alloc, draft, sig.args.as_slice())?,
-        result: result_type(draft, &sig.result)?,
+        formals: formals(alloc, tables, sig.args.as_slice())?,
+        result: result_type(tables, &sig.result)?,
     })
 }
 
 /// The arguments of a signature.
-fn formals(alloc: Global, draft: &Draft, args: &[ModeTy]) -> Result<Items<FlatFormal>, NoMemory> {
+fn formals(alloc: Global, tables: &Tables, args: &[ModeTy]) -> Result<Items<FlatFormal>, NoMemory> {
     let mut formals = Items::new(alloc);
     for arg in args {
-        let ty = draft.type_number(&arg.ty)?;
+        let ty = tables.type_number(&arg.ty)?;
         formals.push(FlatFormal { mode: arg.mode, ty })?;
     }
     Ok(formals)
 }
 
-fn result_type(draft: &Draft, ty: &Option<Ty>) -> Result<Option<u32>, NoMemory> {
+fn result_type(tables: &Tables, ty: &Option<Ty>) -> Result<Option<u32>, NoMemory> {
     match ty {
-        Some(ty) => Ok(Some(draft.type_number(ty)?)),
+        Some(ty) => Ok(Some(tables.type_number(ty)?)),
         None => Ok(None),
     }
 }

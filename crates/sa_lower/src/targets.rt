@@ -6,7 +6,8 @@ use crate::own_body::own_body;
 use crate::passing::{Passing, passing_of, widened_result};
 use crate::signatures::{SignatureTypes, is_immutable, signature_types};
 use sa_core::{Core, ImplCore, SigCore, Target};
-use sa_flat::{Draft, FlatBody, FlatFormal};
+use sa_flat::{FlatBody, FlatFormal};
+use sa_lower_draft::Tables;
 use sa_tree::{NoMemory, held};
 use sqlite_items::Items;
 use std::alloc::Global;
@@ -16,14 +17,14 @@ use std::alloc::Global;
 pub fn targets(
     alloc: Global,
     core: &Core,
-    draft: &mut Draft,
+    tables: &Tables,
     bodies: &mut Items<FlatBody>,
 ) -> Result<Items<u32>, NoMemory> {
     let mut targets = Items::new(alloc);
     for signature in core.sigs.as_slice() {
-        let types = signature_types(alloc, draft, signature)?;
+        let types = signature_types(alloc, tables, signature)?;
         if needs_own_bodies(core, signature, &types)? {
-            add_own_bodies(alloc, core, signature, &types, draft, bodies, &mut targets)?;
+            add_own_bodies(alloc, core, signature, &types, bodies, &mut targets)?;
         } else {
             add_features(signature.impls.as_slice(), &mut targets)?;
         }
@@ -37,13 +38,12 @@ fn add_own_bodies(
     core: &Core,
     signature: &SigCore,
     types: &SignatureTypes,
-    draft: &mut Draft,
     bodies: &mut Items<FlatBody>,
     targets: &mut Items<u32>,
 ) -> Result<(), NoMemory> {
     for implementation in signature.impls.as_slice() {
         let number = held(u32::try_from(bodies.len()).ok())?;
-        bodies.push(own_body(alloc, core, implementation, types, draft)?)?;
+        bodies.push(own_body(alloc, core, implementation, types)?)?;
         targets.push(number)?;
     }
     Ok(())

@@ -6,11 +6,11 @@ use crate::signatures::type_numbers;
 use crate::targets::targets;
 use indexmap::IndexSet;
 use sa_core::{Core, SharedCore, TypeInfo, positions};
-use sa_flat::{Draft, FlatProgram, Layout};
+use sa_flat::{FlatProgram, Layout};
+use sa_lower_draft::{Draft, Tables};
 use sa_tree::{Name, NoMemory};
 use sqlite_items::Items;
 use std::alloc::Global;
-use std::mem;
 
 /// The flat program of a typed one, which has a line for each of its positions.
 ///
@@ -20,15 +20,14 @@ use std::mem;
 pub fn lower(alloc: Global, core: &Core) -> Result<FlatProgram, NoMemory> {
     let mut program = tables(alloc, core)?;
     let types = type_numbers(alloc, core.types.as_slice())?;
-    let mut draft = Draft::new(
-        alloc,
-        program.sites.as_slice(),
-        core.lines.as_slice(),
-        types,
-    )?;
+    let positions = program.sites.as_slice();
+    let tables = Tables::new(alloc, positions, core.lines.as_slice(), types)?;
+    let mut draft = Draft::new(alloc, tables);
     add_bodies(alloc, core, &mut draft, &mut program)?;
-    program.binds = mem::replace(&mut draft.binds, Items::new(alloc));
-    program.texts = texts(alloc, draft)?;
+    let Draft { tables, .. } = draft;
+    let Tables { texts, binds, .. } = tables;
+    program.texts = in_order(alloc, texts)?;
+    program.binds = binds;
     Ok(program)
 }
 
@@ -40,7 +39,7 @@ fn add_bodies(
     program: &mut FlatProgram,
 ) -> Result<(), NoMemory> {
     program.bodies = feature_bodies(alloc, core, draft)?;
-    program.targets = targets(alloc, core, draft, &mut program.bodies)?;
+    program.targets = targets(alloc, core, &draft.tables, &mut program.bodies)?;
     program.bodies.push(run_body(alloc, core, draft)?)?;
     Ok(())
 }
@@ -69,8 +68,7 @@ fn empty(alloc: Global) -> FlatProgram {
 }
 
 /// The texts of a program, in the order of their numbers.
-fn texts(alloc: Global, mut draft: Draft) -> Result<Items<Name>, NoMemory> {
-    let set = mem::replace(&mut draft.texts, IndexSet::new(alloc));
+fn in_order(alloc: Global, set: IndexSet<Name>) -> Result<Items<Name>, NoMemory> {
     let mut texts = Items::new(alloc);
     for text in set {
         texts.push(text)?;

@@ -1,7 +1,8 @@
 //! What is around a statement, and what its program says of types and variables.
 
+use crate::loop_sites::LoopSites;
 use sa_core::{Core, FeatureCore};
-use sa_flat::Ends;
+use sa_lower_draft::Inside;
 use sa_tree::{Kind, NoMemory, held};
 
 /// What is around a statement.
@@ -10,17 +11,27 @@ pub(crate) struct Around<'a> {
     pub core: &'a Core,
     /// The number of the feature that it stands in.
     pub feature: u32,
-    pub ends: &'a Ends,
+    /// The sites of this feature.
+    pub sites: &'a LoopSites,
+    pub inside: Inside,
 }
 
-/// The feature that a statement stands in.
-pub(crate) fn feature<'a>(around: &Around<'a>) -> Result<&'a FeatureCore, NoMemory> {
-    held(around.core.features.get(around.feature as usize))
+impl<'a> Around<'a> {
+    /// Around a statement of the same feature with something else around it.
+    pub fn with(&self, inside: Inside) -> Around<'a> {
+        Around { inside, ..*self }
+    }
+}
+
+/// A feature by its number.
+pub(crate) fn feature_at(core: &Core, number: u32) -> Result<&FeatureCore, NoMemory> {
+    held(core.features.get(number as usize))
 }
 
 /// The number of a variable's type.
 pub(crate) fn var_type(around: &Around<'_>, var: u32) -> Result<u32, NoMemory> {
-    held(feature(around)?.vars.get(var as usize).copied())
+    let feature = feature_at(around.core, around.feature)?;
+    held(feature.vars.get(var as usize).copied())
 }
 
 /// Whether a type is that of an immutable class.

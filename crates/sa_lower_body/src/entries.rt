@@ -4,7 +4,8 @@ use crate::around::Around;
 use crate::stmts::stmts;
 use crate::value::value_of;
 use sa_core::{ExprCore, TestCore};
-use sa_flat::{Draft, FlatExit};
+use sa_flat::FlatExit;
+use sa_lower_draft::Draft;
 use sa_tree::{NoMemory, held};
 use std::alloc::Global;
 
@@ -35,7 +36,7 @@ fn if_entry(
 ) -> Result<(), NoMemory> {
     let next = entry_tests(alloc, around, draft, entry.tests.as_slice())?;
     stmts(alloc, around, draft, entry.body.as_slice())?;
-    draft.end(alloc, FlatExit::Jump(after), next)
+    draft.body.end(alloc, FlatExit::Jump(after), next)
 }
 
 /// The tests of an entry up to the first that is true. They leave the block of the entry's statements open, and give the one
@@ -46,14 +47,14 @@ fn entry_tests(
     draft: &mut Draft,
     tests: &[ExprCore],
 ) -> Result<u32, NoMemory> {
-    let body = draft.block(alloc)?;
+    let body = draft.body.block(alloc)?;
     let (first, others) = held(tests.split_first())?;
     let mut last = value_of(alloc, around, draft, first)?;
     for test in others {
         last = next_test(alloc, around, draft, last, body, test)?;
     }
-    let next = draft.block(alloc)?;
-    draft.end(alloc, test_exit(last, body, next), body)?;
+    let next = draft.body.block(alloc)?;
+    draft.body.end(alloc, test_exit(last, body, next), body)?;
     Ok(next)
 }
 
@@ -66,8 +67,8 @@ fn next_test(
     body: u32,
     test: &ExprCore,
 ) -> Result<u32, NoMemory> {
-    let next = draft.block(alloc)?;
-    draft.end(alloc, test_exit(before, body, next), next)?;
+    let next = draft.body.block(alloc)?;
+    draft.body.end(alloc, test_exit(before, body, next), next)?;
     value_of(alloc, around, draft, test)
 }
 

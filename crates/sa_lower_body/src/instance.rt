@@ -3,8 +3,8 @@
 use crate::around::Around;
 use crate::value::value_of;
 use sa_core::ExprCore;
-use sa_flat::{Draft, FlatExit, IterPiece};
-use sa_lower_iter::place_iter;
+use sa_flat::FlatExit;
+use sa_lower_draft::{Draft, Inside, OpenBody};
 use sa_tree::NoMemory;
 use std::alloc::Global;
 
@@ -19,15 +19,18 @@ pub(crate) fn yield_value(
         Some(e) => Some(value_of(alloc, around, draft, e)?),
         None => None,
     };
-    place_iter(alloc, draft, &IterPiece::Suspend { value })?;
-    Ok(())
+    draft.body.suspend(alloc, value)
 }
 
 /// `quit`, which first ends the instances of the loops around it.
-pub(crate) fn quit(alloc: Global, draft: &mut Draft) -> Result<(), NoMemory> {
-    let exit = match draft.out() {
+pub(crate) fn quit(
+    alloc: Global,
+    inside: &Inside,
+    body: &mut OpenBody,
+) -> Result<(), NoMemory> {
+    let exit = match inside.out() {
         Some(out) => FlatExit::Jump(out),
         None => FlatExit::Quit,
     };
-    draft.leave(alloc, exit)
+    body.leave(alloc, exit)
 }

@@ -4,7 +4,8 @@ use crate::around::Around;
 use crate::looping::returned;
 use crate::value::value_of;
 use sa_core::ExprCore;
-use sa_flat::{Draft, FlatExit, FlatStep};
+use sa_flat::{FlatExit, FlatStep};
+use sa_lower_draft::{Draft, OpenBody};
 use sa_tree::{NoMemory, Pos, held};
 use std::alloc::Global;
 
@@ -24,16 +25,13 @@ pub(crate) fn leave_body(
         Some(e) => Some(value_of(alloc, around, draft, e)?),
         None => None,
     };
-    let Some(out) = draft.out() else {
-        return draft.leave(alloc, FlatExit::Return { value });
+    let Some(out) = around.inside.out() else {
+        return draft.body.leave(alloc, FlatExit::Return { value });
     };
     if let Some(from) = value {
-        draft.step(FlatStep::Move {
-            to: returned(),
-            from,
-        })?;
+        draft.body.move_to(returned(), from)?;
     }
-    draft.leave(alloc, FlatExit::Jump(out))
+    draft.body.leave(alloc, FlatExit::Jump(out))
 }
 
 /// `raise`: the value must not be void.
@@ -45,15 +43,15 @@ pub(crate) fn raise(
     pos: Pos,
 ) -> Result<(), NoMemory> {
     let value = value_of(alloc, around, draft, e)?;
-    let raised = around.ends.raised;
-    let fail = draft.fail(pos, raised)?;
-    draft.step(FlatStep::NotVoid { from: value, fail })?;
-    draft.step(FlatStep::Raising {
+    let raised = around.inside.raised;
+    let fail = draft.tables.fail(pos, raised)?;
+    draft.body.step(FlatStep::NotVoid { from: value, fail })?;
+    draft.body.step(FlatStep::Raising {
         value,
         place: fail.place,
         to: raised,
     })?;
-    draft.leave(alloc, FlatExit::Jump(raised.block))
+    draft.body.leave(alloc, FlatExit::Jump(raised.block))
 }
 
 /// A fault by its number.
@@ -64,8 +62,8 @@ pub(crate) fn stop(
     kind: u8,
     pos: Pos,
 ) -> Result<(), NoMemory> {
-    let fail = draft.fail(pos, around.ends.raised)?;
-    draft.leave(alloc, FlatExit::Stop { kind, fail })
+    let fail = draft.tables.fail(pos, around.inside.raised)?;
+    draft.body.leave(alloc, FlatExit::Stop { kind, fail })
 }
 
 /// Leaves the innermost loop: always, or by a test.
@@ -76,28 +74,28 @@ pub(crate) fn leave_loop(
     kind: u8,
     test: &Option<ExprCore>,
 ) -> Result<(), NoMemory> {
-    let after = draft.after()?;
+    let after = around.inside.after()?;
     if kind == BREAK {
-        return draft.leave(alloc, FlatExit::Jump(after));
+        return draft.body.leave(alloc, FlatExit::Jump(after));
     }
     let test = held(test.as_ref())?;
     let test = value_of(alloc, around, draft, test)?;
-    leave_by_test(alloc, draft, kind, test, after)
+    leave_by_test(alloc, &mut draft.body, kind, test, after)
 }
 
 /// Leaves a loop where the test is false (`while!`), or where it is true (`until!`).
 fn leave_by_test(
     alloc: Global,
-    draft: &mut Draft,
+    body: &mut OpenBody,
     kind: u8,
     test: u32,
     after: u32,
 ) -> Result<(), NoMemory> {
-    let next = draft.block(alloc)?;
+    let next = body.block(alloc)?;
     let (yes, no) = if kind == WHILE {
         (next, after)
     } else {
         (after, next)
     };
-    draft.end(alloc, FlatExit::Branch { test, yes, no }, next)
+    body.end(alloc, FlatExit::Branch { test, yes, no }, next)
 }

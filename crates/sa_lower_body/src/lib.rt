@@ -5,6 +5,7 @@ mod around;
 mod entries;
 mod instance;
 mod leaving;
+mod loop_sites;
 mod looping;
 mod protecting;
 mod simple;
@@ -12,4 +13,4 @@ mod stmts;
 mod typecase;
 mod value;
 
-pub use stmts::place_stmts;
+pub use stmts::place_body;

@@ -1,15 +1,16 @@
 //! Loops: each round spends a turn, and each way out of a loop ends the instances that belong to it.
 
-use crate::around::{Around, feature};
-use sa_flat::{Draft, Ends, FlatExit, FlatStep, IterPiece, LoopEnd, Raised};
-use sa_lower_iter::place_iter;
-use sa_tree::{NoMemory, held};
-use sqlite_items::Items;
+use crate::around::{Around, feature_at};
+use sa_flat::{FlatExit, FlatStep, Raised};
+use sa_lower_draft::{Inside, LoopWays, OpenBody};
+use sa_tree::NoMemory;
 use std::alloc::Global;
 
-/// The block in which each round begins, the block behind the loop, and the blocks that end its instances, where it has sites.
+/// A loop by its number: the block in which each round begins, the block behind the loop, and the blocks that end its instances,
+/// where it has sites.
 #[derive(Clone, Copy)]
 pub(crate) struct LoopBlocks {
+    number: u32,
     head: u32,
     after: u32,
     ending: Option<EndingBlocks>,
@@ -24,79 +25,60 @@ struct EndingBlocks {
     raising: u32,
 }
 
-/// Opens the block in which each round of a loop begins, and gives with the blocks what is around its statements.
+/// Opens the block in which each round of a loop begins.
 pub(crate) fn begin_loop(
     alloc: Global,
     around: &Around<'_>,
-    draft: &mut Draft,
+    body: &mut OpenBody,
     number: u32,
-) -> Result<(LoopBlocks, Ends), NoMemory> {
-    let head = draft.block(alloc)?;
-    let after = draft.block(alloc)?;
-    let sites = draft.sites_of(alloc, number)?;
-    let ending = ending_blocks(alloc, draft, sites.as_slice())?;
-    draft.end(alloc, FlatExit::Jump(head), head)?;
-    draft.step(FlatStep::Turn)?;
-    let blocks = LoopBlocks {
+) -> Result<LoopBlocks, NoMemory> {
+    let head = body.block(alloc)?;
+    let after = body.block(alloc)?;
+    let ending = match around.sites.first_of(number) {
+        Some(_) => Some(ending_blocks(alloc, body)?),
+        None => None,
+    };
+    body.end(alloc, FlatExit::Jump(head), head)?;
+    body.step(FlatStep::Turn)?;
+    Ok(LoopBlocks {
+        number,
         head,
         after,
         ending,
-    };
-    push_loop(draft, number, sites, &blocks)?;
-    Ok((blocks, ends_inside(around.ends, &blocks)))
+    })
 }
 
-/// The blocks that end the instances of a loop with these sites.
-fn ending_blocks(
-    alloc: Global,
-    draft: &mut Draft,
-    sites: &[u32],
-) -> Result<Option<EndingBlocks>, NoMemory> {
-    if sites.is_empty() {
-        return Ok(None);
-    }
-    let breaking = draft.block(alloc)?;
-    let leaving = draft.block(alloc)?;
-    let raising = draft.block(alloc)?;
-    Ok(Some(EndingBlocks {
-        breaking,
-        leaving,
-        raising,
-    }))
+/// The blocks that end the instances of a loop.
+fn ending_blocks(alloc: Global, body: &mut OpenBody) -> Result<EndingBlocks, NoMemory> {
+    Ok(EndingBlocks {
+        breaking: body.block(alloc)?,
+        leaving: body.block(alloc)?,
+        raising: body.block(alloc)?,
+    })
 }
 
-/// Puts a loop around the places behind. A loop without sites leaves the body as the loop around it does.
-fn push_loop(
-    draft: &mut Draft,
-    number: u32,
-    sites: Items<u32>,
-    blocks: &LoopBlocks,
-) -> Result<(), NoMemory> {
-    let (after, out) = match blocks.ending {
-        Some(ending) => (ending.breaking, Some(ending.leaving)),
-        None => (blocks.after, draft.out()),
-    };
-    draft.loops.push(LoopEnd {
-        number,
-        sites,
-        after,
-        out,
-    })?;
-    Ok(())
-}
-
-/// What is around the statements of a loop: a raise ends the instances first. Its variables stay those of the raise around
-/// the loop.
-fn ends_inside(ends: &Ends, blocks: &LoopBlocks) -> Ends {
+/// What is around the statements of a loop. What leaves a loop with sites ends their instances first; a loop without sites leaves
+/// the body as the loop around it does. The variables of a raise stay those of the raise around the loop.
+pub(crate) fn inside_loop(around: Inside, blocks: LoopBlocks) -> Inside {
     let Some(ending) = blocks.ending else {
-        return *ends;
+        return Inside {
+            innermost: Some(LoopWays {
+                after: blocks.after,
+                out: around.out(),
+            }),
+            ..around
+        };
     };
-    Ends {
+    Inside {
         raised: Raised {
             block: ending.raising,
-            ..ends.raised
+            ..around.raised
         },
-        ..*ends
+        innermost: Some(LoopWays {
+            after: ending.breaking,
+            out: Some(ending.leaving),
+        }),
+        ..around
     }
 }
 
@@ -104,42 +86,40 @@ fn ends_inside(ends: &Ends, blocks: &LoopBlocks) -> Ends {
 pub(crate) fn end_loop(
     alloc: Global,
     around: &Around<'_>,
-    draft: &mut Draft,
+    body: &mut OpenBody,
     blocks: LoopBlocks,
 ) -> Result<(), NoMemory> {
-    let LoopEnd { sites, .. } = held(draft.loops.pop())?;
     let Some(ending) = blocks.ending else {
-        return draft.end(alloc, FlatExit::Jump(blocks.head), blocks.after);
+        return body.end(alloc, FlatExit::Jump(blocks.head), blocks.after);
     };
-    draft.end(alloc, FlatExit::Jump(blocks.head), ending.breaking)?;
-    end_instances(alloc, around, draft, sites, &ending, blocks.after)
+    body.end(alloc, FlatExit::Jump(blocks.head), ending.breaking)?;
+    end_instances(alloc, around, body, blocks, ending)
 }
 
 /// The blocks that end the instances of a loop, the first of which is open. The block behind the loop is open then.
 fn end_instances(
     alloc: Global,
     around: &Around<'_>,
-    draft: &mut Draft,
-    sites: Items<u32>,
-    ending: &EndingBlocks,
-    after: u32,
+    body: &mut OpenBody,
+    blocks: LoopBlocks,
+    ending: EndingBlocks,
 ) -> Result<(), NoMemory> {
-    let release = IterPiece::Release { sites };
-    place_iter(alloc, draft, &release)?;
-    draft.end(alloc, FlatExit::Jump(after), ending.leaving)?;
-    place_iter(alloc, draft, &release)?;
-    let exit = leaving_exit(around, draft)?;
-    draft.end(alloc, exit, ending.raising)?;
-    place_iter(alloc, draft, &release)?;
-    draft.end(alloc, FlatExit::Jump(around.ends.raised.block), after)
+    let sites = around.sites.of_loop(alloc, blocks.number)?;
+    body.release(alloc, sites.as_slice())?;
+    body.end(alloc, FlatExit::Jump(blocks.after), ending.leaving)?;
+    body.release(alloc, sites.as_slice())?;
+    body.end(alloc, leaving_exit(around)?, ending.raising)?;
+    body.release(alloc, sites.as_slice())?;
+    let raised = around.inside.raised;
+    body.end(alloc, FlatExit::Jump(raised.block), blocks.after)
 }
 
 /// How the body is left from a loop once its instances have ended: by way of the loops around it, or else at once.
-fn leaving_exit(around: &Around<'_>, draft: &Draft) -> Result<FlatExit, NoMemory> {
-    if let Some(out) = draft.out() {
+fn leaving_exit(around: &Around<'_>) -> Result<FlatExit, NoMemory> {
+    if let Some(out) = around.inside.out() {
         return Ok(FlatExit::Jump(out));
     }
-    let feature = feature(around)?;
+    let feature = feature_at(around.core, around.feature)?;
     if feature.iter {
         return Ok(FlatExit::Quit);
     }
@@ -153,5 +133,5 @@ fn leaving_exit(around: &Around<'_>, draft: &Draft) -> Result<FlatExit, NoMemory
 /// The variable that holds the value of a `return` while the instances of loops are ended. It is one of those of a raise that
 /// leaves the body: no raise begins on the way.
 pub(crate) fn returned() -> u32 {
-    Ends::of_body().raised.value
+    Inside::of_body().raised.value
 }

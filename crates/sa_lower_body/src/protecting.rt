@@ -5,8 +5,8 @@
 use crate::around::{Around, is_immutable};
 use crate::stmts::stmts;
 use sa_core::{ArmCore, Core, StmtCore};
-use sa_flat::{ArmTest, Draft, Ends, FlatExit, FlatStep, Guard, RaisePiece, Raised};
-use sa_lower_raise::place_raise;
+use sa_flat::{FlatExit, FlatStep, Raised};
+use sa_lower_draft::{ArmTest, Draft, Exception, Inside, OpenBody};
 use sa_tree::{NoMemory, held};
 use sqlite_items::Items;
 use std::alloc::Global;
@@ -18,13 +18,44 @@ const VARIABLES: u32 = 4;
 /// The number of `$OB`, the type of the exception behind `else`.
 const OB: u32 = 0;
 
-/// A protect: where raises in its statements go, the variable that holds the exception in its branches, and the block behind
-/// it.
+/// A protect: where raises in its statements go, the variable that holds the exception in its branches, the first temporary of
+/// the statements inside it, and the block behind it.
 #[derive(Clone, Copy)]
 pub(crate) struct Protect {
     raised: Raised,
     exception: u32,
+    first_temporary: u32,
     after: u32,
+}
+
+impl Protect {
+    /// What is around the statements that the protect guards.
+    fn guarded(&self, around: Inside) -> Inside {
+        Inside {
+            raised: self.raised,
+            ..self.behind(around)
+        }
+    }
+
+    /// What is around the block to which the raises of these statements go: what is around the protect, whose variables no
+    /// statement inside it uses as temporaries.
+    fn behind(&self, around: Inside) -> Inside {
+        Inside {
+            first_temporary: self.first_temporary,
+            ..around
+        }
+    }
+
+    /// What is around the statements of a branch of this type.
+    fn branch(&self, around: Inside, ty: u32) -> Inside {
+        Inside {
+            exception: Some(Exception {
+                var: self.exception,
+                ty,
+            }),
+            ..self.behind(around)
+        }
+    }
 }
 
 /// The statements that a protect guards. The block to which their raises go is open afterwards.
@@ -35,48 +66,33 @@ pub(crate) fn guarded(
     draft: &mut Draft,
     list: &[StmtCore],
 ) -> Result<Protect, NoMemory> {
-    let protect = begin_protect(alloc, draft)?;
-    let ends = guarded_ends(around.ends, draft, &protect)?;
-    let inside = Around {
-        core: around.core,
-        feature: around.feature,
-        ends: &ends,
-    };
+    let protect = begin_protect(alloc, around, &mut draft.body)?;
+    let inside = around.with(protect.guarded(around.inside));
     stmts(alloc, &inside, draft, list)?;
-    draft.end(alloc, FlatExit::Jump(protect.after), protect.raised.block)?;
+    let exit = FlatExit::Jump(protect.after);
+    draft.body.end(alloc, exit, protect.raised.block)?;
     Ok(protect)
 }
 
 /// The variables of a protect, and its blocks.
-fn begin_protect(alloc: Global, draft: &mut Draft) -> Result<Protect, NoMemory> {
-    let value = draft.set_aside(VARIABLES)?;
-    let place = held(value.checked_add(1))?;
-    let kind = held(place.checked_add(1))?;
-    let exception = held(kind.checked_add(1))?;
-    let block = draft.block(alloc)?;
-    let after = draft.block(alloc)?;
+fn begin_protect(
+    alloc: Global,
+    around: &Around<'_>,
+    body: &mut OpenBody,
+) -> Result<Protect, NoMemory> {
+    let value = around.inside.first_temporary;
+    let first_temporary = held(value.checked_add(VARIABLES))?;
+    body.use_up_to(first_temporary);
     Ok(Protect {
         raised: Raised {
-            block,
+            block: body.block(alloc)?,
             value,
-            place,
-            kind,
+            place: value + 1,
+            kind: value + 2,
         },
-        exception,
-        after,
-    })
-}
-
-/// What is around the statements that a protect guards.
-fn guarded_ends(ends: &Ends, draft: &Draft, protect: &Protect) -> Result<Ends, NoMemory> {
-    let outside = held(u32::try_from(draft.loops.len()).ok())?;
-    Ok(Ends {
-        raised: protect.raised,
-        guard: Some(Guard {
-            to: protect.raised,
-            outside,
-        }),
-        ..*ends
+        exception: value + 3,
+        first_temporary,
+        after: body.block(alloc)?,
     })
 }
 
@@ -85,24 +101,21 @@ fn guarded_ends(ends: &Ends, draft: &Draft, protect: &Protect) -> Result<Ends, N
 pub(crate) fn choose_arm(
     alloc: Global,
     around: &Around<'_>,
-    draft: &mut Draft,
+    body: &mut OpenBody,
     protect: &Protect,
     list: &[ArmCore],
 ) -> Result<Items<u32>, NoMemory> {
     let mut blocks = Items::new(alloc);
     let mut arms = Items::new(alloc);
     for arm in list {
-        let block = draft.block(alloc)?;
+        let block = body.block(alloc)?;
         blocks.push(block)?;
         arms.push(ArmTest { ty: arm.ty, block })?;
     }
-    let rest = draft.block(alloc)?;
-    let piece = RaisePiece::Arms {
-        at: protect.raised,
-        arms,
-        rest,
-    };
-    place_raise(alloc, draft, around.ends, &piece)?;
+    let rest = body.block(alloc)?;
+    let inside = protect.behind(around.inside);
+    let value = protect.raised.value;
+    body.choose_arm(alloc, &inside, value, arms.as_slice(), rest)?;
     Ok(blocks)
 }
 
@@ -115,16 +128,9 @@ pub(crate) fn other_stmts(
     protect: &Protect,
     list: &[StmtCore],
 ) -> Result<(), NoMemory> {
-    draft.step(FlatStep::Move {
-        to: protect.exception,
-        from: protect.raised.value,
-    })?;
-    let ends = branch_ends(around.ends, protect, OB);
-    let inside = Around {
-        core: around.core,
-        feature: around.feature,
-        ends: &ends,
-    };
+    let from = protect.raised.value;
+    draft.body.move_to(protect.exception, from)?;
+    let inside = around.with(protect.branch(around.inside, OB));
     stmts(alloc, &inside, draft, list)
 }
 
@@ -132,16 +138,10 @@ pub(crate) fn other_stmts(
 pub(crate) fn hand_on(
     alloc: Global,
     around: &Around<'_>,
-    draft: &mut Draft,
+    body: &mut OpenBody,
     protect: &Protect,
 ) -> Result<(), NoMemory> {
-    let piece = RaisePiece::Exit {
-        value: protect.raised.value,
-        place: protect.raised.place,
-        kind: protect.raised.kind,
-    };
-    place_raise(alloc, draft, around.ends, &piece)?;
-    Ok(())
+    body.hand_on(alloc, protect.raised, around.inside.raised)
 }
 
 /// The branches in order, each in its block. The block behind the protect is open afterwards.
@@ -157,9 +157,8 @@ pub(crate) fn protect_arms(
     for (arm, block) in list.iter().zip(blocks.iter()) {
         protect_arm(alloc, around, draft, protect, arm, *block)?;
     }
-    draft.end(alloc, FlatExit::Jump(protect.after), protect.after)?;
-    draft.give_back(VARIABLES);
-    Ok(())
+    let exit = FlatExit::Jump(protect.after);
+    draft.body.end(alloc, exit, protect.after)
 }
 
 /// A branch in its block.
@@ -172,37 +171,24 @@ fn protect_arm(
     arm: &ArmCore,
     block: u32,
 ) -> Result<(), NoMemory> {
-    draft.end(alloc, FlatExit::Jump(protect.after), block)?;
-    take_exception(around.core, draft, protect, arm.ty)?;
-    let ends = branch_ends(around.ends, protect, arm.ty);
-    let inside = Around {
-        core: around.core,
-        feature: around.feature,
-        ends: &ends,
-    };
+    let exit = FlatExit::Jump(protect.after);
+    draft.body.end(alloc, exit, block)?;
+    take_exception(around.core, &mut draft.body, protect, arm.ty)?;
+    let inside = around.with(protect.branch(around.inside, arm.ty));
     stmts(alloc, &inside, draft, arm.body.as_slice())
 }
 
 /// The raised object into the variable of the exception, as a branch of this type has it.
 fn take_exception(
     core: &Core,
-    draft: &mut Draft,
+    body: &mut OpenBody,
     protect: &Protect,
     ty: u32,
 ) -> Result<(), NoMemory> {
     let to = protect.exception;
     let from = protect.raised.value;
     if is_immutable(core, ty)? {
-        return draft.step(FlatStep::Unwrap { to, from, ty });
+        return body.step(FlatStep::Unwrap { to, from, ty });
     }
-    draft.step(FlatStep::Move { to, from })
-}
-
-/// What is around the statements of a branch: what is around the protect, and the exception with its type.
-fn branch_ends(ends: &Ends, protect: &Protect, ty: u32) -> Ends {
-    Ends {
-        exception: Some(protect.exception),
-        exception_ty: ty,
-        ..*ends
-    }
+    body.move_to(to, from)
 }

@@ -3,7 +3,7 @@
 use crate::around::Around;
 use crate::value::{evaluated, value_of};
 use sa_core::ExprCore;
-use sa_flat::{Draft, FlatStep};
+use sa_lower_draft::Draft;
 use sa_tree::NoMemory;
 use std::alloc::Global;
 
@@ -16,7 +16,7 @@ pub(crate) fn assign(
     e: &ExprCore,
 ) -> Result<(), NoMemory> {
     let from = value_of(alloc, around, draft, e)?;
-    draft.step(FlatStep::Move { to: var, from })
+    draft.body.move_to(var, from)
 }
 
 /// An expression that is evaluated for what it does.

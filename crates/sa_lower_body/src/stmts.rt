@@ -1,42 +1,39 @@
 //! Lists of statements, and a statement by its form.
 
-use crate::around::Around;
+use crate::around::{Around, feature_at};
 use crate::entries::if_entries;
 use crate::instance::{quit, yield_value};
 use crate::leaving::{leave_body, leave_loop, raise, stop};
-use crate::looping::{begin_loop, end_loop};
+use crate::loop_sites::LoopSites;
+use crate::looping::{begin_loop, end_loop, inside_loop};
 use crate::protecting::{choose_arm, guarded, hand_on, other_stmts, protect_arms};
 use crate::simple::{assign, perform};
 use crate::typecase::{no_arm_fits, typecase_arms};
 use sa_core::{Core, StmtCore};
-use sa_flat::{Draft, Ends, FlatExit, Placed};
+use sa_flat::FlatExit;
+use sa_lower_draft::{Draft, Inside};
 use sa_tree::NoMemory;
 use std::alloc::Global;
 
-/// Places statements of the feature with this number at the end of the open block, with these ends around them. The block
-/// that is open afterwards is the one behind them. A list of statements has no value.
+/// Places the statements of the feature with this number at the end of the open block. The block that is open afterwards is the
+/// one behind them.
 ///
-/// The answer is NoMemory as well where a number of the tree is out of range.
-pub fn place_stmts(
+/// The answer is NoMemory as well where a number of the tree is out of range, or an iter call stands outside loops.
+pub fn place_body(
     alloc: Global,
     core: &Core,
-    feature: u32,
-    list: &[StmtCore],
+    number: u32,
     draft: &mut Draft,
-    ends: &Ends,
-) -> Result<Placed, NoMemory> {
+) -> Result<(), NoMemory> {
+    let feature = feature_at(core, number)?;
+    let sites = LoopSites::of(alloc, feature.sites.as_slice())?;
     let around = Around {
         core,
-        feature,
-        ends,
+        feature: number,
+        sites: &sites,
+        inside: Inside::of_body(),
     };
-    let first = draft.open();
-    stmts(alloc, &around, draft, list)?;
-    Ok(Placed {
-        first,
-        last: draft.open(),
-        value: None,
-    })
+    stmts(alloc, &around, draft, feature.body.as_slice())
 }
 
 /// Places statements one after the other.
@@ -63,27 +60,23 @@ fn stmt(
 ) -> Result<(), NoMemory> {
     match s {
         StmtCore::If(entries, other) => {
-            let after = draft.block(alloc)?;
+            let after = draft.body.block(alloc)?;
             if_entries(alloc, around, draft, entries.as_slice(), after)?;
             stmts(alloc, around, draft, other.as_slice())?;
-            draft.end(alloc, FlatExit::Jump(after), after)
+            draft.body.end(alloc, FlatExit::Jump(after), after)
         }
         StmtCore::Loop(number, body) => {
-            let (blocks, ends) = begin_loop(alloc, around, draft, *number)?;
-            let inside = Around {
-                core: around.core,
-                feature: around.feature,
-                ends: &ends,
-            };
+            let blocks = begin_loop(alloc, around, &mut draft.body, *number)?;
+            let inside = around.with(inside_loop(around.inside, blocks));
             stmts(alloc, &inside, draft, body.as_slice())?;
-            end_loop(alloc, around, draft, blocks)
+            end_loop(alloc, around, &mut draft.body, blocks)
         }
         StmtCore::Protect(body, arms, other) => {
             let protect = guarded(alloc, around, draft, body.as_slice())?;
-            let blocks = choose_arm(alloc, around, draft, &protect, arms.as_slice())?;
+            let blocks = choose_arm(alloc, around, &mut draft.body, &protect, arms.as_slice())?;
             match other {
                 Some(other) => other_stmts(alloc, around, draft, &protect, other.as_slice())?,
-                None => hand_on(alloc, around, draft, &protect)?,
+                None => hand_on(alloc, around, &mut draft.body, &protect)?,
             }
             protect_arms(
                 alloc,
@@ -103,7 +96,7 @@ fn stmt(
                 return no_arm_fits(alloc, around, draft, *pos, after);
             };
             stmts(alloc, around, draft, other.as_slice())?;
-            draft.end(alloc, FlatExit::Jump(after), after)
+            draft.body.end(alloc, FlatExit::Jump(after), after)
         }
         _ => without_stmts(alloc, around, draft, s),
     }
@@ -123,7 +116,7 @@ fn without_stmts(
         StmtCore::Return(e) => leave_body(alloc, around, draft, e),
         StmtCore::Raise(e, pos) => raise(alloc, around, draft, e, *pos),
         StmtCore::Yield(e) => yield_value(alloc, around, draft, e),
-        StmtCore::Quit => quit(alloc, draft),
+        StmtCore::Quit => quit(alloc, &around.inside, &mut draft.body),
         StmtCore::Stop(kind, pos) => stop(alloc, around, draft, *kind, *pos),
         _ => Err(holds_stmts()),
     }

@@ -4,7 +4,8 @@
 use crate::around::{Around, is_at_or_below, is_immutable, var_type};
 use crate::stmts::stmts;
 use sa_core::ArmCore;
-use sa_flat::{Draft, FlatExit, FlatStep};
+use sa_flat::{FlatExit, FlatStep};
+use sa_lower_draft::{Draft, Inside, OpenBody};
 use sa_tree::{FaultKind, NoMemory, Pos};
 use std::alloc::Global;
 
@@ -18,12 +19,11 @@ pub(crate) fn typecase_arms(
     var: u32,
     arms: &[ArmCore],
 ) -> Result<Option<u32>, NoMemory> {
-    draft.statement(false);
     let ty = var_type(around, var)?;
     if is_immutable(around.core, ty)? {
         return known_arm(alloc, around, draft, var, ty, arms);
     }
-    let after = draft.block(alloc)?;
+    let after = draft.body.block(alloc)?;
     tested_arms(alloc, around, draft, var, arms, after)?;
     Ok(Some(after))
 }
@@ -40,15 +40,12 @@ fn known_arm(
 ) -> Result<Option<u32>, NoMemory> {
     for arm in arms {
         if is_at_or_below(around.core, ty, arm.ty)? {
-            draft.step(FlatStep::Move {
-                to: arm.var,
-                from: var,
-            })?;
+            draft.body.move_to(arm.var, var)?;
             stmts(alloc, around, draft, arm.body.as_slice())?;
             return Ok(None);
         }
     }
-    Ok(Some(draft.block(alloc)?))
+    Ok(Some(draft.body.block(alloc)?))
 }
 
 /// The arms in order, each with the test of its type.
@@ -77,50 +74,53 @@ fn tested_arm(
     arm: &ArmCore,
     after: u32,
 ) -> Result<(), NoMemory> {
-    let next = arm_test(alloc, draft, var, arm.ty)?;
-    take_arm(around, draft, var, arm)?;
+    let next = arm_test(alloc, &around.inside, &mut draft.body, var, arm.ty)?;
+    take_arm(around, &mut draft.body, var, arm)?;
     stmts(alloc, around, draft, arm.body.as_slice())?;
-    draft.end(alloc, FlatExit::Jump(after), next)
+    draft.body.end(alloc, FlatExit::Jump(after), next)
 }
 
 /// Tests the class of a variable's value. The block where it fits is open then; the answer is the one where it doesn't.
-fn arm_test(alloc: Global, draft: &mut Draft, var: u32, ty: u32) -> Result<u32, NoMemory> {
-    draft.statement(false);
-    let test = draft.temporary()?;
-    draft.step(FlatStep::TypeIs {
+fn arm_test(
+    alloc: Global,
+    inside: &Inside,
+    body: &mut OpenBody,
+    var: u32,
+    ty: u32,
+) -> Result<u32, NoMemory> {
+    body.statement(inside);
+    let test = body.temporary()?;
+    body.step(FlatStep::TypeIs {
         to: test,
         from: var,
         ty,
     })?;
-    let body = draft.block(alloc)?;
-    let next = draft.block(alloc)?;
+    let fits = body.block(alloc)?;
+    let next = body.block(alloc)?;
     let branch = FlatExit::Branch {
         test,
-        yes: body,
+        yes: fits,
         no: next,
     };
-    draft.end(alloc, branch, body)?;
+    body.end(alloc, branch, fits)?;
     Ok(next)
 }
 
 /// The tested value into the variable of an arm.
 fn take_arm(
     around: &Around<'_>,
-    draft: &mut Draft,
+    body: &mut OpenBody,
     var: u32,
     arm: &ArmCore,
 ) -> Result<(), NoMemory> {
     if is_immutable(around.core, arm.ty)? {
-        return draft.step(FlatStep::Unwrap {
+        return body.step(FlatStep::Unwrap {
             to: arm.var,
             from: var,
             ty: arm.ty,
         });
     }
-    draft.step(FlatStep::Move {
-        to: arm.var,
-        from: var,
-    })
+    body.move_to(arm.var, var)
 }
 
 /// A typecase without `else`: where no arm fits it is a fault.
@@ -131,10 +131,10 @@ pub(crate) fn no_arm_fits(
     pos: Pos,
     after: u32,
 ) -> Result<(), NoMemory> {
-    let fail = draft.fail(pos, around.ends.raised)?;
+    let fail = draft.tables.fail(pos, around.inside.raised)?;
     let exit = FlatExit::Stop {
         kind: FaultKind::NoBranch.number(),
         fail,
     };
-    draft.end(alloc, exit, after)
+    draft.body.end(alloc, exit, after)
 }

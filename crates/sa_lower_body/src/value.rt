@@ -2,8 +2,8 @@
 
 use crate::around::Around;
 use sa_core::ExprCore;
-use sa_flat::Draft;
-use sa_lower_expr::{Inside, place_expr, writes};
+use sa_lower_draft::Draft;
+use sa_lower_expr::{Owner, place_expr};
 use sa_tree::{NoMemory, held};
 use std::alloc::Global;
 
@@ -15,10 +15,8 @@ pub(crate) fn evaluated(
     draft: &mut Draft,
     e: &ExprCore,
 ) -> Result<Option<u32>, NoMemory> {
-    draft.statement(writes(e));
-    let inside = Inside::Feature(around.feature);
-    let placed = place_expr(alloc, around.core, inside, e, draft, around.ends)?;
-    Ok(placed.value)
+    let owner = Owner::Feature(around.feature);
+    place_expr(alloc, around.core, owner, &around.inside, draft, e)
 }
 
 /// The same of an expression that has a value.

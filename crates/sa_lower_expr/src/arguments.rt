@@ -5,7 +5,7 @@ use crate::expr::operand;
 use crate::passing::{Passed, none_passed, pass_open, pass_value, pass_variable};
 use crate::reached::Reached;
 use sa_core::ArgCore;
-use sa_flat::Draft;
+use sa_lower_draft::Draft;
 use sa_tree::{Mode, NoMemory};
 use sqlite_items::Items;
 use std::alloc::Global;
@@ -21,9 +21,12 @@ pub(crate) fn arguments(
     args: &[ArgCore],
     before: &[Option<u32>],
 ) -> Result<Passed, NoMemory> {
-    let mut passed = none_passed(alloc, around, draft, reached, args)?;
+    let mut passed = none_passed(alloc, around, &draft.tables, reached, args)?;
     for arg in args {
-        argument(alloc, around, draft, reached, arg, before, &mut passed)?;
+        match evaluated_before(before, &passed) {
+            Some(value) => pass_value(&mut passed, Mode::Once, value)?,
+            None => argument(alloc, around, draft, reached, arg, &mut passed)?,
+        }
     }
     Ok(passed)
 }
@@ -36,12 +39,8 @@ fn argument(
     draft: &mut Draft,
     reached: Reached,
     arg: &ArgCore,
-    before: &[Option<u32>],
     passed: &mut Passed,
 ) -> Result<(), NoMemory> {
-    if let Some(value) = evaluated_before(before, passed) {
-        return pass_value(passed, Mode::Once, value);
-    }
     match arg {
         ArgCore::Value(mode, e) => {
             let value = operand(alloc, around, draft, e)?;

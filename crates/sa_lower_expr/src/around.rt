@@ -1,12 +1,12 @@
 //! What is around an expression, and what its program says of types, features and signatures by their numbers.
 
 use sa_core::{CalledCore, Core, FeatureCore, SigCore, TypeInfo};
-use sa_flat::Ends;
+use sa_lower_draft::Inside;
 use sa_tree::{Kind, NoMemory, held};
 
-/// What an expression stands in.
+/// What a statement stands in.
 #[derive(Clone, Copy, Debug, PartialEq, Eq)]
-pub enum Inside {
+pub enum Owner {
     /// A feature, by its number.
     Feature(u32),
     /// The initialiser of a shared, of the class with this number.
@@ -17,15 +17,28 @@ pub enum Inside {
 #[derive(Clone, Copy)]
 pub(crate) struct Around<'a> {
     pub core: &'a Core,
-    pub inside: Inside,
-    pub ends: &'a Ends,
+    /// What its statement stands in.
+    pub owner: Owner,
+    /// What is around its statement.
+    pub inside: &'a Inside,
+    /// What the calls of its statement do with variables.
+    pub variables: Variables,
+}
+
+/// What the calls of a statement do with the variables of its feature.
+#[derive(Clone, Copy, Debug, PartialEq, Eq)]
+pub(crate) enum Variables {
+    /// They write none, so that each has one value wherever it stands in the statement.
+    Kept,
+    /// They write some, so that one that is an operand is copied before the operands behind it are evaluated.
+    Written,
 }
 
 /// The number of the feature around. An initialiser has none.
 pub(crate) fn own_feature(around: &Around<'_>) -> Result<u32, NoMemory> {
-    match around.inside {
-        Inside::Feature(feature) => Ok(feature),
-        Inside::Initialiser(_) => held(None),
+    match around.owner {
+        Owner::Feature(feature) => Ok(feature),
+        Owner::Initialiser(_) => held(None),
     }
 }
 

@@ -3,14 +3,14 @@
 //! call of the bound value finds it as it has to be.
 
 use crate::around::{Around, kind_of, signature_at};
-use crate::call::plan_of;
+use crate::call::{Invocation, plan_of};
 use crate::passing::Passed;
 use crate::reached::{Reached, parameter_type};
 use crate::taken::takes_abstract;
-use sa_bound::place_bound;
 use sa_core::{Core, ImplCore, SigCore};
-use sa_flat::{BoundPiece, Draft, Fail, FlatArg, FlatStep};
-use sa_tree::{Kind, NoMemory, Pos};
+use sa_flat::{Fail, FlatArg, FlatStep};
+use sa_lower_draft::{Draft, OpenBody};
+use sa_tree::{Kind, NoMemory};
 use sqlite_items::Items;
 use std::alloc::Global;
 
@@ -19,16 +19,14 @@ pub(crate) fn bind(
     alloc: Global,
     around: &Around<'_>,
     draft: &mut Draft,
-    reached: Reached,
-    recv: u32,
+    invocation: Invocation,
     passed: Passed,
     ty: u32,
-    pos: Pos,
 ) -> Result<u32, NoMemory> {
-    let args = kept(alloc, around, draft, reached, recv, passed.args, pos)?;
-    let value = draft.temporary()?;
-    let plan = plan_of(around, draft, reached, recv, args, Some(value), pos)?;
-    place_bound(alloc, draft, &BoundPiece::Bind { plan, ty })?;
+    let args = kept(alloc, around, draft, invocation, passed.args)?;
+    let value = draft.body.temporary()?;
+    let plan = plan_of(around, &draft.tables, invocation, args, Some(value))?;
+    draft.bind(alloc, plan, ty)?;
     Ok(value)
 }
 
@@ -37,19 +35,17 @@ fn kept(
     alloc: Global,
     around: &Around<'_>,
     draft: &mut Draft,
-    reached: Reached,
-    recv: u32,
+    invocation: Invocation,
     args: Items<FlatArg>,
-    pos: Pos,
 ) -> Result<Items<FlatArg>, NoMemory> {
-    let Reached::Dispatch(signature) = reached else {
+    let Reached::Dispatch(signature) = invocation.reached else {
         return Ok(args);
     };
     let chosen = Chosen {
         core: around.core,
         signature: signature_at(around.core, signature)?,
-        recv,
-        fail: draft.fail(pos, around.ends.raised)?,
+        recv: invocation.recv,
+        fail: draft.tables.fail(invocation.pos, around.inside.raised)?,
     };
     kept_for(alloc, draft, chosen, args.as_slice())
 }
@@ -92,7 +88,7 @@ fn kept_value(
     let Some(from) = given else {
         return Ok(None);
     };
-    let ty = parameter_type(draft, chosen.signature, place)?;
+    let ty = parameter_type(&draft.tables, chosen.signature, place)?;
     if kind_of(chosen.core, ty)? != Kind::Immutable {
         return Ok(given);
     }
@@ -100,7 +96,7 @@ fn kept_value(
     if types.is_empty() {
         return Ok(given);
     }
-    Ok(Some(widened_for(draft, chosen, from, ty, types)?))
+    Ok(Some(widened_for(&mut draft.body, chosen, from, ty, types)?))
 }
 
 /// The types, rising, whose implementations take the argument at this place at an abstract type.
@@ -121,14 +117,14 @@ fn takers(
 
 /// A value of the immutable class `ty`, widened where the receiver is of one of the types.
 fn widened_for(
-    draft: &mut Draft,
+    body: &mut OpenBody,
     chosen: Chosen<'_>,
     from: u32,
     ty: u32,
     types: Items<u32>,
 ) -> Result<u32, NoMemory> {
-    let to = draft.temporary()?;
-    draft.step(FlatStep::WidenFor {
+    let to = body.temporary()?;
+    body.step(FlatStep::WidenFor {
         to,
         from,
         ty,

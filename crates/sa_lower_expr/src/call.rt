@@ -4,9 +4,9 @@ use crate::around::{Around, feature_at, kind_of, signature_at};
 use crate::copies::copy_back;
 use crate::passing::{Passed, pass_value};
 use crate::reached::{Reached, bound_result};
-use sa_bound::place_bound;
 use sa_core::{Core, Target};
-use sa_flat::{BoundPiece, CallPlan, Callee, Draft, FlatArg, FlatStep};
+use sa_flat::{CallPlan, Callee, FlatArg, FlatStep};
+use sa_lower_draft::{Draft, OpenBody, Tables};
 use sa_prelude::BuiltinFeature;
 use sa_tree::{Kind, Mode, NoMemory, Pos, held};
 use sqlite_items::Items;
@@ -18,36 +18,47 @@ const INT: u32 = 4;
 /// The number of the class CHAR.
 const CHAR: u32 = 5;
 
-/// A call on a receiver, with the copies back behind it. It has no variable where the callee gives no result.
+/// What is called, the variable that holds its receiver, and the position of the call.
+#[derive(Clone, Copy)]
+pub(crate) struct Invocation {
+    pub reached: Reached,
+    pub recv: u32,
+    pub pos: Pos,
+}
+
+impl Invocation {
+    /// What is called, on the receiver in this variable, at this position.
+    pub fn on(reached: Reached, recv: u32, pos: Pos) -> Invocation {
+        Invocation { reached, recv, pos }
+    }
+}
+
+/// A call with the copies back behind it. It has no variable where the callee gives no result.
 pub(crate) fn call(
-    alloc: Global,
     around: &Around<'_>,
     draft: &mut Draft,
-    reached: Reached,
-    recv: u32,
+    invocation: Invocation,
     passed: Passed,
-    pos: Pos,
 ) -> Result<Option<u32>, NoMemory> {
-    let value = value_of_call(around.core, draft, reached)?;
-    let plan = plan_of(around, draft, reached, recv, passed.args, value, pos)?;
+    let value = value_of_call(around.core, &mut draft.body, invocation.reached)?;
+    let plan = plan_of(around, &draft.tables, invocation, passed.args, value)?;
     let fail = plan.fail;
-    add_call(alloc, draft, plan)?;
-    copy_back(draft, passed.copies.as_slice(), fail)?;
+    draft.body.step(FlatStep::Call { plan })?;
+    copy_back(&mut draft.body, passed.copies.as_slice(), fail)?;
     Ok(value)
 }
 
 /// What is called, with which variables, and where its faults and raises go.
 pub(crate) fn plan_of(
     around: &Around<'_>,
-    draft: &Draft,
-    reached: Reached,
-    recv: u32,
+    tables: &Tables,
+    invocation: Invocation,
     args: Items<FlatArg>,
     value: Option<u32>,
-    pos: Pos,
 ) -> Result<CallPlan, NoMemory> {
+    let Invocation { reached, recv, pos } = invocation;
     let class = class_of(around.core, reached)?;
-    let fail = draft.fail(pos, around.ends.raised)?;
+    let fail = tables.fail(pos, around.inside.raised)?;
     Ok(CallPlan {
         callee: callee(reached),
         class,
@@ -58,34 +69,19 @@ pub(crate) fn plan_of(
     })
 }
 
-/// The step of a call. That of a bound value is a piece of its own.
-fn add_call(alloc: Global, draft: &mut Draft, plan: CallPlan) -> Result<(), NoMemory> {
-    match plan.callee {
-        Callee::Bound => {
-            place_bound(alloc, draft, &BoundPiece::Call { plan })?;
-            Ok(())
-        }
-        _ => draft.step(FlatStep::Call { plan }),
-    }
-}
-
 /// A comparison whose receiver is its second operand.
 pub(crate) fn swapped(
-    alloc: Global,
-    around: &Around<'_>,
-    draft: &mut Draft,
+    core: &Core,
     target: Target,
-    first: u32,
     second: u32,
     pos: Pos,
-) -> Result<Option<u32>, NoMemory> {
-    let reached = Reached::Static(target, swapped_class(around.core, target)?);
-    let passed = one_passed(alloc, first)?;
-    call(alloc, around, draft, reached, second, passed, pos)
+) -> Result<Invocation, NoMemory> {
+    let reached = Reached::Static(target, swapped_class(core, target)?);
+    Ok(Invocation::on(reached, second, pos))
 }
 
 /// One value as the only argument.
-fn one_passed(alloc: Global, value: u32) -> Result<Passed, NoMemory> {
+pub(crate) fn one_passed(alloc: Global, value: u32) -> Result<Passed, NoMemory> {
     let mut passed = Passed::of_values(alloc);
     pass_value(&mut passed, Mode::In, value)?;
     Ok(passed)
@@ -141,13 +137,13 @@ fn class_of(core: &Core, reached: Reached) -> Result<u32, NoMemory> {
 /// A temporary for the result of a call, where there is one.
 pub(crate) fn value_of_call(
     core: &Core,
-    draft: &mut Draft,
+    body: &mut OpenBody,
     reached: Reached,
 ) -> Result<Option<u32>, NoMemory> {
     if !gives_value(core, reached)? {
         return Ok(None);
     }
-    Ok(Some(draft.temporary()?))
+    Ok(Some(body.temporary()?))
 }
 
 /// Whether a call gives a result.

@@ -1,7 +1,8 @@
 //! Copies back that are steps of their own behind a call.
 
 use crate::simple::widen;
-use sa_flat::{Draft, Fail, FlatStep};
+use sa_flat::Fail;
+use sa_lower_draft::OpenBody;
 use sa_tree::NoMemory;
 
 /// A copy back of what a call leaves in a temporary.
@@ -16,20 +17,20 @@ pub(crate) struct CopyBack {
 
 /// Makes the copies in their order. A widening that finds no room fails at the call.
 pub(crate) fn copy_back(
-    draft: &mut Draft,
+    body: &mut OpenBody,
     copies: &[CopyBack],
     fail: Fail,
 ) -> Result<(), NoMemory> {
     for copy in copies {
-        make_copy(draft, *copy, fail)?;
+        make_copy(body, *copy, fail)?;
     }
     Ok(())
 }
 
-fn make_copy(draft: &mut Draft, copy: CopyBack, fail: Fail) -> Result<(), NoMemory> {
+fn make_copy(body: &mut OpenBody, copy: CopyBack, fail: Fail) -> Result<(), NoMemory> {
     let CopyBack { to, from, widened } = copy;
     match widened {
-        Some(ty) => widen(draft, to, from, ty, fail),
-        None => draft.step(FlatStep::Move { to, from }),
+        Some(ty) => widen(body, to, from, ty, fail),
+        None => body.move_to(to, from),
     }
 }

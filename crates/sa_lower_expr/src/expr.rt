@@ -1,40 +1,41 @@
 //! An expression as steps and blocks: what stands inside it is placed first, from left to right.
 
 use crate::arguments::{arguments, once_arguments};
-use crate::around::{Around, Inside};
+use crate::around::{Around, Owner};
 use crate::binds::bind;
-use crate::call::{call, swapped};
+use crate::call::{Invocation, call, one_passed, swapped};
 use crate::logic::{and_left, joined, or_left};
 use crate::reached::reached_on;
 use crate::simple::{array, new_array, void_test, widened, without_parts};
 use crate::sites::{begin_others, begin_site, end_site};
+use crate::writing::variables_in;
 use sa_core::{Core, ExprCore};
-use sa_flat::{Draft, Ends, Placed};
+use sa_lower_draft::{Draft, Inside};
 use sa_tree::{NoMemory, held};
 use sqlite_items::Items;
 use std::alloc::Global;
 
-/// Places an expression at the end of the open block. It stands inside a feature or an initialiser, with these ends around
-/// it. The block that is open afterwards is the one in which its value is there; a call that gives no result has no value.
+/// Places the expression of a statement at the end of the open block, and gives the variable that holds its value; a call that
+/// gives no result has none. The statement stands in a feature or an initialiser, with this around it. What temporaries of
+/// statements held before isn't read any more. The block that is open afterwards is the one in which the value is there.
 ///
-/// The draft has to be told before whether the statement's calls write variables, and has to hold the loops around the place.
-/// The answer is NoMemory as well where a number of the tree is out of range.
+/// The answer is NoMemory as well where a number of the tree is out of range, or an iter call stands outside loops.
 pub fn place_expr(
     alloc: Global,
     core: &Core,
-    inside: Inside,
-    e: &ExprCore,
+    owner: Owner,
+    inside: &Inside,
     draft: &mut Draft,
-    ends: &Ends,
-) -> Result<Placed, NoMemory> {
-    let around = Around { core, inside, ends };
-    let first = draft.open();
-    let value = place(alloc, &around, draft, e)?;
-    Ok(Placed {
-        first,
-        last: draft.open(),
-        value,
-    })
+    e: &ExprCore,
+) -> Result<Option<u32>, NoMemory> {
+    let around = Around {
+        core,
+        owner,
+        inside,
+        variables: variables_in(e),
+    };
+    draft.body.statement(inside);
+    place(alloc, &around, draft, e)
 }
 
 /// Places an expression, and gives the variable that holds its value. A call without a result has none.
@@ -48,7 +49,7 @@ fn place(
     match e {
         ExprCore::IsVoid(of) => {
             let of = operand(alloc, around, draft, of.get())?;
-            some(void_test(draft, of))
+            some(void_test(&mut draft.body, of))
         }
         ExprCore::NewArray(ty, count, pos) => {
             let count = operand(alloc, around, draft, count.get())?;
@@ -65,19 +66,20 @@ fn place(
         ExprCore::Swapped(target, first, second, pos) => {
             let first = operand(alloc, around, draft, first.get())?;
             let second = operand(alloc, around, draft, second.get())?;
-            swapped(alloc, around, draft, *target, first, second, *pos)
+            let invocation = swapped(around.core, *target, second, *pos)?;
+            call(around, draft, invocation, one_passed(alloc, first)?)
         }
         ExprCore::And(left, right) => {
             let left = operand(alloc, around, draft, left.get())?;
-            let joint = and_left(alloc, draft, left)?;
+            let joint = and_left(alloc, &mut draft.body, left)?;
             let right = operand(alloc, around, draft, right.get())?;
-            some(joined(alloc, draft, joint, right, false))
+            some(joined(alloc, &mut draft.body, joint, right, false))
         }
         ExprCore::Or(left, right) => {
             let left = operand(alloc, around, draft, left.get())?;
-            let joint = or_left(alloc, draft, left)?;
+            let joint = or_left(alloc, &mut draft.body, left)?;
             let right = operand(alloc, around, draft, right.get())?;
-            some(joined(alloc, draft, joint, right, true))
+            some(joined(alloc, &mut draft.body, joint, right, true))
         }
         _ => place_call(alloc, around, draft, e),
     }
@@ -93,25 +95,27 @@ fn place_call(
 ) -> Result<Option<u32>, NoMemory> {
     match e {
         ExprCore::Call(called, on, args, pos) => {
-            let reached = reached_on(around, draft, *called, on.get())?;
+            let reached = reached_on(around, &draft.tables, *called, on.get())?;
             let recv = operand(alloc, around, draft, on.get())?;
             let args = arguments(alloc, around, draft, reached, args.as_slice(), &[])?;
-            call(alloc, around, draft, reached, recv, args, *pos)
+            call(around, draft, Invocation::on(reached, recv, *pos), args)
         }
         ExprCore::IterCall(number, on, args, pos) => {
             let site = begin_site(alloc, around, draft, *number, on.get(), args.as_slice())?;
             let recv = operand(alloc, around, draft, on.get())?;
             let once = once_arguments(alloc, around, draft, args.as_slice())?;
-            begin_others(alloc, draft, site)?;
+            begin_others(alloc, &mut draft.body, site)?;
             let (args, once) = (args.as_slice(), once.as_slice());
             let args = arguments(alloc, around, draft, site.reached, args, once)?;
-            end_site(alloc, around, draft, site, recv, args, *pos)
+            let invocation = Invocation::on(site.reached, recv, *pos);
+            end_site(alloc, around, draft, site, invocation, args)
         }
         ExprCore::Bind(called, on, args, ty, pos) => {
-            let reached = reached_on(around, draft, *called, on.get())?;
+            let reached = reached_on(around, &draft.tables, *called, on.get())?;
             let recv = operand(alloc, around, draft, on.get())?;
             let args = arguments(alloc, around, draft, reached, args.as_slice(), &[])?;
-            some(bind(alloc, around, draft, reached, recv, args, *ty, *pos))
+            let invocation = Invocation::on(reached, recv, *pos);
+            some(bind(alloc, around, draft, invocation, args, *ty))
         }
         _ => some(without_parts(alloc, around, draft, e)),
     }

@@ -15,7 +15,6 @@ mod sites;
 mod taken;
 mod writing;
 
-pub use around::Inside;
+pub use around::Owner;
 pub use expr::place_expr;
 pub use taken::takes_abstract;
-pub use writing::writes;

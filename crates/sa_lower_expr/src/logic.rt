@@ -1,6 +1,7 @@
 //! `and` and `or`: the right operand is evaluated only where the left one doesn't decide.
 
-use sa_flat::{Draft, FlatConst, FlatExit, FlatStep};
+use sa_flat::{FlatConst, FlatExit, FlatStep};
+use sa_lower_draft::OpenBody;
 use sa_tree::NoMemory;
 use std::alloc::Global;
 
@@ -12,54 +13,54 @@ pub(crate) struct Joint {
 }
 
 /// Opens the block in which the right operand of `and` is evaluated.
-pub(crate) fn and_left(alloc: Global, draft: &mut Draft, left: u32) -> Result<Joint, NoMemory> {
-    let joint = new_joint(alloc, draft)?;
-    let right = draft.block(alloc)?;
+pub(crate) fn and_left(alloc: Global, body: &mut OpenBody, left: u32) -> Result<Joint, NoMemory> {
+    let joint = new_joint(alloc, body)?;
+    let right = body.block(alloc)?;
     let branch = FlatExit::Branch {
         test: left,
         yes: right,
         no: joint.decided,
     };
-    draft.end(alloc, branch, right)?;
+    body.end(alloc, branch, right)?;
     Ok(joint)
 }
 
 /// Opens the block in which the right operand of `or` is evaluated.
-pub(crate) fn or_left(alloc: Global, draft: &mut Draft, left: u32) -> Result<Joint, NoMemory> {
-    let joint = new_joint(alloc, draft)?;
-    let right = draft.block(alloc)?;
+pub(crate) fn or_left(alloc: Global, body: &mut OpenBody, left: u32) -> Result<Joint, NoMemory> {
+    let joint = new_joint(alloc, body)?;
+    let right = body.block(alloc)?;
     let branch = FlatExit::Branch {
         test: left,
         yes: joint.decided,
         no: right,
     };
-    draft.end(alloc, branch, right)?;
+    body.end(alloc, branch, right)?;
     Ok(joint)
 }
 
-fn new_joint(alloc: Global, draft: &mut Draft) -> Result<Joint, NoMemory> {
+fn new_joint(alloc: Global, body: &mut OpenBody) -> Result<Joint, NoMemory> {
     Ok(Joint {
-        to: draft.temporary()?,
-        decided: draft.block(alloc)?,
+        to: body.temporary()?,
+        decided: body.block(alloc)?,
     })
 }
 
 /// Joins the two ways to the value: the right operand, or `decided` where the left one was enough.
 pub(crate) fn joined(
     alloc: Global,
-    draft: &mut Draft,
+    body: &mut OpenBody,
     joint: Joint,
     right: u32,
     decided: bool,
 ) -> Result<u32, NoMemory> {
     let to = joint.to;
-    let behind = draft.block(alloc)?;
-    draft.step(FlatStep::Move { to, from: right })?;
-    draft.end(alloc, FlatExit::Jump(behind), joint.decided)?;
-    draft.step(FlatStep::Const {
+    let behind = body.block(alloc)?;
+    body.move_to(to, right)?;
+    body.end(alloc, FlatExit::Jump(behind), joint.decided)?;
+    body.step(FlatStep::Const {
         to,
         value: FlatConst::Bool(decided),
     })?;
-    draft.end(alloc, FlatExit::Jump(behind), behind)?;
+    body.end(alloc, FlatExit::Jump(behind), behind)?;
     Ok(to)
 }

@@ -6,13 +6,14 @@
 //!
 //! From the first such argument on each written one is passed in a temporary, so that copies back stay in their order.
 
-use crate::around::{Around, kind_of};
+use crate::around::{Around, Variables, kind_of};
 use crate::copies::CopyBack;
 use crate::reached::{Reached, formal_type, own_type};
 use crate::simple::copied;
 use crate::writing::written_up_to;
 use sa_core::ArgCore;
-use sa_flat::{Draft, FlatArg};
+use sa_flat::FlatArg;
+use sa_lower_draft::{Draft, OpenBody, Tables};
 use sa_tree::{Kind, Mode, NoMemory};
 use sqlite_items::Items;
 use std::alloc::Global;
@@ -42,30 +43,30 @@ impl Passed {
 pub(crate) fn none_passed(
     alloc: Global,
     around: &Around<'_>,
-    draft: &Draft,
+    tables: &Tables,
     reached: Reached,
     args: &[ArgCore],
 ) -> Result<Passed, NoMemory> {
     Ok(Passed {
         args: Items::new(alloc),
         copies: Items::new(alloc),
-        temporaries_from: temporaries_from(around, draft, reached, args)?,
+        temporaries_from: temporaries_from(around, tables, reached, args)?,
     })
 }
 
 /// The place of the first argument from which on the written ones are passed in temporaries, or the number of arguments.
 fn temporaries_from(
     around: &Around<'_>,
-    draft: &Draft,
+    tables: &Tables,
     reached: Reached,
     args: &[ArgCore],
 ) -> Result<usize, NoMemory> {
-    if !draft.writes() {
+    if around.variables == Variables::Kept {
         return Ok(args.len());
     }
     let written = written_up_to(args);
     for (place, arg) in args.iter().enumerate() {
-        if needs_temporary(around, draft, reached, place, arg, written)? {
+        if needs_temporary(around, tables, reached, place, arg, written)? {
             return Ok(place);
         }
     }
@@ -76,7 +77,7 @@ fn temporaries_from(
 /// writes variables.
 fn needs_temporary(
     around: &Around<'_>,
-    draft: &Draft,
+    tables: &Tables,
     reached: Reached,
     place: usize,
     arg: &ArgCore,
@@ -84,7 +85,7 @@ fn needs_temporary(
 ) -> Result<bool, NoMemory> {
     match arg {
         ArgCore::Variable(Mode::Out, var) => {
-            Ok(widening(around, draft, reached, place, *var)?.is_some())
+            Ok(widening(around, tables, reached, place, *var)?.is_some())
         }
         ArgCore::Variable(_, _) => Ok(place < written),
         ArgCore::Value(_, _) => Ok(false),
@@ -95,7 +96,7 @@ fn needs_temporary(
 /// The number of the immutable type from which what an `out` argument gives is widened into its variable, if it is.
 fn widening(
     around: &Around<'_>,
-    draft: &Draft,
+    tables: &Tables,
     reached: Reached,
     place: usize,
     var: u32,
@@ -105,7 +106,7 @@ fn widening(
     if kind_of(core, own)? != Kind::Abstract {
         return Ok(None);
     }
-    let Some(ty) = formal_type(core, draft, reached, place)? else {
+    let Some(ty) = formal_type(core, tables, reached, place)? else {
         return Ok(None);
     };
     if kind_of(core, ty)? != Kind::Immutable {
@@ -147,7 +148,7 @@ pub(crate) fn pass_variable(
     }
     let copy = match mode {
         Mode::Out => out_copy(around, draft, reached, place, var)?,
-        _ => inout_copy(draft, var)?,
+        _ => inout_copy(&mut draft.body, var)?,
     };
     passed.copies.push(copy)?;
     pass_value(passed, mode, copy.from)
@@ -161,19 +162,19 @@ fn out_copy(
     place: usize,
     var: u32,
 ) -> Result<CopyBack, NoMemory> {
-    let widened = widening(around, draft, reached, place, var)?;
+    let widened = widening(around, &draft.tables, reached, place, var)?;
     Ok(CopyBack {
         to: var,
-        from: draft.temporary()?,
+        from: draft.body.temporary()?,
         widened,
     })
 }
 
 /// An `inout` argument in a temporary, with the value that the variable has at this place.
-fn inout_copy(draft: &mut Draft, var: u32) -> Result<CopyBack, NoMemory> {
+fn inout_copy(body: &mut OpenBody, var: u32) -> Result<CopyBack, NoMemory> {
     Ok(CopyBack {
         to: var,
-        from: copied(draft, var)?,
+        from: copied(body, var)?,
         widened: None,
     })
 }

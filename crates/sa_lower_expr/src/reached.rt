@@ -6,7 +6,7 @@ use crate::around::{
     site_called, type_at, var_type,
 };
 use sa_core::{CalledCore, Core, ExprCore, SigCore, Target};
-use sa_flat::Draft;
+use sa_lower_draft::Tables;
 use sa_prelude::BuiltinFeature;
 use sa_tree::{ModeTy, NoMemory, Ty, held};
 use sqlite_items::Boxed;
@@ -25,29 +25,29 @@ pub(crate) enum Reached {
 /// What a call on this receiver reaches.
 pub(crate) fn reached_on(
     around: &Around<'_>,
-    draft: &Draft,
+    tables: &Tables,
     called: CalledCore,
     on: &ExprCore,
 ) -> Result<Reached, NoMemory> {
     match called {
         CalledCore::Static(target, class) => Ok(Reached::Static(target, class)),
         CalledCore::Dispatch(signature) => Ok(Reached::Dispatch(signature)),
-        CalledCore::Bound => Ok(Reached::Bound(type_of(around, draft, on)?)),
+        CalledCore::Bound => Ok(Reached::Bound(type_of(around, tables, on)?)),
     }
 }
 
 /// The number of the type of an expression that can have a bound type.
 #[cycle(type_of)]
-fn type_of(around: &Around<'_>, draft: &Draft, e: &ExprCore) -> Result<u32, NoMemory> {
+fn type_of(around: &Around<'_>, tables: &Tables, e: &ExprCore) -> Result<u32, NoMemory> {
     match e {
         ExprCore::VoidOf(ty) => Ok(*ty),
         ExprCore::Bind(_, _, _, ty, _) => Ok(*ty),
         ExprCore::Var(var) => own_type(around, *var),
-        ExprCore::Exception => Ok(around.ends.exception_ty),
-        ExprCore::Call(called, on, _, _) => result_type(around, draft, *called, on.get()),
+        ExprCore::Exception => exception_type(around),
+        ExprCore::Call(called, on, _, _) => result_type(around, tables, *called, on.get()),
         ExprCore::IterCall(site, on, _, _) => {
             let called = own_site(around, *site)?;
-            result_type(around, draft, called, on.get())
+            result_type(around, tables, called, on.get())
         }
         _ => held(None),
     }
@@ -57,18 +57,24 @@ fn type_of(around: &Around<'_>, draft: &Draft, e: &ExprCore) -> Result<u32, NoMe
 #[cycle(type_of)]
 fn result_type(
     around: &Around<'_>,
-    draft: &Draft,
+    tables: &Tables,
     called: CalledCore,
     on: &ExprCore,
 ) -> Result<u32, NoMemory> {
     match called {
         CalledCore::Static(target, class) => target_type(around.core, target, class),
-        CalledCore::Dispatch(signature) => signature_type(around.core, draft, signature),
+        CalledCore::Dispatch(signature) => signature_type(around.core, tables, signature),
         CalledCore::Bound => {
-            let bound = type_of(around, draft, on)?;
-            bound_result_type(around.core, draft, bound)
+            let bound = type_of(around, tables, on)?;
+            bound_result_type(around.core, tables, bound)
         }
     }
+}
+
+/// The number of the type of the exception of the branch around.
+fn exception_type(around: &Around<'_>) -> Result<u32, NoMemory> {
+    let exception = held(around.inside.exception)?;
+    Ok(exception.ty)
 }
 
 /// The number of the type of a variable of the feature around.
@@ -104,18 +110,18 @@ fn builtin_type(core: &Core, number: u8, class: u32) -> Result<u32, NoMemory> {
 }
 
 /// The number of the type of what the implementations of a signature give.
-fn signature_type(core: &Core, draft: &Draft, signature: u32) -> Result<u32, NoMemory> {
+fn signature_type(core: &Core, tables: &Tables, signature: u32) -> Result<u32, NoMemory> {
     let signature = signature_at(core, signature)?;
     match &signature.sig.result {
-        Some(ty) => draft.type_number(ty),
+        Some(ty) => tables.type_number(ty),
         None => held(None),
     }
 }
 
 /// The number of the type of what a bound value of this type gives.
-fn bound_result_type(core: &Core, draft: &Draft, bound: u32) -> Result<u32, NoMemory> {
+fn bound_result_type(core: &Core, tables: &Tables, bound: u32) -> Result<u32, NoMemory> {
     match bound_result(core, bound)? {
-        Some(ty) => draft.type_number(ty.get()),
+        Some(ty) => tables.type_number(ty.get()),
         None => held(None),
     }
 }
@@ -143,7 +149,7 @@ fn bound_parameters(core: &Core, bound: u32) -> Result<&[ModeTy], NoMemory> {
 /// The number of the type of a parameter, by its place. None where the call writes no arguments.
 pub(crate) fn formal_type(
     core: &Core,
-    draft: &Draft,
+    tables: &Tables,
     reached: Reached,
     place: usize,
 ) -> Result<Option<u32>, NoMemory> {
@@ -152,30 +158,30 @@ pub(crate) fn formal_type(
         Reached::Static(_, _) => Ok(None),
         Reached::Dispatch(signature) => {
             let signature = signature_at(core, signature)?;
-            Ok(Some(parameter_type(draft, signature, place)?))
+            Ok(Some(parameter_type(tables, signature, place)?))
         }
-        Reached::Bound(ty) => Ok(Some(bound_parameter_type(core, draft, ty, place)?)),
+        Reached::Bound(ty) => Ok(Some(bound_parameter_type(core, tables, ty, place)?)),
     }
 }
 
 /// The number of the type of a parameter of a signature.
 pub(crate) fn parameter_type(
-    draft: &Draft,
+    tables: &Tables,
     signature: &SigCore,
     place: usize,
 ) -> Result<u32, NoMemory> {
     let parameter = held(signature.sig.args.get(place))?;
-    draft.type_number(&parameter.ty)
+    tables.type_number(&parameter.ty)
 }
 
 /// The number of the type of a parameter of a bound type.
 fn bound_parameter_type(
     core: &Core,
-    draft: &Draft,
+    tables: &Tables,
     bound: u32,
     place: usize,
 ) -> Result<u32, NoMemory> {
     let parameters = bound_parameters(core, bound)?;
     let parameter = held(parameters.get(place))?;
-    draft.type_number(&parameter.ty)
+    tables.type_number(&parameter.ty)
 }

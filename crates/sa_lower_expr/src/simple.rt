@@ -1,8 +1,9 @@
 //! The forms of one step on operands that are in variables already, and array literals.
 
-use crate::around::{Around, Inside};
+use crate::around::{Around, Owner, Variables};
 use sa_core::ExprCore;
-use sa_flat::{Draft, Fail, FlatConst, FlatStep};
+use sa_flat::{Fail, FlatConst, FlatStep};
+use sa_lower_draft::{Draft, OpenBody};
 use sa_tree::{Name, NoMemory, Pos, held};
 use std::alloc::Global;
 
@@ -14,74 +15,80 @@ pub(crate) fn without_parts(
     e: &ExprCore,
 ) -> Result<u32, NoMemory> {
     match e {
-        ExprCore::Int(value) => constant(draft, FlatConst::Int(*value)),
-        ExprCore::Bool(value) => constant(draft, FlatConst::Bool(*value)),
-        ExprCore::Char(value) => constant(draft, FlatConst::Char(*value)),
-        ExprCore::VoidOf(ty) => constant(draft, FlatConst::Void(*ty)),
+        ExprCore::Int(value) => constant(&mut draft.body, FlatConst::Int(*value)),
+        ExprCore::Bool(value) => constant(&mut draft.body, FlatConst::Bool(*value)),
+        ExprCore::Char(value) => constant(&mut draft.body, FlatConst::Char(*value)),
+        ExprCore::VoidOf(ty) => constant(&mut draft.body, FlatConst::Void(*ty)),
         ExprCore::Text(value) => text(alloc, draft, value),
-        ExprCore::Me => me(around, draft),
-        ExprCore::Var(var) => variable(draft, *var),
-        ExprCore::Exception => held(around.ends.exception),
+        ExprCore::Me => me(around, &mut draft.body),
+        ExprCore::Var(var) => variable(around, &mut draft.body, *var),
+        ExprCore::Exception => exception(around),
         ExprCore::New(ty, pos) => new_object(around, draft, *ty, *pos),
         _ => held(None),
     }
 }
 
 /// A constant.
-pub(crate) fn constant(draft: &mut Draft, value: FlatConst) -> Result<u32, NoMemory> {
-    let to = draft.temporary()?;
-    draft.step(FlatStep::Const { to, value })?;
+pub(crate) fn constant(body: &mut OpenBody, value: FlatConst) -> Result<u32, NoMemory> {
+    let to = body.temporary()?;
+    body.step(FlatStep::Const { to, value })?;
     Ok(to)
 }
 
 /// A text.
 fn text(alloc: Global, draft: &mut Draft, text: &Name) -> Result<u32, NoMemory> {
-    let number = draft.text(alloc, text)?;
-    constant(draft, FlatConst::Text(number))
+    let number = draft.tables.text(alloc, text)?;
+    constant(&mut draft.body, FlatConst::Text(number))
 }
 
 /// `self`, which in an initialiser is the void value of the class.
-fn me(around: &Around<'_>, draft: &mut Draft) -> Result<u32, NoMemory> {
-    match around.inside {
-        Inside::Feature(_) => own_object(draft),
-        Inside::Initialiser(class) => constant(draft, FlatConst::Void(class)),
+fn me(around: &Around<'_>, body: &mut OpenBody) -> Result<u32, NoMemory> {
+    match around.owner {
+        Owner::Feature(_) => own_object(body),
+        Owner::Initialiser(class) => constant(body, FlatConst::Void(class)),
     }
 }
 
 /// The own object of the body.
-fn own_object(draft: &mut Draft) -> Result<u32, NoMemory> {
-    let to = draft.temporary()?;
-    draft.step(FlatStep::Me { to })?;
+fn own_object(body: &mut OpenBody) -> Result<u32, NoMemory> {
+    let to = body.temporary()?;
+    body.step(FlatStep::Me { to })?;
     Ok(to)
 }
 
 /// A variable of the feature: itself, or its value at this place where a call behind it may write it.
-fn variable(draft: &mut Draft, var: u32) -> Result<u32, NoMemory> {
-    if draft.writes() {
-        return copied(draft, var);
+fn variable(around: &Around<'_>, body: &mut OpenBody, var: u32) -> Result<u32, NoMemory> {
+    match around.variables {
+        Variables::Kept => Ok(var),
+        Variables::Written => copied(body, var),
     }
-    Ok(var)
 }
 
 /// The value that a variable has at this place.
-pub(crate) fn copied(draft: &mut Draft, var: u32) -> Result<u32, NoMemory> {
-    let to = draft.temporary()?;
-    draft.step(FlatStep::Move { to, from: var })?;
+pub(crate) fn copied(body: &mut OpenBody, var: u32) -> Result<u32, NoMemory> {
+    let to = body.temporary()?;
+    body.move_to(to, var)?;
     Ok(to)
 }
 
+/// The variable of the exception of the branch around.
+fn exception(around: &Around<'_>) -> Result<u32, NoMemory> {
+    let exception = held(around.inside.exception)?;
+    Ok(exception.var)
+}
+
 /// `void(e)`
-pub(crate) fn void_test(draft: &mut Draft, from: u32) -> Result<u32, NoMemory> {
-    let to = draft.temporary()?;
-    draft.step(FlatStep::IsVoid { to, from })?;
+pub(crate) fn void_test(body: &mut OpenBody, from: u32) -> Result<u32, NoMemory> {
+    let to = body.temporary()?;
+    body.step(FlatStep::IsVoid { to, from })?;
     Ok(to)
 }
 
 /// A new object.
 fn new_object(around: &Around<'_>, draft: &mut Draft, ty: u32, pos: Pos) -> Result<u32, NoMemory> {
-    let fail = draft.fail(pos, around.ends.raised)?;
-    let to = draft.temporary()?;
-    draft.step(FlatStep::New { to, ty, fail })?;
+    let fail = draft.tables.fail(pos, around.inside.raised)?;
+    let to = draft.body.temporary()?;
+    draft.body.step(FlatStep::New { to, ty, fail })?;
     Ok(to)
 }
 
@@ -93,9 +100,9 @@ pub(crate) fn new_array(
     count: u32,
     pos: Pos,
 ) -> Result<u32, NoMemory> {
-    let fail = draft.fail(pos, around.ends.raised)?;
-    let to = draft.temporary()?;
-    draft.step(FlatStep::NewArray {
+    let fail = draft.tables.fail(pos, around.inside.raised)?;
+    let to = draft.body.temporary()?;
+    draft.body.step(FlatStep::NewArray {
         to,
         ty,
         count,
@@ -112,21 +119,21 @@ pub(crate) fn widened(
     from: u32,
     pos: Pos,
 ) -> Result<u32, NoMemory> {
-    let fail = draft.fail(pos, around.ends.raised)?;
-    let to = draft.temporary()?;
-    widen(draft, to, from, ty, fail)?;
+    let fail = draft.tables.fail(pos, around.inside.raised)?;
+    let to = draft.body.temporary()?;
+    widen(&mut draft.body, to, from, ty, fail)?;
     Ok(to)
 }
 
 /// Widens a value into a variable.
 pub(crate) fn widen(
-    draft: &mut Draft,
+    body: &mut OpenBody,
     to: u32,
     from: u32,
     ty: u32,
     fail: Fail,
 ) -> Result<(), NoMemory> {
-    draft.step(FlatStep::Widen { to, from, ty, fail })
+    body.step(FlatStep::Widen { to, from, ty, fail })
 }
 
 /// An array of these elements: it is made once all of them are there, and then filled.
@@ -138,18 +145,18 @@ pub(crate) fn array(
     pos: Pos,
 ) -> Result<u32, NoMemory> {
     let count = held(i32::try_from(elements.len()).ok())?;
-    let count = constant(draft, FlatConst::Int(count))?;
+    let count = constant(&mut draft.body, FlatConst::Int(count))?;
     let array = new_array(around, draft, ty, count, pos)?;
-    let at = draft.temporary()?;
+    let at = draft.body.temporary()?;
     for (place, value) in elements.iter().enumerate() {
-        put_item(draft, array, ty, at, place, *value)?;
+        put_item(&mut draft.body, array, ty, at, place, *value)?;
     }
     Ok(array)
 }
 
 /// Puts an element of an array literal in its place, which is told in the variable `at`.
 fn put_item(
-    draft: &mut Draft,
+    body: &mut OpenBody,
     array: u32,
     ty: u32,
     at: u32,
@@ -157,11 +164,11 @@ fn put_item(
     value: u32,
 ) -> Result<(), NoMemory> {
     let place = held(i32::try_from(place).ok())?;
-    draft.step(FlatStep::Const {
+    body.step(FlatStep::Const {
         to: at,
         value: FlatConst::Int(place),
     })?;
-    draft.step(FlatStep::PutItem {
+    body.step(FlatStep::PutItem {
         array,
         ty,
         at,

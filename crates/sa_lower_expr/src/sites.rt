@@ -5,14 +5,14 @@
 
 use crate::arguments::is_once;
 use crate::around::Around;
-use crate::call::{plan_of, value_of_call};
+use crate::call::{Invocation, plan_of, value_of_call};
 use crate::copies::copy_back;
 use crate::passing::Passed;
 use crate::reached::{Reached, own_site, reached_on};
 use sa_core::{ArgCore, ExprCore};
-use sa_flat::{CallPlan, Draft, FlatExit, IterPiece};
-use sa_lower_iter::place_iter;
-use sa_tree::{NoMemory, Pos};
+use sa_flat::{CallPlan, FlatExit};
+use sa_lower_draft::{Draft, OpenBody};
+use sa_tree::NoMemory;
 use std::alloc::Global;
 
 /// A site whose call is being placed.
@@ -47,36 +47,32 @@ pub(crate) fn begin_site(
     on: &ExprCore,
     args: &[ArgCore],
 ) -> Result<Site, NoMemory> {
-    let reached = reached_on(around, draft, own_site(around, number)?, on)?;
-    let fresh = draft.block(alloc)?;
+    let reached = reached_on(around, &draft.tables, own_site(around, number)?, on)?;
+    let body = &mut draft.body;
+    let fresh = body.block(alloc)?;
     let site = Site {
         number,
         reached,
-        again: draft.block(alloc)?,
-        behind: draft.block(alloc)?,
-        others: others_of(alloc, draft, args)?,
+        again: body.block(alloc)?,
+        behind: body.block(alloc)?,
+        others: others_of(alloc, body, args)?,
     };
-    let test = IterPiece::Test {
-        site: number,
-        start: fresh,
-        resume: resumed_in(site),
-    };
-    place_iter(alloc, draft, &test)?;
+    body.test_site(alloc, number, fresh, resumed_in(site))?;
     Ok(site)
 }
 
 /// The blocks for arguments that are evaluated at each call, where there are such arguments.
 fn others_of(
     alloc: Global,
-    draft: &mut Draft,
+    body: &mut OpenBody,
     args: &[ArgCore],
 ) -> Result<Option<Others>, NoMemory> {
     if !has_others(args) {
         return Ok(None);
     }
     Ok(Some(Others {
-        joined: draft.block(alloc)?,
-        starting: draft.block(alloc)?,
+        joined: body.block(alloc)?,
+        starting: body.block(alloc)?,
     }))
 }
 
@@ -99,11 +95,15 @@ fn resumed_in(site: Site) -> u32 {
 }
 
 /// Opens the block of the arguments that are evaluated at each call, where there are such arguments.
-pub(crate) fn begin_others(alloc: Global, draft: &mut Draft, site: Site) -> Result<(), NoMemory> {
+pub(crate) fn begin_others(
+    alloc: Global,
+    body: &mut OpenBody,
+    site: Site,
+) -> Result<(), NoMemory> {
     let Some(others) = site.others else {
         return Ok(());
     };
-    draft.end(alloc, FlatExit::Jump(others.joined), others.joined)
+    body.end(alloc, FlatExit::Jump(others.joined), others.joined)
 }
 
 /// Starts or resumes the instance of the site, and gives the variable that holds the value that it has yielded, if it yields
@@ -113,52 +113,49 @@ pub(crate) fn end_site(
     around: &Around<'_>,
     draft: &mut Draft,
     site: Site,
-    recv: u32,
+    invocation: Invocation,
     passed: Passed,
-    pos: Pos,
 ) -> Result<Option<u32>, NoMemory> {
-    end_others(alloc, draft, site)?;
-    let value = value_of_call(around.core, draft, site.reached)?;
-    let plan = plan_of(around, draft, site.reached, recv, passed.args, value, pos)?;
+    end_others(alloc, &mut draft.body, site)?;
+    let value = value_of_call(around.core, &mut draft.body, invocation.reached)?;
+    let plan = plan_of(around, &draft.tables, invocation, passed.args, value)?;
     let fail = plan.fail;
-    start(alloc, draft, site, plan.copy(alloc)?)?;
-    resume(alloc, draft, site, plan)?;
-    copy_back(draft, passed.copies.as_slice(), fail)?;
+    let left = around.inside.after()?;
+    start(alloc, &mut draft.body, site, plan.copy(alloc)?, left)?;
+    resume(alloc, &mut draft.body, site, plan, left)?;
+    copy_back(&mut draft.body, passed.copies.as_slice(), fail)?;
     Ok(value)
 }
 
 /// Asks again whether the site has an instance, behind the arguments that are evaluated at each call.
-fn end_others(alloc: Global, draft: &mut Draft, site: Site) -> Result<(), NoMemory> {
+fn end_others(alloc: Global, body: &mut OpenBody, site: Site) -> Result<(), NoMemory> {
     let Some(others) = site.others else {
         return Ok(());
     };
-    let test = IterPiece::Test {
-        site: site.number,
-        start: others.starting,
-        resume: site.again,
-    };
-    place_iter(alloc, draft, &test)?;
-    Ok(())
+    body.test_site(alloc, site.number, others.starting, site.again)
 }
 
-/// Starts an instance, and opens the block in which the one that is there is resumed.
-fn start(alloc: Global, draft: &mut Draft, site: Site, plan: CallPlan) -> Result<(), NoMemory> {
-    let piece = IterPiece::Start {
-        site: site.number,
-        plan,
-        left: draft.after()?,
-    };
-    place_iter(alloc, draft, &piece)?;
-    draft.end(alloc, FlatExit::Jump(site.behind), site.again)
+/// Starts an instance, and opens the block in which the one that is there is resumed. Where the instance ends it goes on in
+/// `left`.
+fn start(
+    alloc: Global,
+    body: &mut OpenBody,
+    site: Site,
+    plan: CallPlan,
+    left: u32,
+) -> Result<(), NoMemory> {
+    body.start(alloc, site.number, plan, left)?;
+    body.end(alloc, FlatExit::Jump(site.behind), site.again)
 }
 
-/// Resumes the instance, and opens the block behind the call.
-fn resume(alloc: Global, draft: &mut Draft, site: Site, plan: CallPlan) -> Result<(), NoMemory> {
-    let piece = IterPiece::Resume {
-        site: site.number,
-        plan,
-        left: draft.after()?,
-    };
-    place_iter(alloc, draft, &piece)?;
-    draft.end(alloc, FlatExit::Jump(site.behind), site.behind)
+/// Resumes the instance, and opens the block behind the call. Where the instance ends it goes on in `left`.
+fn resume(
+    alloc: Global,
+    body: &mut OpenBody,
+    site: Site,
+    plan: CallPlan,
+    left: u32,
+) -> Result<(), NoMemory> {
+    body.resume(alloc, site.number, plan, left)?;
+    body.end(alloc, FlatExit::Jump(site.behind), site.behind)
 }

@@ -1,10 +1,20 @@
 //! Whether an expression writes variables of its feature: an `out` or `inout` argument of a call inside does.
 
+use crate::around::Variables;
 use sa_core::{ArgCore, ExprCore};
+
+/// What the calls of a statement with this expression do with variables.
+pub(crate) fn variables_in(e: &ExprCore) -> Variables {
+    if writes(e) {
+        Variables::Written
+    } else {
+        Variables::Kept
+    }
+}
 
 /// Whether a call inside the expression, itself included, has an argument that it writes.
 #[cycle(writes)]
-pub fn writes(e: &ExprCore) -> bool {
+fn writes(e: &ExprCore) -> bool {
     match e {
         ExprCore::IsVoid(of) | ExprCore::NewArray(_, of, _) | ExprCore::Widen(_, of, _) => {
             writes(of.get())

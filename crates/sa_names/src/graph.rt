@@ -54,7 +54,7 @@ impl Edges {
 fn included_class(ty: &Ty, params: &ParamNames, numbers: &ClassNumbers) -> Option<u32> {
     match ty {
         Ty::Named(name, _, _) => {
-            if params.has(ty) {
+            if params.hides(name) {
                 None
             } else {
                 numbers.of(name)

@@ -133,8 +133,11 @@ fn check_result(scope: &Scope<'_>, of: &Option<Boxed<Ty>>) -> Result<(), FrontFa
     }
 }
 
-/// Whether a class of this name is a type. Partial classes aren't.
+/// Whether a class of this name is a type. Partial classes aren't, nor are those that a parameter hides.
 fn is_type(scope: &Scope<'_>, name: &Name) -> bool {
+    if scope.params.hides(name) {
+        return false;
+    }
     let Some(number) = scope.numbers.of(name) else {
         return false;
     };
@@ -155,7 +158,7 @@ fn check_includes(scope: &Scope<'_>, kind: Kind, includes: &[Include]) -> Result
 fn check_include(scope: &Scope<'_>, kind: Kind, ty: &Ty) -> Result<(), FrontFault> {
     match ty {
         Ty::Named(name, given, pos) => {
-            if scope.params.has(ty) || !may_include(scope, kind, name) {
+            if scope.params.hides(name) || !may_include(scope, kind, name) {
                 return Err(Rule::ClassNotUsable.at(*pos).into());
             }
             check_types(scope, given.as_slice())

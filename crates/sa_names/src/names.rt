@@ -37,8 +37,8 @@ impl ClassNumbers {
     }
 }
 
-/// The names of a class's parameters. Inside the class such a name, written without parameters of its own, is the
-/// parameter, whatever class has the name.
+/// The names of a class's parameters. Inside the class such a name is the parameter, whatever class has the name, and written
+/// with parameters of its own it is nothing.
 #[derive(Drop)]
 pub(crate) struct ParamNames {
     names: IndexSet<Name>,
@@ -56,8 +56,13 @@ impl ParamNames {
     /// Whether a type is a parameter.
     pub(crate) fn has(&self, ty: &Ty) -> bool {
         match ty {
-            Ty::Named(name, given, _) => given.is_empty() && self.names.contains(name),
+            Ty::Named(name, given, _) => given.is_empty() && self.hides(name),
             _ => false,
         }
+    }
+
+    /// Whether a parameter hides the class of this name.
+    pub(crate) fn hides(&self, name: &Name) -> bool {
+        self.names.contains(name)
     }
 }

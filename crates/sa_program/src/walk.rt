@@ -97,21 +97,24 @@ impl<'a> Walk<'a> {
         };
         let own = held(self.list.row(ty))?.ty.copy(alloc)?;
         let at = Instantiation::of(alloc, class.params.as_slice(), &own)?;
-        let terms = self.terms(alloc, ty, &at)?;
+        let terms = self.terms(alloc, ty, class.params.as_slice(), &at)?;
         self.list.add_terms(terms)?;
         Ok(())
     }
 
-    /// The numbers of the types that a type's class writes, at an instance of it, with those before them.
+    /// The numbers of the types that a type's class with these parameters writes, at an instance of it, with those before them.
     fn terms(
         &mut self,
         alloc: Global,
         ty: u32,
+        params: &[Param],
         at: &Instantiation<'_>,
     ) -> Result<Items<u32>, FrontFault> {
         let mut terms = first_terms(alloc, ty)?;
         for place in 0..self.list.written(ty) {
-            let needed = at.put_into(alloc, self.list.written_at(ty, place)?)?;
+            let written = self.list.written_at(ty, place)?;
+            check_not_hidden(params, written)?;
+            let needed = at.put_into(alloc, written)?;
             terms.push(self.number(alloc, needed)?)?;
         }
         Ok(terms)
@@ -188,6 +191,19 @@ impl<'a> Walk<'a> {
             return Err(Rule::TooManyInstances.at(position(ty)).into());
         }
         Ok(())
+    }
+}
+
+/// The refusal of a type whose name is that of a parameter, which hides a class of that name, and which has types of its own.
+fn check_not_hidden(params: &[Param], written: &Ty) -> Result<(), FrontFault> {
+    match written {
+        Ty::Named(name, args, pos) => {
+            if !args.is_empty() && params.iter().any(|param| param.name.name == *name) {
+                return Err(Rule::ClassNotUsable.at(*pos).into());
+            }
+            Ok(())
+        }
+        _ => Ok(()),
     }
 }
 

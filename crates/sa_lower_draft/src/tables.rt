@@ -1,0 +1,96 @@
+//! The tables of the program that all bodies share. Texts and binds are added while bodies are filled, and none is taken away, so
+//! that a number names the same one to the end; positions and types are there from the beginning.
+
+use indexmap::{IndexMap, IndexSet};
+use sa_flat::{BindEntry, Fail, Raised};
+use sa_tree::{Name, NoMemory, Pos, Ty, held};
+use sqlite_items::Items;
+use std::alloc::Global;
+
+/// The place of a position in the program's positions, and its line.
+#[derive(Clone, Copy, Debug, PartialEq, Eq, Hash)]
+struct Spot {
+    place: u32,
+    line: u32,
+}
+
+/// The tables of the program.
+#[derive(Drop)]
+pub struct Tables {
+    /// The different texts so far.
+    pub texts: IndexSet<Name>,
+    /// What the binds so far make.
+    pub binds: Items<BindEntry>,
+    /// The first place of each position in the program's positions, with its line.
+    spots: IndexMap<Pos, Spot>,
+    /// The number of each type of the program.
+    types: IndexMap<Ty, u32>,
+}
+
+impl Tables {
+    /// No texts and binds yet, of a program with these positions and their lines, and these numbers of its types.
+    pub fn new(
+        alloc: Global,
+        positions: &[Pos],
+        lines: &[u32],
+        types: IndexMap<Ty, u32>,
+    ) -> Result<Tables, NoMemory> {
+        Ok(Tables {
+            texts: IndexSet::new(alloc),
+            binds: Items::new(alloc),
+            spots: spots(alloc, positions, lines)?,
+            types,
+        })
+    }
+
+    /// The number of a text, which is added where it is new.
+    pub fn text(&mut self, alloc: Global, text: &Name) -> Result<u32, NoMemory> {
+        let at = match self.texts.get_index_of(text) {
+            Some(at) => at,
+            None => {
+                let (at, _) = self.texts.insert_full(text.copy(alloc)?)?;
+                at
+            }
+        };
+        held(u32::try_from(at).ok())
+    }
+
+    /// Adds what a bind makes, and gives its number.
+    pub fn bind(&mut self, entry: BindEntry) -> Result<u32, NoMemory> {
+        let number = held(u32::try_from(self.binds.len()).ok())?;
+        self.binds.push(entry)?;
+        Ok(number)
+    }
+
+    /// The number of a type of the program. The answer is `NoMemory` where the program lacks it.
+    pub fn type_number(&self, ty: &Ty) -> Result<u32, NoMemory> {
+        held(self.types.get(ty).copied())
+    }
+
+    /// What a fault at a position tells, where it goes the way of a raise. The answer is `NoMemory` where the program lacks the
+    /// position.
+    pub fn fail(&self, pos: Pos, raised: Raised) -> Result<Fail, NoMemory> {
+        let spot = held(self.spots.get(&pos).copied())?;
+        Ok(Fail {
+            place: spot.place,
+            line: spot.line,
+            raised,
+        })
+    }
+}
+
+/// The first place of each position, with its line.
+fn spots(
+    alloc: Global,
+    positions: &[Pos],
+    lines: &[u32],
+) -> Result<IndexMap<Pos, Spot>, NoMemory> {
+    let mut spots = IndexMap::new(alloc);
+    for (place, (pos, line)) in positions.iter().zip(lines.iter()).enumerate() {
+        let place = held(u32::try_from(place).ok())?;
+        if !spots.contains_key(pos) {
+            spots.insert(*pos, Spot { place, line: *line })?;
+        }
+    }
+    Ok(spots)
+}
