@@ -1,4 +1,4 @@
-"""The deepest sources and modules that the limits allow, one for each form that nests and for each kind of chain, by their names."""
+"""The deepest sources and modules that the limits allow: one for each form that nests and for each kind of chain."""
 import binary
 from report import Left
 
@@ -71,6 +71,7 @@ def statements():
 def types():
     """Types inside one another, and chains of classes."""
     def chain(first, link):
+        # In a link I stands for the number of a class, and J for the one before it.
         return first + ' '.join(link.replace('J', str(number - 1)).replace('I', str(number)) for number in range(1, CHAIN))
     last = CHAIN - 1
     yield 'types', main_of('x:%s; #OUT + void(x);' % nested('ARRAY{', 'INT', '}', 7)), 'true'

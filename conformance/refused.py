@@ -13,21 +13,19 @@ The file of `build -o` holds what it held or a front of the module. Of each comm
 chooses, 10 without --count; --all refuses each. All calls of the system are refused in any case. --only takes the commands whose
 names hold a word.
 
-What refuses is a library that stands before the C library, refusing.c, built by cc. Where that is missing nothing is tried."""
+What refuses is a library that stands before the C library (refusing.py). Where it can't be built nothing is tried."""
 import argparse
 import functools
 import os
 import random
-import shutil
-import subprocess
 import sys
 
 import binary
+import refusing
 import report
 from hostile import FAULT, HELLO, UNKNOWN
 from report import Left
 
-SOURCE = os.path.join(os.path.dirname(os.path.abspath(__file__)), 'refusing.c')
 OLD = b'what the module\'s file held'
 MANNERS = ('once', 'on')
 FAULTS = {0: b'input fault\n', 1: b'output fault\n'}
@@ -154,12 +152,10 @@ def chooser(count, seed):
 
 def try_all(program, told, word='', count=10, seed=1):
     """Refuses what the commands whose names hold the word ask for, of each so many allocations, or all where there is no count."""
-    if shutil.which('cc') is None:
-        told.lacks('cc', 'no allocation and no call of the system is refused')
-        return
-    with report.folder_with({}) as folder:
-        library, calls = os.path.join(folder, 'refusing.so'), os.path.join(folder, 'calls')
-        subprocess.run(['cc', '-shared', '-fPIC', '-O2', '-o', library, SOURCE], check=True)
+    with refusing.library(told, 'no allocation and no call of the system is refused') as library, report.folder_with({}) as folder:
+        if library is None:
+            return
+        calls = os.path.join(folder, 'calls')
         own, tasks, chosen = {}, [], chooser(count, seed)
         for command in commands(program):
             if word in command.name:

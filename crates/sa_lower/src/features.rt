@@ -36,9 +36,7 @@ fn feature_body(
     if feature.iter {
         return iter_body(alloc, &mut draft.body);
     }
-    draft
-        .body
-        .finish(alloc, FlatExit::Return { value: None })
+    draft.body.finish(alloc, FlatExit::Return { value: None })
 }
 
 /// What is known of the body of a feature before its blocks.

@@ -32,11 +32,7 @@ pub fn own_body(
 }
 
 /// What is known of a body before its blocks, where an iter with this number or something else implements the signature.
-fn head(
-    alloc: Global,
-    iter: Option<u32>,
-    types: &SignatureTypes,
-) -> Result<BodyHead, NoMemory> {
+fn head(alloc: Global, iter: Option<u32>, types: &SignatureTypes) -> Result<BodyHead, NoMemory> {
     let formals = Items::from_slice(alloc, types.formals.as_slice())?;
     let own = held(u32::try_from(formals.len()).ok())?;
     Ok(BodyHead {

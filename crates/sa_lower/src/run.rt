@@ -55,11 +55,7 @@ fn initialise(
 }
 
 /// Calls `main` with a void self, and gives the variable that holds its result, if it has one.
-fn call_main(
-    alloc: Global,
-    core: &Core,
-    body: &mut OpenBody,
-) -> Result<Option<u32>, NoMemory> {
+fn call_main(alloc: Global, core: &Core, body: &mut OpenBody) -> Result<Option<u32>, NoMemory> {
     body.statement(&Inside::of_body());
     let main = feature(core, core.main)?;
     let recv = body.temporary()?;

@@ -23,11 +23,7 @@ pub(crate) fn yield_value(
 }
 
 /// `quit`, which first ends the instances of the loops around it.
-pub(crate) fn quit(
-    alloc: Global,
-    inside: &Inside,
-    body: &mut OpenBody,
-) -> Result<(), NoMemory> {
+pub(crate) fn quit(alloc: Global, inside: &Inside, body: &mut OpenBody) -> Result<(), NoMemory> {
     let exit = match inside.out() {
         Some(out) => FlatExit::Jump(out),
         None => FlatExit::Quit,

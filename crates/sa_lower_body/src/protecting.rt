@@ -11,10 +11,6 @@ use sa_tree::{NoMemory, held};
 use sqlite_items::Items;
 use std::alloc::Global;
 
-/// How many variables a protect has: the three of a raise in its statements, and the one that holds the exception in its
-/// branches.
-const VARIABLES: u32 = 4;
-
 /// The number of `$OB`, the type of the exception behind `else`.
 const OB: u32 = 0;
 
@@ -74,23 +70,28 @@ pub(crate) fn guarded(
     Ok(protect)
 }
 
-/// The variables of a protect, and its blocks.
+/// The variables of a protect, the three of a raise in its statements and the one of the exception in its branches, and its
+/// blocks.
 fn begin_protect(
     alloc: Global,
     around: &Around<'_>,
     body: &mut OpenBody,
 ) -> Result<Protect, NoMemory> {
     let value = around.inside.first_temporary;
-    let first_temporary = held(value.checked_add(VARIABLES))?;
+    let place = held(value.checked_add(1))?;
+    let kind = held(place.checked_add(1))?;
+    let exception = held(kind.checked_add(1))?;
+    let first_temporary = held(exception.checked_add(1))?;
     body.use_up_to(first_temporary);
+    let raised = Raised {
+        block: body.block(alloc)?,
+        value,
+        place,
+        kind,
+    };
     Ok(Protect {
-        raised: Raised {
-            block: body.block(alloc)?,
-            value,
-            place: value + 1,
-            kind: value + 2,
-        },
-        exception: value + 3,
+        raised,
+        exception,
         first_temporary,
         after: body.block(alloc)?,
     })

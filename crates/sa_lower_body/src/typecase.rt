@@ -5,7 +5,7 @@ use crate::around::{Around, is_at_or_below, is_immutable, var_type};
 use crate::stmts::stmts;
 use sa_core::ArmCore;
 use sa_flat::{FlatExit, FlatStep};
-use sa_lower_draft::{Draft, Inside, OpenBody};
+use sa_lower_draft::{ArmTest, Draft, Inside, OpenBody};
 use sa_tree::{FaultKind, NoMemory, Pos};
 use std::alloc::Global;
 
@@ -88,21 +88,10 @@ fn arm_test(
     var: u32,
     ty: u32,
 ) -> Result<u32, NoMemory> {
-    body.statement(inside);
-    let test = body.temporary()?;
-    body.step(FlatStep::TypeIs {
-        to: test,
-        from: var,
-        ty,
-    })?;
     let fits = body.block(alloc)?;
     let next = body.block(alloc)?;
-    let branch = FlatExit::Branch {
-        test,
-        yes: fits,
-        no: next,
-    };
-    body.end(alloc, branch, fits)?;
+    let exit = body.test_class(inside, var, ArmTest { ty, block: fits }, next)?;
+    body.end(alloc, exit, fits)?;
     Ok(next)
 }
 

@@ -49,7 +49,10 @@ impl OpenBody {
         let mut body = OpenBody::empty(alloc, head);
         body.open = body.block(alloc)?;
         let Raised {
-            value, place, kind, ..
+            value,
+            place,
+            kind,
+            ..
         } = Inside::of_body().raised;
         body.body.blocks.push(FlatBlock {
             steps: Items::new(alloc),
@@ -99,6 +102,11 @@ impl OpenBody {
     pub fn step(&mut self, step: FlatStep) -> Result<(), NoMemory> {
         self.steps.push(step)?;
         Ok(())
+    }
+
+    /// Moves a variable's value into another one.
+    pub fn move_to(&mut self, to: u32, from: u32) -> Result<(), NoMemory> {
+        self.step(FlatStep::Move { to, from })
     }
 
     /// Ends the open block with an exit, and opens another one.

@@ -1,4 +1,4 @@
-//! The pieces of raises at the end of the open block.
+//! The pieces of raises at the end of the open block, and the test of a class, by which a branch is chosen.
 
 use crate::body::OpenBody;
 use crate::inside::Inside;
@@ -6,7 +6,7 @@ use sa_flat::{FlatExit, FlatStep, Raised};
 use sa_tree::NoMemory;
 use std::alloc::Global;
 
-/// The type of a branch of a protect, and the block in which its statements begin.
+/// The type of a branch of a protect or an arm of a `typecase`, and the block in which its statements begin.
 #[derive(Clone, Copy, Debug, PartialEq, Eq)]
 pub struct ArmTest {
     pub ty: u32,
@@ -20,11 +20,6 @@ impl OpenBody {
         self.move_to(to.place, from.place)?;
         self.move_to(to.kind, from.kind)?;
         self.leave(alloc, FlatExit::Jump(to.block))
-    }
-
-    /// Moves a variable's value into another one.
-    pub fn move_to(&mut self, to: u32, from: u32) -> Result<(), NoMemory> {
-        self.step(FlatStep::Move { to, from })
     }
 
     /// Goes on in the block of the first branch whose type holds the class of the object, or in `rest`, which is open then.
@@ -41,20 +36,22 @@ impl OpenBody {
         };
         for arm in others {
             let next = self.block(alloc)?;
-            self.test_arm(alloc, inside, value, *arm, next)?;
+            let exit = self.test_class(inside, value, *arm, next)?;
+            self.end(alloc, exit, next)?;
         }
-        self.test_arm(alloc, inside, value, *last, rest)
+        let exit = self.test_class(inside, value, *last, rest)?;
+        self.end(alloc, exit, rest)
     }
 
-    /// Goes on in the block of a branch where its type holds the class of the object, else in `next`, which is open then.
-    fn test_arm(
+    /// Tests the class of a value, and gives the exit that goes on in the block of the branch where its type holds the class, else
+    /// in `other`.
+    pub fn test_class(
         &mut self,
-        alloc: Global,
         inside: &Inside,
         value: u32,
         arm: ArmTest,
-        next: u32,
-    ) -> Result<(), NoMemory> {
+        other: u32,
+    ) -> Result<FlatExit, NoMemory> {
         self.statement(inside);
         let test = self.temporary()?;
         self.step(FlatStep::TypeIs {
@@ -62,11 +59,10 @@ impl OpenBody {
             from: value,
             ty: arm.ty,
         })?;
-        let branch = FlatExit::Branch {
+        Ok(FlatExit::Branch {
             test,
             yes: arm.block,
-            no: next,
-        };
-        self.end(alloc, branch, next)
+            no: other,
+        })
     }
 }

@@ -80,11 +80,7 @@ impl Tables {
 }
 
 /// The first place of each position, with its line.
-fn spots(
-    alloc: Global,
-    positions: &[Pos],
-    lines: &[u32],
-) -> Result<IndexMap<Pos, Spot>, NoMemory> {
+fn spots(alloc: Global, positions: &[Pos], lines: &[u32]) -> Result<IndexMap<Pos, Spot>, NoMemory> {
     let mut spots = IndexMap::new(alloc);
     for (place, (pos, line)) in positions.iter().zip(lines.iter()).enumerate() {
         let place = held(u32::try_from(place).ok())?;

@@ -95,11 +95,7 @@ fn resumed_in(site: Site) -> u32 {
 }
 
 /// Opens the block of the arguments that are evaluated at each call, where there are such arguments.
-pub(crate) fn begin_others(
-    alloc: Global,
-    body: &mut OpenBody,
-    site: Site,
-) -> Result<(), NoMemory> {
+pub(crate) fn begin_others(alloc: Global, body: &mut OpenBody, site: Site) -> Result<(), NoMemory> {
     let Some(others) = site.others else {
         return Ok(());
     };
