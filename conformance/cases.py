@@ -20,7 +20,7 @@ class Malformed(Exception):
 class Case:
     """A case. `subject` is the file in which it stands, below the table and without its ending. `output_may_be_cut` says that
     out may take a front of `output` alone. `failing` has, for the devices `store`, `stdin`, `stdout` and `stderr`, the numbers
-    of the calls that fail, from 0; a case that has any can't be run from the shell."""
+    of the calls that fail, from 0."""
     name: str
     subject: str
     words: list[str] = dataclasses.field(default_factory=list)

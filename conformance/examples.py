@@ -13,6 +13,11 @@ import report
 EXAMPLES = os.path.join(os.path.dirname(os.path.abspath(__file__)), '..', 'examples')
 
 
+def names():
+    """The names of the examples."""
+    return [os.path.basename(path).removesuffix('.sa') for path in sorted(glob.glob(os.path.join(EXAMPLES, '*.sa')))]
+
+
 def bytes_of(name):
     """The bytes of a file beside the examples, or None where there is none."""
     path = os.path.join(EXAMPLES, name)
@@ -34,8 +39,7 @@ def tried(program, name):
 
 def try_all(program, told, word=''):
     """Tries the examples whose names hold the word."""
-    names = [os.path.basename(path).removesuffix('.sa') for path in sorted(glob.glob(os.path.join(EXAMPLES, '*.sa')))]
-    chosen = [name for name in names if word in 'examples/%s.sa' % name]
+    chosen = [name for name in names() if word in 'examples/%s.sa' % name]
     told.part('examples', len(chosen))
     for name, wrong in zip(chosen, report.side_by_side(functools.partial(tried, program), chosen)):
         told.count('examples/%s.sa' % name, wrong)

@@ -29,8 +29,9 @@ def run(words, folder, **how):
     if 'input' not in how:
         how.setdefault('stdin', subprocess.DEVNULL)
     how.setdefault('stdout', subprocess.PIPE)
-    ended = subprocess.run(words, cwd=folder, stderr=subprocess.PIPE, timeout=SECONDS, **how)
-    return Left(ended.stdout or b'', ended.stderr, ended.returncode)
+    how.setdefault('stderr', subprocess.PIPE)
+    ended = subprocess.run(words, cwd=folder, timeout=SECONDS, **how)
+    return Left(ended.stdout or b'', ended.stderr or b'', ended.returncode)
 
 
 @contextlib.contextmanager

@@ -16,4 +16,5 @@ mod texts;
 mod top;
 
 pub use cause::{Cause, Exit};
+pub use lines::NO_MEMORY;
 pub use top::sather;

@@ -1,20 +1,29 @@
 //! The program: the real store, streams and words for the top call.
 #![tactic(auto)]
 
-use sa_drive::sather;
-use sa_outside::{FileStore, ReadSource, WriteSink};
+use sa_drive::{Cause, NO_MEMORY, sather};
+use sa_outside::{FileStore, ReadSource, Sink, WriteSink};
 use std::alloc::Global;
 use std::env::{self, Env};
-use std::io;
+use std::io::{self, ErrorKind};
 use std::process::ExitCode;
 
-fn main(rt: HostRuntime) -> io::Result<ExitCode> {
+fn main(rt: HostRuntime) -> ExitCode {
     let alloc = rt.alloc();
-    let words = words(&rt, alloc)?;
+    let mut err = WriteSink::new(rt.stderr());
+    let words = match words(&rt, alloc) {
+        Ok(words) => words,
+        // Words that aren't text are no command, and neither are no words.
+        Err(error) if error.kind() == ErrorKind::InvalidData => Vec::new(alloc),
+        Err(_) => {
+            // As in the top call, the status stands where err fails.
+            let _ = err.put(NO_MEMORY);
+            return ExitCode::from(Cause::NoMemory.status());
+        }
+    };
     let mut store = FileStore::new(&rt);
     let mut input = ReadSource::new(rt.stdin());
     let mut out = WriteSink::new(rt.stdout());
-    let mut err = WriteSink::new(rt.stderr());
     let exit = sather(
         alloc,
         words.as_slice(),
@@ -23,10 +32,11 @@ fn main(rt: HostRuntime) -> io::Result<ExitCode> {
         &mut out,
         &mut err,
     );
-    Ok(ExitCode::from(exit.status))
+    ExitCode::from(exit.status)
 }
 
-/// The words of the command line without the program's name.
+/// The words of the command line without the program's name. The error is `InvalidData` where one isn't UTF-8, and else want of
+/// memory.
 fn words(rt: &(impl Env + AllocGlobal), alloc: Global) -> io::Result<Vec<String>> {
     Ok(env::args(rt)?.skip(1).collect(alloc)?)
 }

@@ -1,0 +1,25 @@
+# Completion of the words of sather in bash.
+_sather() {
+  local word=${COMP_WORDS[COMP_CWORD]} before=${COMP_WORDS[COMP_CWORD - 1]} options='' endings='*.sa'
+  COMPREPLY=()
+  if [ "$COMP_CWORD" -eq 1 ]; then
+    mapfile -t COMPREPLY < <(compgen -W 'run build check exec gen selftest' -- "$word")
+    return
+  fi
+  case ${COMP_WORDS[1]} in
+    run) options='--fuel --room --stats' ;;
+    build) options='--room -o' ;;
+    check) ;;
+    exec) options='--fuel --stats' endings='*.wasm' ;;
+    *) return ;;
+  esac
+  case $before in
+    --fuel | --room) return ;;
+    -o) endings='*.wasm' ;;
+  esac
+  case $word in
+    -*) mapfile -t COMPREPLY < <(compgen -W "$options" -- "$word") ;;
+    *) mapfile -t COMPREPLY < <(compgen -f -X "!$endings" -- "$word"; compgen -d -- "$word") ;;
+  esac
+}
+complete -o filenames -F _sather sather

@@ -1,0 +1,193 @@
+#!/usr/bin/env node
+// run.js [--seconds N] [--stack MIB] [--memory MIB] MODULE
+//
+// Runs a module that `sather build` wrote, with the statuses and the lines on err of `sather exec`.
+//
+// A worker runs the module, and the main thread reads and writes for it. So a run can be ended from outside, whatever it is doing,
+// and what it has put out before still comes out: the bytes stand in memory that the two share.
+'use strict';
+const fs = require('fs');
+const v8 = require('v8');
+const {on} = require('events');
+const {setTimeout} = require('timers/promises');
+const {parseArgs} = require('util');
+const {Worker, isMainThread, parentPort, receiveMessageOnPort, workerData} = require('worker_threads');
+
+const USAGE = 'usage: node run.js [--seconds N] [--stack MIB] [--memory MIB] MODULE';
+const STACK = 1024;                 // MiB of stack without the option: calls 10,000 deep have room in it
+const PAGES = 16;                   // pages of a memory in a MiB
+const BUFFER = 65536;               // bytes that are written together
+const LONGEST = 2 ** 31 - 1;        // milliseconds that node can wait
+const [PENDING, ANSWERED] = [0, 1]; // places of `counts`: bytes that are to be written; whether the worker may go on
+const NO_MEMORY = ['ERR_WORKER_INIT_FAILED', 'ERR_WORKER_OUT_OF_MEMORY'];
+
+// How a run ends: its status, and the line on err where there is one.
+class End extends Error {
+  constructor(status, line) {
+    super(line);
+    this.status = status;
+  }
+}
+
+// The main thread.
+
+// The limits and the module that the words ask for. A number is one to nine digits, and not 0.
+function command(words) {
+  const option = {type: 'string'};
+  try {
+    const {values, positionals} = parseArgs({
+      args: words, allowPositionals: true, options: {seconds: option, stack: option, memory: option},
+    });
+    const numbers = Object.values(values).every((text) => /^0*[1-9][0-9]{0,8}$/.test(text));
+    if (numbers && positionals.length === 1) return {...values, name: positionals[0]};
+  } catch {
+    // An option that isn't known, or has no value.
+  }
+  throw new End(124, USAGE);
+}
+
+function bytesOf(name) {
+  try {
+    return fs.readFileSync(name);
+  } catch {
+    throw new End(123, 'store fault');
+  }
+}
+
+// Writes the bytes that are pending. A pipe that takes none for now is asked again.
+function write({output, counts}) {
+  let from = 0;
+  while (from < counts[PENDING]) {
+    try {
+      from += fs.writeSync(1, output, from, counts[PENDING] - from);
+    } catch (error) {
+      if (error.code !== 'EAGAIN') throw new End(123, 'output fault');
+      Atomics.wait(counts, PENDING, counts[PENDING], 10);
+    }
+  }
+  counts[PENDING] = 0;
+}
+
+// The bytes of the input, some at a time. The input is touched when some are asked for, and not before.
+async function* pieces() {
+  try {
+    yield* process.stdin;
+  } catch {
+    throw new End(123, 'input fault');
+  }
+}
+
+// Does what the worker asks for, up to its end. At the end of the input it gets null in place of bytes.
+async function serve(worker, shared) {
+  const input = pieces();
+  for await (const [asked] of on(worker, 'message')) {
+    write(shared);
+    if (asked.end) throw new End(...asked.end);
+    if (asked.read) worker.postMessage((await input.next()).value ?? null);
+    Atomics.store(shared.counts, ANSWERED, 1);
+    Atomics.notify(shared.counts, ANSWERED);
+  }
+}
+
+// Ends the worker after so many seconds, and then writes what it has left.
+async function timeLimit(seconds, worker, shared) {
+  await setTimeout(Math.min(seconds * 1000, LONGEST));
+  await worker.terminate();
+  write(shared);
+  throw new End(122, 'time spent');
+}
+
+async function main(words) {
+  const {name, seconds, stack, memory} = command(words);
+  const bytes = bytesOf(name);
+  if (memory) v8.setFlagsFromString(`--wasm-max-mem-pages=${Math.min(memory * PAGES, 65536)}`);
+  const shared = {
+    output: new Uint8Array(new SharedArrayBuffer(BUFFER)),
+    counts: new Int32Array(new SharedArrayBuffer(8)),
+  };
+  const worker = new Worker(__filename, {
+    workerData: {name, bytes, shared}, resourceLimits: {stackSizeMb: Number(stack ?? STACK)},
+  });
+  const ends = [serve(worker, shared)];
+  if (seconds) ends.push(timeLimit(Number(seconds), worker, shared));
+  await Promise.race(ends);
+}
+
+// Tells how the run has ended, and ends the process.
+function leave(error) {
+  if (!(error instanceof End) && !NO_MEMORY.includes(error.code)) throw error;
+  const end = error instanceof End ? error : new End(125, 'out of memory');
+  if (end.message) fs.writeSync(2, `${end.message}\n`);
+  process.exit(end.status);
+}
+
+// The worker.
+
+// Lets the main thread do something, waits until it's done, and gives the answer.
+function ask(what, counts) {
+  Atomics.store(counts, ANSWERED, 0);
+  parentPort.postMessage(what);
+  Atomics.wait(counts, ANSWERED, 0);
+  return receiveMessageOnPort(parentPort)?.message;
+}
+
+// The functions of docs/WEBASSEMBLY.md.
+function environment(name, {output, counts}) {
+  let input = [];
+  let at = 0;
+  return {
+    put: (byte) => {
+      output[counts[PENDING]] = byte;
+      counts[PENDING] += 1;
+      if (counts[PENDING] === output.length) ask({}, counts);
+    },
+    get: () => {
+      if (input !== null && at === input.length) {
+        input = ask({read: true}, counts);
+        at = 0;
+      }
+      return input === null ? -1 : input[at++];
+    },
+    stop: (code, site) => {
+      throw new End(121, `${name}: stop ${code >>> 0} at ${site >>> 0}`);
+    },
+  };
+}
+
+// Compiles a module, and finds what it wants and has. V8 doesn't tell a malformed module from an invalid one.
+function linked(name, bytes, env) {
+  if (!WebAssembly.validate(bytes)) throw new End(126, `${name}: invalid`);
+  const module = new WebAssembly.Module(bytes);
+  const imports = WebAssembly.Module.imports(module);
+  const unknown = imports.findIndex((one) => one.module !== 'env' || one.kind !== 'function' || !Object.hasOwn(env, one.name));
+  const hasMain = WebAssembly.Module.exports(module).some((one) => one.kind === 'function' && one.name === 'main');
+  if (unknown >= 0) throw new End(126, `${name}: unlinked ${unknown}`);
+  if (!hasMain) throw new End(126, `${name}: unlinked ${imports.length}`);
+  return module;
+}
+
+// The end that V8's error stands for. Only what is wrong before anything runs names the constructor.
+function endOf(error, name) {
+  if (error instanceof End) return error;
+  const before = error.message.startsWith('WebAssembly.Instance()');
+  if (error instanceof RangeError) return before ? new End(125, 'out of memory') : new End(126, `${name}: too deep`);
+  if (error instanceof WebAssembly.RuntimeError) return new End(126, `${name}: ${before ? 'segment' : 'trap'}`);
+  throw error;
+}
+
+function runModule({name, bytes, shared}) {
+  const env = environment(name, shared);
+  try {
+    const result = new WebAssembly.Instance(linked(name, bytes, env), {env}).exports.main();
+    return new End(result === undefined ? 0 : result & 255, '');
+  } catch (error) {
+    return endOf(error, name);
+  }
+}
+
+if (isMainThread) {
+  main(process.argv.slice(2)).catch(leave);
+} else {
+  const end = runModule(workerData);
+  parentPort.postMessage({end: [end.status, end.message]});
+}
