@@ -1,11 +1,10 @@
 //! Which types a type is below. An abstract type alone is above a class type, and beside it bound types are above bound
 //! types.
 
-use crate::codes::held;
 use indexmap::IndexMap;
-use sa_program::Program;
+use sa_check_program::Program;
 use sa_subtypes::Edges;
-use sa_tree::{Kind, Mode, ModeTy, NoMemory, Ty};
+use sa_tree::{Kind, Mode, ModeTy, NoMemory, Ty, held};
 use sqlite_items::{Boxed, Items};
 use std::alloc::{AllocError, Global};
 

@@ -2,7 +2,6 @@
 #![tactic(auto)]
 
 mod above;
-mod codes;
 mod limits;
 mod sigs;
 mod target;
@@ -10,5 +9,5 @@ mod types;
 mod typing;
 mod whole;
 
-pub use sa_program::instances;
+pub use sa_check_program::instances;
 pub use whole::check;

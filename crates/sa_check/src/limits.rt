@@ -1,10 +1,7 @@
 //! The size of a typed program, and the number of its dispatch pairs.
 
-use crate::codes::{TOO_LARGE, refused};
-use sa_tree::{FrontFault, Pos};
-
-/// How many nodes, features and shareds a program has at most, together.
-const MOST_NODES: u32 = 200_000;
+use sa_check_simple::MOST_NODES;
+use sa_tree::{FrontFault, Pos, Rule};
 
 /// How many pairs of a signature and a concrete type below its own a program has at most.
 pub(crate) const MOST_PAIRS: u32 = 100_000;
@@ -38,7 +35,7 @@ impl Size {
     pub(crate) fn within(&self) -> Result<(), FrontFault> {
         match self.passed {
             None => Ok(()),
-            Some(name) => Err(refused(TOO_LARGE, name)),
+            Some(name) => Err(Rule::ProgramTooLarge.at(name).into()),
         }
     }
 }

@@ -1,11 +1,10 @@
 //! The signatures of the abstract types, each with its implementations.
 
-use crate::codes::held;
 use crate::target::member_target;
-use sa_conformance::{Implementation, Signatures};
+use sa_check_conformance::{Implementation, Signatures};
+use sa_check_program::Program;
 use sa_core::{ImplCore, SigCore};
-use sa_program::Program;
-use sa_tree::{NoMemory, Pos};
+use sa_tree::{NoMemory, Pos, held};
 use sqlite_items::Items;
 use std::alloc::Global;
 

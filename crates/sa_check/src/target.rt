@@ -1,8 +1,8 @@
 //! What a member of a concrete type is when the program runs.
 
+use sa_check_program::{Member, Program, Side};
 use sa_core::Target;
 use sa_prelude::builtin;
-use sa_program::{Member, Program, Side};
 use sa_tree::{Feature, Part};
 
 /// What a member of a type is, by its place. A const is nothing that can be called.

@@ -1,11 +1,10 @@
 //! What the typed tree says of each type.
 
 use crate::above::{Shapes, abstract_types, uppers_of};
-use crate::codes::held;
 use indexmap::IndexMap;
+use sa_check_program::Program;
 use sa_core::TypeInfo;
-use sa_program::Program;
-use sa_tree::{Kind, NoMemory, Ty};
+use sa_tree::{Kind, NoMemory, Ty, held};
 use sqlite_items::Items;
 use std::alloc::Global;
 

@@ -1,16 +1,15 @@
 //! The bodies of a program: of each needed type in order, feature by feature.
 
-use crate::codes::{TOO_MANY_PAIRS, held, refused};
 use crate::limits::{MOST_PAIRS, Size};
 use crate::sigs::sig_pos;
 use indexmap::IndexMap;
+use sa_check_conformance::Signatures;
+use sa_check_constants::ConstTable;
 use sa_check_expr::{Built, View};
-use sa_check_stmt::{body, expr_nodes, feature_nodes, shared_body};
-use sa_conformance::Signatures;
-use sa_const::ConstTable;
-use sa_core::{FeatureCore, SharedCore};
-use sa_program::Program;
-use sa_tree::{Feature, FrontFault, Kind, NoMemory, Part};
+use sa_check_program::Program;
+use sa_check_stmt::{body, shared_body};
+use sa_core::{FeatureCore, SharedCore, feature_nodes, shared_nodes};
+use sa_tree::{Feature, FrontFault, Kind, NoMemory, Part, Rule, held};
 use sqlite_items::Items;
 use std::alloc::Global;
 
@@ -127,7 +126,7 @@ fn count_pairs(view: &View<'_>, typing: &mut Typing, below: u32) -> Result<(), F
         typing.pairs = typing.pairs.saturating_add(below);
         if typing.pairs > MOST_PAIRS {
             let pos = sig_pos(view.program, view.signatures, place)?;
-            return Err(refused(TOO_MANY_PAIRS, pos));
+            return Err(Rule::TooManyPairs.at(pos).into());
         }
     }
     Ok(())
@@ -167,16 +166,8 @@ fn type_shared(
     f: &Feature,
 ) -> Result<(), FrontFault> {
     let core = shared_body(alloc, view, &mut typing.built, f)?;
-    if typing.size.add(f.name.pos, start_nodes(&core)) {
+    if typing.size.add(f.name.pos, shared_nodes(&core)) {
         typing.shareds.push(core)?;
     }
     Ok(())
-}
-
-/// The number of nodes of a shared's initialiser.
-fn start_nodes(shared: &SharedCore) -> u32 {
-    match &shared.start {
-        None => 0,
-        Some(start) => expr_nodes(start),
-    }
 }

@@ -1,17 +1,16 @@
 //! A program from its classes to its typed tree.
 
 use crate::above::class_types_above;
-use crate::codes::held;
 use crate::sigs::sig_cores;
 use crate::types::type_infos;
 use crate::typing::{Typing, typed_bodies};
-use sa_conformance::{Implementation, Signatures, check_conformance};
-use sa_const::ConstTable;
+use sa_check_conformance::{Implementation, Signatures, check_conformance};
+use sa_check_constants::ConstTable;
+use sa_check_program::Program;
 use sa_core::{Core, SigCore, TypeInfo};
 use sa_include::flatten;
-use sa_program::Program;
 use sa_subtypes::Edges;
-use sa_tree::{Class, FrontFault, NoMemory};
+use sa_tree::{Class, FrontFault, NoMemory, held};
 use sqlite_items::Items;
 use std::alloc::Global;
 

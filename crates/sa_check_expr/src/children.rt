@@ -5,12 +5,9 @@
 //! form alone waits for its type.
 
 use crate::rows::typed;
-use sa_calls::{ReadyArg, ReadyExpr};
-use sa_choice::{
-    BAD_BIND, Built, NARROWED, NOT_ASSIGNABLE, Place, Variable, View, held, position, refused,
-    variable_named, written,
-};
-use sa_tree::{Expr, FrontFault, Given, Mode, Pos, Ty};
+use sa_check_calls::{ReadyArg, ReadyExpr};
+use sa_check_choice::{Built, Place, Variable, View, position, variable_named, written};
+use sa_tree::{Expr, FrontFault, Given, Mode, Pos, Rule, Ty, held};
 use std::alloc::Global;
 
 /// Types an expression for a place that wants a result, or the children of a contextual one.
@@ -97,7 +94,7 @@ fn argument(
                 return written_argument(*mode, variable, position(e));
             }
             let _inside = ready(alloc, view, place, built, e)?;
-            Err(refused(NOT_ASSIGNABLE, position(e)))
+            Err(Rule::NotAssignable.at(position(e)).into())
         }
     }
 }
@@ -105,7 +102,7 @@ fn argument(
 /// A variable that a call writes.
 fn written_argument(mode: Mode, variable: Variable, pos: Pos) -> Result<ReadyArg, FrontFault> {
     if variable.narrowed {
-        return Err(refused(NARROWED, pos));
+        return Err(Rule::TypecaseVariable.at(pos).into());
     }
     Ok(ReadyArg::Variable(mode, variable))
 }
@@ -118,7 +115,7 @@ fn open_argument(
     is_head: bool,
 ) -> Result<ReadyArg, FrontFault> {
     if !is_head {
-        return Err(refused(BAD_BIND, pos));
+        return Err(Rule::BadBind.at(pos).into());
     }
     match ty {
         None => Ok(ReadyArg::Left(None)),

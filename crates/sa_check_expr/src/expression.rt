@@ -2,13 +2,13 @@
 
 use crate::rows::typed;
 use indexmap::IndexMap;
-use sa_choice::{Built, Place, Typed, Variable, View, held, number_of, type_of};
-use sa_conformance::Signatures;
-use sa_const::{ConstTable, Consts};
+use sa_check_choice::{Built, Place, Typed, Variable, View, number_of, type_of};
+use sa_check_conformance::Signatures;
+use sa_check_constants::{ConstTable, Consts};
+use sa_check_program::Program;
 use sa_core::{ExprCore, SiteCore};
-use sa_program::Program;
 use sa_subtypes::Edges;
-use sa_tree::{Expr, FrontFault, Name, NoMemory, Ty};
+use sa_tree::{Expr, FrontFault, Name, NoMemory, Ty, held};
 use sa_types::Instance;
 use sqlite_items::Items;
 use std::alloc::Global;

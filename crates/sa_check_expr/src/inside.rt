@@ -1,8 +1,10 @@
 //! The row of a form with what stands inside it, typed or refused: of several refusals inside the first one counts.
 
-use sa_calls::{ReadyArg, ReadyExpr, Receiver, call_form, settled};
-use sa_choice::{Built, Place, Typed, View, character, exception, int, me, text, truth, written};
-use sa_forms::{
+use sa_check_calls::{ReadyArg, ReadyExpr, Receiver, call_form, settled};
+use sa_check_choice::{
+    Built, Place, Typed, View, character, exception, int, me, text, truth, written,
+};
+use sa_check_forms::{
     binary, bind_form, connected, create, index, is_void, new_array, new_object, unary,
 };
 use sa_tree::{Expr, FrontFault, Name, Op, Pos, Recv, Ty};

@@ -1,8 +1,8 @@
 //! `while!`, `until!` and `break!` as statements.
 
 use crate::children::arguments;
-use sa_calls::{leave_form, leave_of};
-use sa_choice::{Built, Place, View};
+use sa_check_calls::{leave_form, leave_of};
+use sa_check_choice::{Built, Place, View};
 use sa_core::ExprCore;
 use sa_tree::{Expr, FrontFault};
 use std::alloc::Global;

@@ -15,8 +15,8 @@ pub use leaving::leave;
 pub use part::parts;
 pub use receiver::operand;
 pub use rows::typed;
-pub use sa_calls::{ReadyArg, ReadyExpr, Receiver, call, settled};
-pub use sa_choice::{
+pub use sa_check_calls::{ReadyArg, ReadyExpr, Receiver, call, settled};
+pub use sa_check_choice::{
     Built, ChosenFeature, Param, Place, Reached, Typed, Variable, View, chosen, first_iter,
     is_concrete, is_contextual, is_sub, is_widening, kind_of, number_of, position, type_of,
     variable_named, widened, written,

@@ -4,8 +4,8 @@ use crate::children::{arguments, ready, ready_all};
 use crate::inside::{both, done};
 use crate::receiver::receiver_of;
 use crate::rows::typed;
-use sa_choice::{Built, Place, View};
-use sa_program::{BOOL, INT};
+use sa_check_choice::{Built, Place, View};
+use sa_check_program::{BOOL, INT};
 use sa_tree::{Expr, FrontFault, Op};
 use std::alloc::Global;
 

@@ -1,9 +1,9 @@
 //! What a call is made on, typed.
 
 use crate::children::ready;
-use sa_calls::Receiver;
-use sa_choice::{Built, Place, View, held, written};
-use sa_tree::{Expr, FrontFault, Recv};
+use sa_check_calls::Receiver;
+use sa_check_choice::{Built, Place, View, written};
+use sa_tree::{Expr, FrontFault, Recv, held};
 use std::alloc::Global;
 
 /// Types what a call by name is made on.

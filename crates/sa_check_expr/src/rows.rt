@@ -8,12 +8,10 @@ use crate::inside::{
 };
 use crate::part::parts;
 use crate::receiver::{operand, receiver_of};
-use sa_calls::Receiver;
-use sa_choice::{
-    BAD_BIND, Built, Place, Typed, View, position, refused, variable_named, variable_value,
-};
-use sa_program::{BOOL, INT};
-use sa_tree::{Expr, FrontFault, Op, Pos};
+use sa_check_calls::Receiver;
+use sa_check_choice::{Built, Place, Typed, View, position, variable_named, variable_value};
+use sa_check_program::{BOOL, INT};
+use sa_tree::{Expr, FrontFault, Op, Pos, Rule};
 use std::alloc::Global;
 
 /// Whether an operator is `and` or `or`, whose operands are BOOL.
@@ -114,7 +112,7 @@ fn bind(
         }
         _ => {
             parts(alloc, view, place, built, head)?;
-            Err(refused(BAD_BIND, pos))
+            Err(Rule::BadBind.at(pos).into())
         }
     }
 }

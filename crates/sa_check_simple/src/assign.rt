@@ -1,6 +1,5 @@
 //! Assignments: to a variable, to an attribute of an immutable object, by a call, or to an element.
 
-use crate::codes::{NARROWED, NOT_ASSIGNABLE, held, refused};
 use crate::draft::Draft;
 use crate::leave::{leave_assigned, leave_of};
 use crate::value::fitting;
@@ -9,7 +8,7 @@ use sa_check_expr::{
     variable_named, written,
 };
 use sa_core::StmtCore;
-use sa_tree::{Expr, FrontFault, Kind, Name, Part, Pos, Recv};
+use sa_tree::{Expr, FrontFault, Kind, Name, Part, Pos, Recv, Rule, held};
 use sqlite_items::Boxed;
 use std::alloc::Global;
 
@@ -34,7 +33,7 @@ pub(crate) fn assign(
         _ => {
             let _target = ready(alloc, view, &draft.place, built, target)?;
             let _value = ready(alloc, view, &draft.place, built, value)?;
-            Err(refused(NOT_ASSIGNABLE, pos))
+            Err(Rule::NotAssignable.at(pos).into())
         }
     }
 }
@@ -121,7 +120,7 @@ fn assign_variable(
     let ty = variable.ty;
     let made = typed(alloc, view, &draft.place, built, value, true, Some(ty))?;
     if variable.narrowed {
-        return Err(refused(NARROWED, pos));
+        return Err(Rule::TypecaseVariable.at(pos).into());
     }
     let core = fitting(alloc, view, built, made, ty, position(value), pos)?;
     Ok(StmtCore::Let(variable.number, core))
@@ -163,14 +162,14 @@ fn assign_changed(
     pos: Pos,
 ) -> Result<StmtCore, FrontFault> {
     let Some(variable) = changed else {
-        return Err(refused(NOT_ASSIGNABLE, pos));
+        return Err(Rule::NotAssignable.at(pos).into());
     };
     let mut args = Vec::new(alloc);
     args.push(ReadyArg::Value(value))?;
     let name = name.as_slice();
     let made = call(alloc, view, &draft.place, built, on, name, args, pos, true)?;
     if variable.narrowed {
-        return Err(refused(NARROWED, pos));
+        return Err(Rule::TypecaseVariable.at(pos).into());
     }
     let core = fitting(alloc, view, built, made, variable.ty, pos, pos)?;
     Ok(StmtCore::Let(variable.number, core))

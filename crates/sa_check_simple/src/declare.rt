@@ -1,13 +1,11 @@
 //! Declarations: `x, y:T`, `x, y:T := e` and `x ::= e`.
 
-use crate::codes::held;
 use crate::copy::copy;
 use crate::draft::Draft;
-use crate::nodes::expr_nodes;
 use crate::value::{fitting, untyped_value};
 use sa_check_expr::{Built, View, position, typed, written};
-use sa_core::{ExprCore, StmtCore};
-use sa_tree::{Expr, FrontFault, Local, NoMemory, Pos, Ty};
+use sa_core::{ExprCore, StmtCore, expr_nodes};
+use sa_tree::{Expr, FrontFault, Local, NoMemory, Pos, Ty, held};
 use sqlite_items::Items;
 use std::alloc::Global;
 

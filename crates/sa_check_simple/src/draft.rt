@@ -1,9 +1,8 @@
 //! What is known of a feature while its body is typed: its variables, its loops, and where the next form stands.
 
-use crate::codes::{DECLARED_TWICE, held, refused};
 use indexmap::IndexMap;
 use sa_check_expr::{Place, Variable};
-use sa_tree::{FrontFault, Local, Name, NoMemory};
+use sa_tree::{FrontFault, Local, Name, NoMemory, Rule, held};
 use sqlite_items::Items;
 use std::alloc::Global;
 
@@ -69,7 +68,7 @@ impl Draft {
     /// the name is in scope already.
     pub fn declare(&mut self, alloc: Global, local: &Local, ty: u32) -> Result<u32, FrontFault> {
         if self.place.vars.contains_key(&local.name) {
-            return Err(refused(DECLARED_TWICE, local.pos));
+            return Err(Rule::DeclaredTwice.at(local.pos).into());
         }
         let number = self.variable(ty)?;
         let variable = Variable {

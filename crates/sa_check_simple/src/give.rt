@@ -1,12 +1,11 @@
 //! `return` and `yield`, which give a value back.
 
-use crate::codes::{OUT_OF_PLACE, WRONG_TYPE, refused};
 use crate::draft::Draft;
 use crate::leave::in_iter;
 use crate::value::fitting;
 use sa_check_expr::{Built, Typed, View, position, ready, typed};
 use sa_core::{ExprCore, StmtCore};
-use sa_tree::{Expr, FrontFault, Pos};
+use sa_tree::{Expr, FrontFault, Pos, Rule};
 use std::alloc::Global;
 
 /// `return` and `return e`, in a routine alone.
@@ -52,7 +51,7 @@ pub(crate) fn yield_value(
 /// Whether a form may stand here that a routine alone has.
 fn in_routine(draft: &Draft, pos: Pos) -> Result<(), FrontFault> {
     if draft.iter {
-        return Err(refused(OUT_OF_PLACE, pos));
+        return Err(Rule::OutOfPlace.at(pos).into());
     }
     Ok(())
 }
@@ -60,7 +59,7 @@ fn in_routine(draft: &Draft, pos: Pos) -> Result<(), FrontFault> {
 /// Whether the feature has no result, where none is given back.
 fn gives_none(draft: &Draft, pos: Pos) -> Result<(), FrontFault> {
     if draft.result.is_some() {
-        return Err(refused(WRONG_TYPE, pos));
+        return Err(Rule::WrongType.at(pos).into());
     }
     Ok(())
 }
@@ -93,10 +92,10 @@ fn given_back(
     form: Pos,
 ) -> Result<ExprCore, FrontFault> {
     let Some(made) = made else {
-        return Err(refused(WRONG_TYPE, form));
+        return Err(Rule::WrongType.at(form).into());
     };
     let Some(ty) = draft.result else {
-        return Err(refused(WRONG_TYPE, form));
+        return Err(Rule::WrongType.at(form).into());
     };
     fitting(alloc, view, built, made, ty, at, form)
 }

@@ -1,12 +1,11 @@
 //! Statements that leave or stop: `quit`, `raise`, `assert`, `while! := b`, and an expression as a statement.
 
-use crate::codes::{IN_PROTECT, NONE_FITS, OUT_OF_PLACE, OUTSIDE_LOOP, WRONG_TYPE, held, refused};
 use crate::draft::Draft;
 use crate::value::{entry, test, untyped_value};
 use sa_check_expr::{Built, View, leave, parts, position, ready, settled, typed, widened};
+use sa_check_program::{BOOL, OB};
 use sa_core::{ExprCore, StmtCore};
-use sa_program::{BOOL, OB};
-use sa_tree::{Expr, FrontFault, Name, Op, Pos, Recv};
+use sa_tree::{Expr, FrontFault, Name, Op, Pos, Recv, Rule, held};
 use sqlite_items::Items;
 use std::alloc::Global;
 
@@ -25,10 +24,10 @@ pub(crate) fn quit(draft: &Draft, pos: Pos) -> Result<StmtCore, FrontFault> {
 /// Whether a form may stand here that an iter alone has, and no protect.
 pub(crate) fn in_iter(draft: &Draft, pos: Pos) -> Result<(), FrontFault> {
     if !draft.iter {
-        return Err(refused(OUT_OF_PLACE, pos));
+        return Err(Rule::OutOfPlace.at(pos).into());
     }
     if draft.place.guard > 0 {
-        return Err(refused(IN_PROTECT, pos));
+        return Err(Rule::NotAllowedInProtect.at(pos).into());
     }
     Ok(())
 }
@@ -59,7 +58,7 @@ pub(crate) fn assert_true(
 ) -> Result<StmtCore, FrontFault> {
     let (core, is_bool) = test(alloc, view, &draft.place, built, e)?;
     if !is_bool {
-        return Err(refused(WRONG_TYPE, pos));
+        return Err(Rule::WrongType.at(pos).into());
     }
     asserted(alloc, core, pos)
 }
@@ -86,7 +85,7 @@ pub(crate) fn expression(
     }
     if !can_stand_alone(draft, e) {
         parts(alloc, view, &draft.place, built, e)?;
-        return Err(refused(WRONG_TYPE, position(e)));
+        return Err(Rule::WrongType.at(position(e)).into());
     }
     let made = typed(alloc, view, &draft.place, built, e, false, None)?;
     Ok(StmtCore::Do(made.core))
@@ -129,7 +128,7 @@ pub(crate) fn leave_assigned(
     can_leave(draft, number, pos)?;
     let test = settled(alloc, view, built, value, Some(BOOL))?;
     if test.ty != Some(BOOL) {
-        return Err(refused(WRONG_TYPE, pos));
+        return Err(Rule::WrongType.at(pos).into());
     }
     Ok(StmtCore::Leave(number, Some(test.core)))
 }
@@ -137,13 +136,13 @@ pub(crate) fn leave_assigned(
 /// Whether a name with an argument leaves a loop here: it stands in one, no protect stands between, and it isn't `break!`.
 fn can_leave(draft: &Draft, number: u8, pos: Pos) -> Result<(), FrontFault> {
     if draft.place.loops == 0 {
-        return Err(refused(OUTSIDE_LOOP, pos));
+        return Err(Rule::IterOutsideLoop.at(pos).into());
     }
     if draft.place.guard > draft.place.loops {
-        return Err(refused(IN_PROTECT, pos));
+        return Err(Rule::NotAllowedInProtect.at(pos).into());
     }
     if number == BREAK {
-        return Err(refused(NONE_FITS, pos));
+        return Err(Rule::NoFeatureFits.at(pos).into());
     }
     Ok(())
 }

@@ -2,18 +2,15 @@
 #![tactic(auto)]
 
 mod assign;
-mod codes;
 mod copy;
 mod declare;
 mod draft;
 mod give;
 mod leave;
-mod nodes;
 mod simple;
 mod value;
 
 pub use declare::MOST_NODES;
 pub use draft::{Draft, OpenLoop, OpenProtect};
-pub use nodes::{expr_nodes, feature_nodes};
 pub use simple::simple_statement;
 pub use value::{entry, fitting, test, with_type};

@@ -1,10 +1,9 @@
 //! The expressions of a statement: those that want a type, and those that go to one.
 
-use crate::codes::{NO_CONTEXT, WRONG_TYPE, held, refused};
 use sa_check_expr::{Built, Place, ReadyExpr, Typed, View, is_sub, ready, typed, widened};
+use sa_check_program::BOOL;
 use sa_core::{ExprCore, StmtCore, TestCore};
-use sa_program::BOOL;
-use sa_tree::{Expr, FrontFault, NoMemory, Pos};
+use sa_tree::{Expr, FrontFault, NoMemory, Pos, Rule, held};
 use sqlite_items::Items;
 use std::alloc::Global;
 
@@ -29,7 +28,7 @@ pub(crate) fn untyped_value(
 pub fn with_type(value: ReadyExpr, form: Pos) -> Result<Typed, FrontFault> {
     match value {
         ReadyExpr::Typed(value, _at) => Ok(value),
-        _ => Err(refused(NO_CONTEXT, form)),
+        _ => Err(Rule::NoTypeFromContext.at(form).into()),
     }
 }
 
@@ -65,7 +64,7 @@ pub fn fitting(
 ) -> Result<ExprCore, FrontFault> {
     let from = held(value.ty)?;
     if !is_sub(view, built, from, to) {
-        return Err(refused(WRONG_TYPE, form));
+        return Err(Rule::WrongType.at(form).into());
     }
     Ok(widened(alloc, view, value.core, from, to, at)?)
 }

@@ -1,11 +1,10 @@
 //! `if`, with an entry for each `elsif`.
 
-use crate::codes::{WRONG_TYPE, refused};
 use crate::statement::statements;
 use sa_check_expr::{Built, View};
 use sa_check_simple::{Draft, entry, test};
 use sa_core::{StmtCore, TestCore};
-use sa_tree::{Arm, FrontFault, Pos};
+use sa_tree::{Arm, FrontFault, Pos, Rule};
 use sqlite_items::Items;
 use std::alloc::Global;
 
@@ -58,7 +57,7 @@ pub(crate) fn if_core(
     cores: &mut Items<StmtCore>,
 ) -> Result<(), FrontFault> {
     if !entries.are_bools {
-        return Err(refused(WRONG_TYPE, pos));
+        return Err(Rule::WrongType.at(pos).into());
     }
     cores.push(StmtCore::If(entries.list, rest))?;
     Ok(())

@@ -1,12 +1,11 @@
 //! `case`: the value is evaluated once, into a variable without a name, and compared by `is_eq` in order.
 
-use crate::codes::{WRONG_TYPE, held, refused};
 use crate::statement::statements;
 use sa_check_expr::{Built, ReadyArg, ReadyExpr, Receiver, Typed, View, call, ready, ready_all};
+use sa_check_program::{BOOL, OB};
 use sa_check_simple::{Draft, with_type};
 use sa_core::{ExprCore, StmtCore, TestCore};
-use sa_program::{BOOL, OB};
-use sa_tree::{CaseArm, Expr, FrontFault, NoMemory, Pos};
+use sa_tree::{CaseArm, Expr, FrontFault, NoMemory, Pos, Rule, held};
 use sqlite_items::Items;
 use std::alloc::Global;
 
@@ -194,7 +193,7 @@ fn comparison(
         true,
     )?;
     if test.ty != Some(BOOL) {
-        return Err(refused(WRONG_TYPE, pos));
+        return Err(Rule::WrongType.at(pos).into());
     }
     Ok(test.core)
 }

@@ -1,11 +1,10 @@
 //! Features: a routine or an iter with its body, and a shared with its initialiser.
 
-use crate::codes::{TOO_MANY_OUT, TOO_MANY_VARIABLES, held, refused};
 use crate::statement::statements;
 use sa_check_expr::{Built, View, position, typed, written};
 use sa_check_simple::{Draft, fitting};
 use sa_core::{ExprCore, FeatureCore, SharedCore, StmtCore};
-use sa_tree::{Expr, Feature, Formal, FrontFault, Mode, Part, Pos, Stmt};
+use sa_tree::{Expr, Feature, Formal, FrontFault, Mode, Part, Pos, Rule, Stmt, held};
 use sqlite_items::Items;
 use std::alloc::Global;
 use std::mem;
@@ -144,10 +143,10 @@ fn formals(
 /// Whether the feature has no more `out` arguments and variables than it may have.
 fn within_limits(draft: &Draft, modes: &[Mode], name: Pos) -> Result<(), FrontFault> {
     if out_arguments(modes) > MOST_OUT {
-        return Err(refused(TOO_MANY_OUT, name));
+        return Err(Rule::TooManyOutArguments.at(name).into());
     }
     if draft.vars.len() > MOST_VARIABLES {
-        return Err(refused(TOO_MANY_VARIABLES, name));
+        return Err(Rule::TooManyVariables.at(name).into());
     }
     Ok(())
 }

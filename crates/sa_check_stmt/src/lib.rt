@@ -3,7 +3,6 @@
 
 mod block;
 mod case;
-mod codes;
 mod features;
 mod protect;
 mod public;
@@ -12,4 +11,3 @@ mod typecase;
 
 pub use features::{body, shared_body};
 pub use public::body_core;
-pub use sa_check_simple::{expr_nodes, feature_nodes};

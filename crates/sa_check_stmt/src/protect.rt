@@ -1,11 +1,10 @@
 //! `protect`: its statements, and the branches for what they raise.
 
-use crate::codes::held;
 use crate::statement::statements;
 use sa_check_expr::{Built, View, written};
 use sa_check_simple::Draft;
 use sa_core::ArmCore;
-use sa_tree::{FrontFault, TypeArm};
+use sa_tree::{FrontFault, TypeArm, held};
 use sqlite_items::Items;
 use std::alloc::Global;
 

@@ -1,15 +1,14 @@
 //! The public call: the scope of a feature in types, made into numbers.
 
-use crate::codes::held;
 use crate::features::body;
 use indexmap::IndexMap;
+use sa_check_conformance::Signatures;
+use sa_check_constants::ConstTable;
 use sa_check_expr::{Built, Made, Scope, View};
-use sa_check_simple::{MOST_NODES, feature_nodes};
-use sa_conformance::Signatures;
-use sa_const::ConstTable;
-use sa_core::FeatureCore;
-use sa_program::Program;
-use sa_tree::{Feature, FrontFault, NoMemory, Ty};
+use sa_check_program::Program;
+use sa_check_simple::MOST_NODES;
+use sa_core::{FeatureCore, feature_nodes};
+use sa_tree::{Feature, FrontFault, NoMemory, Ty, held};
 use sqlite_items::Items;
 use std::alloc::Global;
 

@@ -1,11 +1,10 @@
 //! `typecase`: in each branch the tested variable is another one, of a narrower type.
 
-use crate::codes::{NARROWED, held, refused};
 use crate::statement::statements;
 use sa_check_expr::{Built, Variable, View, is_sub, written};
 use sa_check_simple::Draft;
 use sa_core::ArmCore;
-use sa_tree::{FrontFault, Name, NoMemory, Pos, TypeArm};
+use sa_tree::{FrontFault, Name, NoMemory, Pos, Rule, TypeArm, held};
 use sqlite_items::Items;
 use std::alloc::Global;
 
@@ -16,7 +15,7 @@ pub(crate) fn tested_variable(
     pos: Pos,
 ) -> Result<Variable, FrontFault> {
     match draft.seen(name) {
-        None => Err(refused(NARROWED, pos)),
+        None => Err(Rule::TypecaseVariable.at(pos).into()),
         Some(tested) => Ok(tested),
     }
 }

@@ -1,7 +1,6 @@
 //! The lines of many positions: the line feeds of each text are found once.
 
-use sa_flat::held;
-use sa_tree::{NoMemory, Pos};
+use sa_tree::{NoMemory, Pos, held};
 use sqlite_items::Items;
 use std::alloc::Global;
 

@@ -1,10 +1,9 @@
 -- The nodes of a feature: the statements of its body, the branches of its typecases and protects, and its expressions, those
--- inside others included.
-use Rattle.std.specs.Prelude.{ℕ, ◌+◌, Option, Some, None, min, slice_get}
-use Rattle.std.specs.Option.{option_map_or}
+-- inside others included. Those of a shared are the expressions of its initialiser.
+use Rattle.std.specs.Prelude.{ℕ, ◌+◌, Option, Some, None, min}
 use Rattle.sa_core.specs.declared.feature.FeatureCore.{FeatureCore}
-use Rattle.sa_core.specs.declared.program.Core.{Core}
-use Rattle.sa_core.specs.Copy.{block_of}
+use Rattle.sa_core.specs.declared.program.SharedCore.{SharedCore}
+use Rattle.sa_core.specs.Copy.{block_of, option_expr_of}
 use Rattle.sa_core.specs.Tree.{Expr, IsVoid, NewArray, Elements, Call, IterCall, Bind, Swapped, And, Or, Widen, Exprs, no_exprs, expr, Arg, Value, Args, no_args, arg}
 use Rattle.sa_core.specs.Tree.{Stmt, Let, Do, If, Loop, Leave, TypeCase, Protect, Return, Yield, Raise, Stmts, no_stmts, stmt, Tests, no_tests, branch, Arms, no_arms, arm, Else, no_else, otherwise}
 
@@ -73,9 +72,9 @@ abbrev mutual
 abbrev pub feature_nodes : FeatureCore → ℕ
 feature_nodes f = stmts_nodes (block_of f.body)
 
--- the same of the feature with a number, which is 0 where there is no such feature
-abbrev pub nodes_at : Core → ℕ → ℕ
-nodes_at core feature = option_map_or feature_nodes (slice_get core.features feature) 0
+-- the nodes of a shared's initialiser
+abbrev pub shared_nodes : SharedCore → ℕ
+shared_nodes s = option_expr_nodes (option_expr_of s.start)
 
 -- a number that 32 bits hold, or the greatest of these
 abbrev pub capped : ℕ → ℕ

@@ -1,21 +1,34 @@
-//! How many nodes a feature has: the statements of its body, the branches of its typecases and protects, and its
-//! expressions, those inside others included. A count that 32 bits don't hold is told as the greatest number that they do.
+//! How many nodes a feature, a shared or an expression has: statements, branches of typecases and protects, and expressions,
+//! those inside others included. A count that 32 bits don't hold is told as the greatest number that they do.
 
-ghost use Rattle.std.specs.Prelude.{◌≡◌, ◌+◌, ◌<◌, length};
+ghost use Rattle.std.specs.Prelude.{◌≡◌, ◌+◌};
 ghost use Rattle.sa_core.specs.Copy.{arg_of, args_of, arm_of, arms_of, block_of, expr_of, exprs_of, option_expr_of, stmt_of, test_of, tests_of};
-ghost use Rattle.sa_core.specs.Nodes.{arg_nodes, args_nodes, arms_nodes, capped, expr_nodes, exprs_nodes, nodes_at, option_expr_nodes, stmt_nodes, stmts_nodes, tests_nodes};
+ghost use Rattle.sa_core.specs.Nodes.{arg_nodes, args_nodes, arms_nodes, capped, expr_nodes, exprs_nodes, feature_nodes, option_expr_nodes, shared_nodes, stmt_nodes, stmts_nodes, tests_nodes};
 
 use crate::expr::{ArgCore, ExprCore};
-use crate::program::Core;
+use crate::feature::FeatureCore;
+use crate::program::SharedCore;
 use crate::stmt::{ArmCore, StmtCore, TestCore};
 
-/// The number of nodes of a feature, or 4294967295 where there are more.
-pub fn nodes(core: &Core, feature: u32) -> u32
-    requires { feature < length core.now.features }
-    ensures { result ≡ capped (nodes_at core.now feature) }
+/// The number of nodes of a feature's body, or 4294967295 where there are more.
+pub fn feature_nodes(feature: &FeatureCore) -> u32
+    ensures { result ≡ capped (feature_nodes feature.now) }
 {
-    let feature = &core.features.as_slice()[feature as usize];
     count_stmts(0, feature.body.as_slice())
+}
+
+/// The number of nodes of a shared's initialiser, or 4294967295 where there are more; 0 where it has none.
+pub fn shared_nodes(shared: &SharedCore) -> u32
+    ensures { result ≡ capped (shared_nodes shared.now) }
+{
+    count_option_expr(0, &shared.start)
+}
+
+/// The number of nodes of an expression, itself among them, or 4294967295 where there are more.
+pub fn expr_nodes(expr: &ExprCore) -> u32
+    ensures { result ≡ capped (expr_nodes (expr_of expr.now)) }
+{
+    count_expr(0, expr)
 }
 
 /// One more.

@@ -9,7 +9,7 @@ mod places;
 mod program;
 mod stmt;
 
-pub use count::nodes;
+pub use count::{expr_nodes, feature_nodes, shared_nodes};
 pub use expr::{ArgCore, ExprCore};
 pub use feature::{CalledCore, FeatureCore, SiteCore, Target};
 pub use places::positions;

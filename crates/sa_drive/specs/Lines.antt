@@ -5,7 +5,8 @@ use Rattle.sa_tree.specs.declared.pos.Sources.{Sources}
 use Rattle.sa_tree.specs.Sources.{text_of}
 use Rattle.std.specs.Prelude.{Option, None, Some}
 use Rattle.sa_drive.specs.declared.outcome.Outcome.{Outcome}
-use Rattle.sa_drive.specs.Texts.{refusal_text, fault_text}
+use Rattle.sa_tree.specs.Rules.{rule_text}
+use Rattle.sa_drive.specs.Texts.{fault_text}
 use Rattle.sa_drive.specs.declared.cause.Cause.{Cause}
 use Rattle.sa_drive.specs.declared.cause.Cause.TheVariants.{Done, Refused, Fault, Stopped, Spent, StoreFault, InFault, OutFault, Usage, Malformed, Invalid, Unlinked, Segment, Trap, TooDeep, NotListing, NoMemory}
 
@@ -32,7 +33,7 @@ listing_line file line = file ++ codes ":" ++ decimal line ++ codes ": no listin
 -- the line of a cause, where these are the program's texts, and this is the file of the module or the listing
 abbrev pub line_of_cause : Sources → List ℕ → Cause → List ℕ
 line_of_cause sources file Done = []
-line_of_cause sources file (Refused refusal) = about_place sources refusal.pos (refusal_text refusal.code)
+line_of_cause sources file (Refused refusal) = about_place sources refusal.pos (rule_text refusal.rule)
 line_of_cause sources file (Fault kind pos) = about_place sources pos (codes "fault: " ++ fault_text kind)
 line_of_cause sources file (Stopped code site) = stop_line file code site
 line_of_cause sources file (Spent steps) = codes "fuel spent\n"

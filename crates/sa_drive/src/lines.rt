@@ -5,7 +5,7 @@ ghost use Rattle.sa_drive.specs.Lines.{about_place, about_file, stop_line, listi
 
 use crate::cause::Cause;
 use crate::outcome::Outcome;
-use crate::texts::{fault_text, refusal_text};
+use crate::texts::fault_text;
 use itoa::Buffer;
 use sa_tree::{Pos, Sources, line_of};
 use std::alloc::{AllocError, Global};
@@ -43,13 +43,9 @@ fn line(alloc: Global, sources: &Sources, file: &str, cause: &Cause) -> Result<V
 {
     match cause {
         Cause::Done => Ok(Vec::new(alloc)),
-        Cause::Refused(refusal) => about_place(
-            alloc,
-            sources,
-            refusal.pos,
-            "",
-            refusal_text(refusal.code),
-        ),
+        Cause::Refused(refusal) => {
+            about_place(alloc, sources, refusal.pos, "", refusal.rule.text())
+        }
         Cause::Fault(kind, pos) => about_place(alloc, sources, *pos, "fault: ", fault_text(*kind)),
         Cause::Stopped(code, site) => stop_line(alloc, file, *code, *site),
         Cause::Spent(_) => Vec::from_slice(alloc, b"fuel spent\n"),

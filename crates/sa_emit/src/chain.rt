@@ -1,9 +1,9 @@
 //! The code of a head: of its block, and of the blocks behind it up to jumps to heads and to exits that leave the body.
 
 use crate::heads::DEEPEST;
-use crate::held::{held, sum};
+use crate::sums::sum;
 use sa_emit_step::{add_leaving, add_step};
-use sa_emit_value::{Around, NOT_A_HEAD, add_jump, local_of};
+use sa_emit_value::{Around, NOT_A_HEAD, add_jump, held, local_of};
 use sa_flat::{FlatExit, FlatStep};
 use sqlite_items::Items;
 use std::alloc::Global;

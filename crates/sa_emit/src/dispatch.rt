@@ -2,8 +2,8 @@
 //! up to eight parts. A choice of level 0 is between heads, one of level `n` between runs of `8^n` heads.
 
 use crate::chain::{add_head, add_repeating};
-use crate::held::{held, number, sum};
-use sa_emit_value::{Around, BLOCK};
+use crate::sums::{number, sum};
+use sa_emit_value::{Around, BLOCK, held};
 use sqlite_items::Items;
 use std::alloc::Global;
 use wa_syntax::{Instr, NoMemory, opcode};

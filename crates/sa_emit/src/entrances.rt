@@ -1,7 +1,6 @@
 //! What leads to each block of a body: exits, raises and resumptions, of the blocks alone that can be reached from the first.
 
-use crate::held::held;
-use sa_emit_value::leaves;
+use sa_emit_value::{held, leaves};
 use sa_flat::{FlatBlock, FlatBody, FlatExit, FlatStep, Raised};
 use sqlite_items::Items;
 use std::alloc::Global;

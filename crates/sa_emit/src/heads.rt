@@ -2,8 +2,8 @@
 //! leads to it.
 
 use crate::entrances::Entrance;
-use crate::held::{held, number};
-use sa_emit_value::NOT_A_HEAD;
+use crate::sums::number;
+use sa_emit_value::{NOT_A_HEAD, held};
 use sa_flat::{FlatBody, FlatExit};
 use sqlite_items::Items;
 use std::alloc::Global;

@@ -1,7 +1,7 @@
 //! The linear memory: where the binds, the pool of frames, the literal texts and the objects lie, and how many pages there are.
 
-use crate::held::held;
 use crate::pool::pool_bytes;
+use sa_emit_value::held;
 use sa_flat::{BindEntry, FlatProgram};
 use sa_runtime::layout::{OPEN_AT, SHAREDS_AT};
 use sa_tree::Name;

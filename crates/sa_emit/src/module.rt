@@ -3,13 +3,14 @@
 use crate::entry::main_function;
 use crate::function::{Common, add_bodies};
 use crate::globals::globals;
-use crate::held::{held, number, sum};
 use crate::memory::Memory;
 use crate::places::Places;
 use crate::pool::{add_pool, first_frame};
+use crate::sums::{number, sum};
 use crate::table::{elements, tables};
 use crate::texts::segments;
 use crate::types::{GET_TYPE, PUT_TYPE, STOP_TYPE, own_types};
+use sa_emit_value::held;
 use sa_runtime::layout::FIRST_BODY;
 use sa_runtime::{RuntimeCode, code, frames, support};
 use sqlite_items::Items;

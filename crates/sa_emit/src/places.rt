@@ -1,9 +1,9 @@
 //! The bodies that bound values call, and their places in the table of functions, behind those of the implementations that have
 //! a place by their signature.
 
-use crate::held::{held, number, sum};
+use crate::sums::{number, sum};
 use sa_dispatch::Rows;
-use sa_emit_value::NOT_PLACED;
+use sa_emit_value::{NOT_PLACED, held};
 use sa_flat::{Callee, FlatProgram};
 use sqlite_items::Items;
 use std::alloc::Global;

@@ -1,8 +1,9 @@
 //! The pool of frames: how large a frame and the pool are, and the two functions of the module that take frames and give them
 //! back.
 
-use crate::held::{held, number, sum};
+use crate::sums::{number, sum};
 use crate::types::{GET_TYPE, PUT_TYPE};
+use sa_emit_value::held;
 use sa_flat::{FlatBody, FlatProgram};
 use sa_pool::{PoolCode, code};
 use sa_runtime::layout::FRAME_WORDS;

@@ -1,11 +1,11 @@
 //! A flat program as a module, with what its reader has to know of it.
 
 use crate::function::Common;
-use crate::held::{number, sum};
 use crate::memory::memory_of;
 use crate::module::module;
 use crate::places::places_of;
 use crate::pool::{slot_bytes, slot_words};
+use crate::sums::{number, sum};
 use sa_dispatch::Rows;
 use sa_emit_value::Below;
 use sa_flat::FlatProgram;

@@ -1,9 +1,10 @@
 //! The table of functions that dispatched calls and calls of bound values go through: for each implementation of a signature with
 //! a span the function that does it, and behind them the functions of the other bodies that bound values call.
 
-use crate::held::{held, number, sum};
 use crate::places::Places;
+use crate::sums::{number, sum};
 use sa_dispatch::Rows;
+use sa_emit_value::held;
 use sa_flat::FlatProgram;
 use sa_runtime::layout::FIRST_BODY;
 use sqlite_items::Items;

@@ -1,6 +1,6 @@
 //! The literal texts as they lie in memory when a program begins: one segment, with a text object for each.
 
-use crate::held::number;
+use crate::sums::number;
 use sa_flat::FlatProgram;
 use sa_runtime::layout::{STR, TEXT, header};
 use sa_tree::Name;

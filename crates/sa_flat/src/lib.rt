@@ -4,12 +4,10 @@
 
 mod body;
 mod call;
-mod missing;
 mod program;
 mod step;
 
 pub use body::{FIRST_TEMPORARY, FlatBlock, FlatBody, FlatFormal, LEAVING_BLOCK};
 pub use call::{CallPlan, Callee, Fail, FlatArg, Raised};
-pub use missing::held;
 pub use program::{BindEntry, FlatProgram, Layout};
 pub use step::{FlatConst, FlatExit, FlatStep};

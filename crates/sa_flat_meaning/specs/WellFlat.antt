@@ -14,7 +14,7 @@ use Rattle.sa_flat.specs.declared.program.FlatProgram.{FlatProgram}
 use Rattle.sa_flat.specs.declared.program.Layout.{Layout}
 use Rattle.sa_flat.specs.declared.step.FlatStep.{FlatStep}
 use Rattle.sa_flat.specs.declared.step.FlatStep.TheVariants.{Call, Start, Resume, Enter}
-use Rattle.sa_live.specs.Kept.{resume_of, IsLive, IsKept}
+use Rattle.sa_lower_live.specs.Kept.{resume_of, IsLive, IsKept}
 use Rattle.sa_meaning.specs.Value.{bool_type, int_type, char_type, str_type, fault_type}
 use Rattle.sa_flat_meaning.specs.Calls.{width}
 use Rattle.sa_flat_meaning.specs.Faults.{hands_on}

@@ -1,7 +1,7 @@
 -- What a class without its includes has of the class as it is written.
 use Rattle.std.specs.Prelude.{◌≡◌, ◌⊎◌, IsTrue, List, [], map, Option}
 use Rattle.std.specs.List.{All, AllZip, Contains}
-use Rattle.sa_conflicts.specs.Stub.{is_stub_part}
+use Rattle.sa_include_conflicts.specs.Stub.{is_stub_part}
 use Rattle.sa_tree.specs.declared.class.Access.{Access}
 use Rattle.sa_tree.specs.declared.class.Class.{Class}
 use Rattle.sa_tree.specs.declared.class.Feature.{Feature}

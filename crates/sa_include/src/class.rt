@@ -4,18 +4,13 @@
 use crate::clause::{Gathered, gather};
 use crate::resolved::{Flattened, Program};
 use crate::substitute::Maker;
-use sa_conflicts::{
+use sa_graph::entry;
+use sa_include_conflicts::{
     ClassFeatures, Conflicts, first_conflict, group_features, is_set, item, staying, stub_left,
 };
-use sa_graph::entry;
-use sa_tree::{Class, Feature, Kind, NoMemory, Pos, Refusal, Ty};
+use sa_tree::{Class, Feature, Kind, NoMemory, Pos, Refusal, Rule, Ty};
 use sqlite_items::Items;
 use std::alloc::{AllocError, Global};
-
-/// Two features that a class writes conflict.
-const CONFLICT: u8 = 11;
-/// Two features that includes bring conflict.
-const INCLUDED_CONFLICT: u8 = 17;
 
 /// The features of the class with this number, whose included classes are resolved.
 pub(crate) fn flatten_class(
@@ -85,10 +80,7 @@ fn written_refused(
         return Ok(None);
     };
     let pos = features.at(place)?.name.pos;
-    Ok(Some(Refusal {
-        code: CONFLICT,
-        pos,
-    }))
+    Ok(Some(Rule::FeaturesConflict.at(pos)))
 }
 
 /// The first include clause that is refused: the one that brings the first brought feature that conflicts with an earlier
@@ -114,10 +106,7 @@ fn clause_refused(class: &Class, clause: Option<usize>) -> Result<Option<Refusal
         return Ok(None);
     };
     let include = item(class.includes.as_slice(), clause)?;
-    Ok(Some(Refusal {
-        code: INCLUDED_CONFLICT,
-        pos: pos_of(&include.ty),
-    }))
+    Ok(Some(Rule::IncludedFeaturesConflict.at(pos_of(&include.ty))))
 }
 
 fn pos_of(ty: &Ty) -> Pos {

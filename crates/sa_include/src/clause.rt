@@ -3,8 +3,8 @@
 use crate::renamed::{Renaming, access_after, name_after};
 use crate::resolved::{Flattened, Program};
 use crate::substitute::{Included, Maker, Renamed, TypeArguments};
-use sa_conflicts::{is_set, item};
-use sa_tree::{Class, Feature, Include, NoMemory, Refusal, Ty};
+use sa_include_conflicts::{is_set, item};
+use sa_tree::{Class, Feature, Include, NoMemory, Refusal, Ty, held};
 use std::alloc::Global;
 
 /// What the include clauses of a class bring, before anything is replaced.
@@ -36,7 +36,7 @@ pub(crate) fn gather<'a>(
     };
     let same = Ty::Same(class.name.pos);
     for (place, include) in class.includes.as_slice().iter().enumerate() {
-        let included = program.includes.included(number, place).ok_or(NoMemory)?;
+        let included = held(program.includes.included(number, place))?;
         let source = source_of(program, resolved, included)?;
         bring_clause(alloc, &source, include, place, &same, maker, &mut gathered)?;
     }

@@ -9,9 +9,9 @@ use crate::resolved::{Flattened, Program};
 use crate::substitute::{Maker, is_open};
 use crate::weights::Weights;
 use crate::whole::whole_class;
-use sa_conflicts::item;
-use sa_names::Includes;
-use sa_tree::{Class, Feature, Flat, FrontFault, NoMemory, Pos, Ty};
+use sa_include_conflicts::item;
+use sa_include_names::Includes;
+use sa_tree::{Class, Feature, Flat, FrontFault, NoMemory, Pos, Ty, held};
 use sa_types::Substitution;
 use sqlite_items::Items;
 use std::alloc::Global;
@@ -90,7 +90,7 @@ fn unresolved(alloc: Global, classes: usize) -> Result<Vec<Flattened>, NoMemory>
 
 /// Puts a class at its place, which is there.
 fn keep(resolved: &mut [Flattened], at: usize, flattened: Flattened) -> Result<(), NoMemory> {
-    let place = resolved.get_mut(at).ok_or(NoMemory)?;
+    let place = held(resolved.get_mut(at))?;
     *place = flattened;
     Ok(())
 }

@@ -2,13 +2,10 @@
 //! clause brings, and its two names are both those of iters or neither is (else E16).
 
 use indexmap::IndexMap;
-use sa_conflicts::is_set;
 use sa_graph::put;
-use sa_tree::{Access, Change, Include, Name, NoMemory, Refusal};
+use sa_include_conflicts::is_set;
+use sa_tree::{Access, Change, Include, Name, NoMemory, Refusal, Rule};
 use std::alloc::{AllocError, Global};
-
-/// A change names a feature that the include doesn't bring.
-const NOT_INCLUDED: u8 = 16;
 
 /// The changes of an include clause, found by the names that they change.
 #[derive(Drop)]
@@ -56,10 +53,7 @@ impl Renaming {
     pub(crate) fn refused(&self, changes: &[Change]) -> Option<Refusal> {
         for change in changes {
             if !self.is_met(&change.from.name) || !keeps_the_kind(change) {
-                return Some(Refusal {
-                    code: NOT_INCLUDED,
-                    pos: change.from.pos,
-                });
+                return Some(Rule::NoSuchIncludedFeature.at(change.from.pos));
             }
         }
         None

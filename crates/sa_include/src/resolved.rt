@@ -1,6 +1,6 @@
 //! The classes of a program while their includes are gone through.
 
-use sa_names::Includes;
+use sa_include_names::Includes;
 use sa_tree::{Class, Feature, Refusal};
 use sqlite_items::Items;
 use std::alloc::Global;

@@ -3,12 +3,12 @@
 
 ghost use Rattle.std.specs.Prelude.{◌≡◌, IfOk, IsTrue};
 ghost use Rattle.std.specs.List.{All};
-ghost use Rattle.sa_conflicts.specs.Stub.{is_stub_part};
+ghost use Rattle.sa_include_conflicts.specs.Stub.{is_stub_part};
 ghost use Rattle.sa_include.specs.Flattened.{IsFlattened, Wins, head_of};
 
 use crate::resolved::Flattened;
 use crate::substitute::subst_part;
-use sa_conflicts::{is_set, is_stub};
+use sa_include_conflicts::{is_set, is_stub};
 use sa_tree::{Class, Feature, Formal, Local, NoMemory, Param, Ty};
 use sa_types::Substitution;
 use sqlite_items::Items;

@@ -2,7 +2,7 @@
 use Rattle.std.proofs.Common.{◌≡◌, ℕ, zero, suc, ◌+◌, ◌-◌, ◌<◌, ◌≤◌, List, [], ◌∷◌, ◌++◌, length, drop, get_or, Option, Some, None, Result, Ok, Err, refl, sym, ap, ◌∙◌, append_assoc, arith}
 use Rattle.std.proofs.lemmas.List.{append-nil, drop-drop, at_drop_more}
 use Rattle.std.proofs.Math.ListN.{drop_of_length-le}
-use Rattle.sa_lex.specs.declared.found.TheConstants.{LITERAL_NOT_ENDED}
+use Rattle.sa_tree.specs.declared.rule.Rule.TheVariants as rule
 use Rattle.sa_lex.specs.declared.literal.Item.{Item}
 use Rattle.sa_lex.specs.Literal.{item_at, items_from, behind, bytes_of, character_of, character_of_byte}
 
@@ -25,13 +25,13 @@ character_of-one len item (b ∷ bs) is more le =
     let whole : length bs ≤ (item_at b bs).len - 1 = omega (arith, ap (λ (i : Item). i.len) is) in
     rw (is, items_from-none ((item_at b bs).len - 1) bs whole) refl
 
-character_of-rest : (len n : ℕ) (item : Item) (bs : List ℕ) → n < length bs → character_of len (item ∷ items_from n bs) ≡ Err (record { code = LITERAL_NOT_ENDED; offset = 0 })
+character_of-rest : (len n : ℕ) (item : Item) (bs : List ℕ) → n < length bs → character_of len (item ∷ items_from n bs) ≡ Err (record { rule = rule.LiteralNotEnded; offset = 0 })
 character_of-rest len n item [] h = absurd (omega arith)
 character_of-rest len zero item (b ∷ bs) h = refl
 character_of-rest len (suc n) item (b ∷ bs) h = character_of-rest len n item bs (omega arith)
 
 -- a character with more than one item inside
-pub character_of-more : (len : ℕ) (item : Item) (inside : List ℕ) → item ≡ item_at (get_or inside 0 0) (drop 1 inside) → 0 < item.len → item.len < length inside → character_of len (items_from 0 inside) ≡ Err (record { code = LITERAL_NOT_ENDED; offset = 0 })
+pub character_of-more : (len : ℕ) (item : Item) (inside : List ℕ) → item ≡ item_at (get_or inside 0 0) (drop 1 inside) → 0 < item.len → item.len < length inside → character_of len (items_from 0 inside) ≡ Err (record { rule = rule.LiteralNotEnded; offset = 0 })
 character_of-more len item [] is positive lt = absurd (omega arith)
 character_of-more len item (b ∷ bs) is positive lt =
     character_of-rest len ((item_at b bs).len - 1) (item_at b bs) bs (omega (arith, ap (λ (i : Item). i.len) is))

@@ -84,14 +84,14 @@ not_both text ts refusal p q = list_or_fault text 0 refusal ts q.tokens p.follow
 
 -- two refusals that name the same rule at the same byte
 pub record IsSameFault (r s : Refusal) : Type 0 where
-  pub code : r.code ≡ s.code
+  pub rule : r.rule ≡ s.rule
   pub at : r.pos.at ≡ s.pos.at
 
 faults : (text : List ℕ) (place : ℕ) (r s : Refusal) (ts us : List Token) → Follow text place ts → Follow text place us → BreaksAt text (gap_end text (end_of place ts)) r → BreaksAt text (gap_end text (end_of place us)) s → IsSameFault r s
 faults text place r s [] [] f g b d =
     let same = err_same _ _ (sym b.fault ∙ d.fault) in
     let offsets = ap (λ (fault : Fault). fault.offset) same in
-    record { code = ap (λ (fault : Fault). fault.code) same; at = omega (arith, offsets, b.behind, d.behind) }
+    record { rule = ap (λ (fault : Fault). fault.rule) same; at = omega (arith, offsets, b.behind, d.behind) }
 faults text place r s [] (u ∷ us) f g b d = absurd (not_broken text (gap_end text place) u r g.0 b)
 faults text place r s (t ∷ ts) [] f g b d = absurd (not_broken text (gap_end text place) t s f.0 d)
 faults text place r s (t ∷ ts) (u ∷ us) f g b d =

@@ -3,7 +3,7 @@ use Rattle.std.specs.Prelude.{ℕ, ◌==◌, List, [], ◌∷◌, Result, Ok, Er
 use Rattle.std.specs.Char.{is_ascii_alphabetic, is_ascii_digit}
 use Rattle.sa_lex.specs.declared.found.Found.{Found}
 use Rattle.sa_lex.specs.declared.found.Fault.{Fault}
-use Rattle.sa_lex.specs.declared.found.TheConstants.{BAD_BYTE}
+use Rattle.sa_tree.specs.declared.rule.Rule.TheVariants as rule
 use Rattle.sa_lex.specs.Name.{name_token, abstract_token}
 use Rattle.sa_lex.specs.Number.{number_token}
 use Rattle.sa_lex.specs.Literal.{character_token, text_token}
@@ -11,7 +11,7 @@ use Rattle.sa_lex.specs.Sign.{sign_token}
 
 -- the longest token at the front, or why there is none. Its first byte tells its kind
 unfoldable pub front_of : List ℕ → Result Found Fault
-front_of [] = Err (record { code = BAD_BYTE; offset = 0 })
+front_of [] = Err (record { rule = rule.BadByte; offset = 0 })
 front_of (b ∷ bs) =
     if is_ascii_alphabetic b then Ok (name_token (b ∷ bs))
     else (if is_ascii_digit b then number_token (b ∷ bs)

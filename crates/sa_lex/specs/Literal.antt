@@ -5,7 +5,7 @@ use Rattle.std.specs.Char.{is_digit}
 use Rattle.sa_lex.specs.declared.token.TokenKind.TheVariants.{Char, Text}
 use Rattle.sa_lex.specs.declared.found.Found.{Found}
 use Rattle.sa_lex.specs.declared.found.Fault.{Fault}
-use Rattle.sa_lex.specs.declared.found.TheConstants.{LITERAL_NOT_ENDED, UNKNOWN_ESCAPE}
+use Rattle.sa_tree.specs.declared.rule.Rule.TheVariants as rule
 use Rattle.sa_lex.specs.Number.{value_of}
 use Rattle.sa_lex.specs.declared.literal.Item.{Item}
 
@@ -57,18 +57,18 @@ items_from zero (b ∷ bs) = let item = item_at b bs in item ∷ items_from (ite
 -- a character of the byte that its item stands for
 abbrev pub character_of_byte : ℕ → Option ℕ → Result Found Fault
 character_of_byte len (Some b) = Ok (record { kind = Char b; len = len })
-character_of_byte len None = Err (record { code = UNKNOWN_ESCAPE; offset = 1 })
+character_of_byte len None = Err (record { rule = rule.UnknownEscape; offset = 1 })
 
 -- a character has exactly one item inside
 abbrev pub character_of : ℕ → List Item → Result Found Fault
-character_of len [] = Err (record { code = LITERAL_NOT_ENDED; offset = 0 })
+character_of len [] = Err (record { rule = rule.LiteralNotEnded; offset = 0 })
 character_of len (item ∷ []) = character_of_byte len item.byte
-character_of len (item ∷ other ∷ items) = Err (record { code = LITERAL_NOT_ENDED; offset = 0 })
+character_of len (item ∷ other ∷ items) = Err (record { rule = rule.LiteralNotEnded; offset = 0 })
 
 -- the character with so many bytes inside, if it is closed
 abbrev pub character_up_to : List ℕ → Option ℕ → Result Found Fault
 character_up_to bs (Some n) = character_of (n + 2) (items_from 0 (take n bs))
-character_up_to bs None = Err (record { code = LITERAL_NOT_ENDED; offset = 0 })
+character_up_to bs None = Err (record { rule = rule.LiteralNotEnded; offset = 0 })
 
 -- the character of an opening quote that these bytes follow
 unfoldable pub character_token : List ℕ → Result Found Fault
@@ -88,12 +88,12 @@ bytes_of (item ∷ items) = behind item item.byte (bytes_of items)
 -- a text of these bytes, or the fault of its escape: the opening quote stands before them
 abbrev pub text_of : ℕ → Result (List ℕ) ℕ → Result Found Fault
 text_of len (Ok bytes) = Ok (record { kind = Text bytes; len = len })
-text_of len (Err n) = Err (record { code = UNKNOWN_ESCAPE; offset = 1 + n })
+text_of len (Err n) = Err (record { rule = rule.UnknownEscape; offset = 1 + n })
 
 -- the text with so many bytes inside, if it is closed
 abbrev pub text_up_to : List ℕ → Option ℕ → Result Found Fault
 text_up_to bs (Some n) = text_of (n + 2) (bytes_of (items_from 0 (take n bs)))
-text_up_to bs None = Err (record { code = LITERAL_NOT_ENDED; offset = 0 })
+text_up_to bs None = Err (record { rule = rule.LiteralNotEnded; offset = 0 })
 
 -- the text of an opening quote that these bytes follow
 unfoldable pub text_token : List ℕ → Result Found Fault

@@ -8,7 +8,7 @@ use Rattle.sa_lex.specs.declared.token.TokenKind.{TokenKind}
 use Rattle.sa_lex.specs.declared.token.TokenKind.TheVariants.{Word, ClassName, AbstractName, Lower, IterName}
 use Rattle.sa_lex.specs.declared.found.Found.{Found}
 use Rattle.sa_lex.specs.declared.found.Fault.{Fault}
-use Rattle.sa_lex.specs.declared.found.TheConstants.{BAD_BYTE}
+use Rattle.sa_tree.specs.declared.rule.Rule.TheVariants as rule
 
 -- the words, and behind them those that the profile refuses
 abbrev pub words : List (List ℕ)
@@ -63,4 +63,4 @@ abstract_token bs =
     let name = class_name_at bs in
     if nat_lt 0 (length name)
     then Ok (record { kind = AbstractName; len = 1 + length name })
-    else Err (record { code = BAD_BYTE; offset = 0 })
+    else Err (record { rule = rule.BadByte; offset = 0 })

@@ -5,7 +5,7 @@ use Rattle.std.specs.Char.{digit_value, is_digit, is_ascii_alphanumeric}
 use Rattle.sa_lex.specs.declared.token.TokenKind.TheVariants.{Int}
 use Rattle.sa_lex.specs.declared.found.Found.{Found}
 use Rattle.sa_lex.specs.declared.found.Fault.{Fault}
-use Rattle.sa_lex.specs.declared.found.TheConstants.{NUMBER_TOO_LARGE, NUMBER_FORM}
+use Rattle.sa_tree.specs.declared.rule.Rule.TheVariants as rule
 
 -- the base that the prefix tells: `0x`, `0o`, `0b`, or none for decimal digits
 abbrev pub base_of : List ℕ → ℕ
@@ -40,8 +40,8 @@ goes_on (b ∷ bs) = is_ascii_alphanumeric b || (b == 0x2E && begins_with_digit 
 -- a number of this value and length, behind which these bytes stand. A value that is too large is told first
 abbrev pub number_of : ℕ → ℕ → List ℕ → Result Found Fault
 number_of value len rest =
-    if nat_le (2 ^ 31) value then Err (record { code = NUMBER_TOO_LARGE; offset = 0 })
-    else (if goes_on rest then Err (record { code = NUMBER_FORM; offset = 0 })
+    if nat_le (2 ^ 31) value then Err (record { rule = rule.NumberTooLarge; offset = 0 })
+    else (if goes_on rest then Err (record { rule = rule.NumberForm; offset = 0 })
     else Ok (record { kind = Int value; len = len }))
 
 -- the number at the front
@@ -52,4 +52,4 @@ number_token bs =
     let n = prefix_len (is_digit_or_underscore base) body in
     if begins_with_digit base body
     then number_of (value_of base (take n body)) (prefix_size base + n) (drop n body)
-    else Err (record { code = NUMBER_FORM; offset = 0 })
+    else Err (record { rule = rule.NumberForm; offset = 0 })

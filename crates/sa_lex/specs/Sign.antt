@@ -5,7 +5,7 @@ use Rattle.std.specs.List.{starts_with}
 use Rattle.sa_lex.specs.declared.token.TokenKind.TheVariants.{Sign}
 use Rattle.sa_lex.specs.declared.found.Found.{Found}
 use Rattle.sa_lex.specs.declared.found.Fault.{Fault}
-use Rattle.sa_lex.specs.declared.found.TheConstants.{BAD_BYTE}
+use Rattle.sa_tree.specs.declared.rule.Rule.TheVariants as rule
 
 abbrev pub signs : List (List ℕ)
 signs =
@@ -25,4 +25,4 @@ found_sign n bs = option_map (λ place. record { kind = Sign place; len = n }) (
 unfoldable pub sign_token : List ℕ → Result Found Fault
 sign_token bs =
     ok_or (option_or (found_sign 3 bs) (option_or (found_sign 2 bs) (found_sign 1 bs)))
-    (record { code = BAD_BYTE; offset = 0 })
+    (record { rule = rule.BadByte; offset = 0 })

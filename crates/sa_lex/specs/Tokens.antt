@@ -42,7 +42,7 @@ pub record AreTokensOf (text : List ℕ) (tokens : List Token) : Type 0 where
 pub record BreaksAt (text : List ℕ) (place : ℕ) (refusal : Refusal) : Type 0 where
   pub behind : place ≤ refusal.pos.at
   pub in_text : refusal.pos.at < length text
-  pub fault : front_of (drop place text) ≡ Err (record { code = refusal.code; offset = refusal.pos.at - place })
+  pub fault : front_of (drop place text) ≡ Err (record { rule = refusal.rule; offset = refusal.pos.at - place })
 
 -- a refusal says why no token begins at this place of the file's text
 abbrev pub RefusesAt : List ℕ → ℕ → ℕ → FrontFault → Type 0

@@ -7,7 +7,7 @@ use crate::found::Stop;
 use crate::front::front_of;
 use crate::gap::gap_len;
 use crate::token::Token;
-use sa_tree::{FrontFault, Pos, Refusal};
+use sa_tree::{FrontFault, Pos};
 use std::alloc::Global;
 
 /// The token that begins at a place.
@@ -26,10 +26,7 @@ fn token_at(alloc: Global, src: &[u8], file: u32, place: usize) -> Result<Token,
         Err(Stop::Broken(fault)) => {
             let at = (place + fault.offset) as u32;
             let pos = Pos { file, at };
-            Err(FrontFault::Refused(Refusal {
-                code: fault.code,
-                pos,
-            }))
+            Err(FrontFault::Refused(fault.rule.at(pos)))
         }
         Err(Stop::NoMemory) => Err(FrontFault::NoMemory),
     }

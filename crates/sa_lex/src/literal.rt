@@ -7,10 +7,10 @@ ghost use Rattle.sa_lex.specs.Found.{Gives, IsAmong, StopsAmong};
 ghost use Rattle.sa_lex.specs.Literal.{inside_len, named_escape, octal_digits, escape_at, item_at, items_from, bytes_of, character_of, text_of, character_token, text_token};
 
 use crate::byte::is_digit;
-use crate::found::{Fault, Found, LITERAL_NOT_ENDED, Stop, UNKNOWN_ESCAPE};
+use crate::found::{Fault, Found, Stop};
 use crate::number::value_of;
 use crate::token::TokenKind;
-use sa_tree::Name;
+use sa_tree::{Name, Rule};
 use std::alloc::Global;
 
 /// A byte of a literal or an escape, by its length in bytes and the byte that it stands for. An escape that isn't known
@@ -120,11 +120,11 @@ fn character_of(inside: &[u8]) -> Result<Found, Fault>
     ensures among { IsAmong (length inside.now + 2) result }
 {
     let [first, rest @ ..] = inside else {
-        return Err(Fault::at_front(LITERAL_NOT_ENDED));
+        return Err(Fault::at_front(Rule::LiteralNotEnded));
     };
     let item = item_at(*first, rest);
     if item.len <= rest.len() {
-        return Err(Fault::at_front(LITERAL_NOT_ENDED));
+        return Err(Fault::at_front(Rule::LiteralNotEnded));
     }
     match item.byte {
         Some(byte) => Ok(Found {
@@ -132,7 +132,7 @@ fn character_of(inside: &[u8]) -> Result<Found, Fault>
             len: inside.len() + 2,
         }),
         None => Err(Fault {
-            code: UNKNOWN_ESCAPE,
+            rule: Rule::UnknownEscape,
             offset: 1,
         }),
     }
@@ -146,7 +146,7 @@ pub(crate) fn character_token(bytes: &[u8]) -> Result<Found, Fault>
 {
     match inside_len(b'\'', bytes) {
         Some(len) => character_of(&bytes[..len]),
-        None => Err(Fault::at_front(LITERAL_NOT_ENDED)),
+        None => Err(Fault::at_front(Rule::LiteralNotEnded)),
     }
 }
 
@@ -161,7 +161,7 @@ fn text_of(alloc: Global, inside: &[u8]) -> Result<Found, Stop>
         let item = item_at(inside[at], &inside[at + 1..]);
         let Some(byte) = item.byte else {
             return Err(Stop::Broken(Fault {
-                code: UNKNOWN_ESCAPE,
+                rule: Rule::UnknownEscape,
                 offset: 1 + at,
             }));
         };
@@ -183,6 +183,6 @@ pub(crate) fn text_token(alloc: Global, bytes: &[u8]) -> Result<Found, Stop>
 {
     match inside_len(b'"', bytes) {
         Some(len) => text_of(alloc, &bytes[..len]),
-        None => Err(Stop::Broken(Fault::at_front(LITERAL_NOT_ENDED))),
+        None => Err(Stop::Broken(Fault::at_front(Rule::LiteralNotEnded))),
     }
 }

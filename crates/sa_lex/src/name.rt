@@ -9,9 +9,10 @@ ghost use Rattle.sa_lex.specs.Found.{IsAmong};
 ghost use Rattle.sa_lex.specs.Name.{name_at, words, has_lower, kind_of_name, is_iter_name, class_name_at, name_token, abstract_token};
 
 use crate::byte::{begins_with, is_name_byte};
-use crate::found::{BAD_BYTE, Fault, Found};
+use crate::found::{Fault, Found};
 use crate::token::TokenKind;
 use crate::word::WORDS;
+use sa_tree::Rule;
 
 /// How many letters, digits and `_` stand at the front.
 fn run_len(bytes: &[u8]) -> usize
@@ -126,7 +127,7 @@ pub(crate) fn abstract_token(bytes: &[u8]) -> Result<Found, Fault>
 {
     let name = class_name_at(bytes);
     if name.is_empty() {
-        return Err(Fault::at_front(BAD_BYTE));
+        return Err(Fault::at_front(Rule::BadByte));
     }
     Ok(Found {
         kind: TokenKind::AbstractName,

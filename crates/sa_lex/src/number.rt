@@ -6,8 +6,9 @@ ghost use Rattle.sa_lex.specs.Found.{IsAmong};
 ghost use Rattle.sa_lex.specs.Number.{base_of, is_digit_or_underscore, value_of, goes_on, number_token, begins_with_digit};
 
 use crate::byte::{digit_value, is_digit};
-use crate::found::{Fault, Found, NUMBER_FORM, NUMBER_TOO_LARGE};
+use crate::found::{Fault, Found};
 use crate::token::TokenKind;
+use sa_tree::Rule;
 
 /// The largest number.
 const MAX: u64 = 2147483647;
@@ -82,15 +83,15 @@ pub(crate) fn number_token(bytes: &[u8]) -> Result<Found, Fault>
     let prefix = if base == 10 { 0 } else { 2 };
     let body = &bytes[prefix..];
     if !begins_with_digit(base, body) {
-        return Err(Fault::at_front(NUMBER_FORM));
+        return Err(Fault::at_front(Rule::NumberForm));
     }
     let (digits, rest) = body.split_at(digits_len(base, body));
     let value = value_of(base, digits);
     if value > MAX {
-        return Err(Fault::at_front(NUMBER_TOO_LARGE));
+        return Err(Fault::at_front(Rule::NumberTooLarge));
     }
     if goes_on(rest) {
-        return Err(Fault::at_front(NUMBER_FORM));
+        return Err(Fault::at_front(Rule::NumberForm));
     }
     Ok(Found {
         kind: TokenKind::Int(value as u32),

@@ -4,8 +4,9 @@ ghost use Rattle.std.specs.Prelude.{◌≡◌, ◌<◌, [], ◌∷◌, length};
 ghost use Rattle.sa_lex.specs.Found.{IsAmong};
 ghost use Rattle.sa_lex.specs.Sign.{sign_at, sign_token};
 
-use crate::found::{BAD_BYTE, Fault, Found};
+use crate::found::{Fault, Found};
 use crate::token::TokenKind;
+use sa_tree::Rule;
 
 /// `(`
 pub const LPAREN: u8 = 0;
@@ -156,5 +157,5 @@ pub(crate) fn sign_token(bytes: &[u8]) -> Result<Found, Fault>
     {
         return Ok(found_sign(place, 1));
     }
-    Err(Fault::at_front(BAD_BYTE))
+    Err(Fault::at_front(Rule::BadByte))
 }

@@ -4,9 +4,9 @@
 use crate::own_body::no_position;
 use crate::passing::{Passing, passing_of};
 use sa_core::{Core, ImplCore};
-use sa_flat::{FlatArg, FlatFormal, FlatStep, held};
+use sa_flat::{FlatArg, FlatFormal, FlatStep};
 use sa_lower_draft::OpenBody;
-use sa_tree::NoMemory;
+use sa_tree::{NoMemory, held};
 use sqlite_items::Items;
 use std::alloc::Global;
 

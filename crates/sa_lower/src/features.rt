@@ -1,11 +1,11 @@
 //! The bodies of the features, each with the number of its feature.
 
 use sa_core::{Core, FeatureCore};
-use sa_flat::{FlatBody, FlatExit, FlatFormal, held};
-use sa_live::kept_variables;
+use sa_flat::{FlatBody, FlatExit, FlatFormal};
 use sa_lower_body::place_body;
 use sa_lower_draft::{BodyHead, Draft, OpenBody};
-use sa_tree::NoMemory;
+use sa_lower_live::kept_variables;
+use sa_tree::{NoMemory, held};
 use sqlite_items::Items;
 use std::alloc::Global;
 

@@ -1,11 +1,10 @@
 //! The types of what an implementation gives, which may differ from that of the signature that it implements.
 
 use crate::signatures::is_immutable;
-use sa_class_table::{BOOL, CHAR, INT, STR};
+use sa_check_classes::{BOOL, CHAR, INT, STR};
 use sa_core::{Core, FeatureCore, ImplCore, SharedCore, Target, TypeInfo};
-use sa_flat::held;
 use sa_prelude::BuiltinFeature;
-use sa_tree::NoMemory;
+use sa_tree::{NoMemory, held};
 
 /// The type of what an implementation gives, if it gives anything.
 pub fn given(core: &Core, implementation: &ImplCore) -> Result<Option<u32>, NoMemory> {

@@ -8,9 +8,9 @@ use crate::own_iter::own_iter;
 use crate::passing::widened_result;
 use crate::signatures::{SignatureTypes, is_immutable};
 use sa_core::{Core, ImplCore, Target};
-use sa_flat::{CallPlan, Callee, Fail, FlatBody, FlatExit, FlatStep, held};
+use sa_flat::{CallPlan, Callee, Fail, FlatBody, FlatExit, FlatStep};
 use sa_lower_draft::{BodyHead, Inside, OpenBody};
-use sa_tree::NoMemory;
+use sa_tree::{NoMemory, held};
 use sqlite_items::Items;
 use std::alloc::Global;
 

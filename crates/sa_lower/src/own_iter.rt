@@ -7,9 +7,9 @@ use crate::own_body::{receiver, value_of};
 use crate::passing::{Passing, passing_of, widened_result};
 use crate::signatures::SignatureTypes;
 use sa_core::{Core, ImplCore};
-use sa_flat::{FlatArg, FlatBody, FlatExit, FlatFormal, FlatStep, held};
+use sa_flat::{FlatArg, FlatBody, FlatExit, FlatFormal, FlatStep};
 use sa_lower_draft::OpenBody;
-use sa_tree::{Mode, NoMemory};
+use sa_tree::{Mode, NoMemory, held};
 use sqlite_items::Items;
 use std::alloc::Global;
 

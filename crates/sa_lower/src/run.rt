@@ -4,10 +4,10 @@
 use crate::giving::feature;
 use crate::own_body::no_position;
 use sa_core::{Core, SharedCore};
-use sa_flat::{CallPlan, Callee, FlatBody, FlatConst, FlatExit, FlatStep, held};
+use sa_flat::{CallPlan, Callee, FlatBody, FlatConst, FlatExit, FlatStep};
 use sa_lower_draft::{BodyHead, Draft, Inside, OpenBody};
 use sa_lower_expr::{Owner, place_expr};
-use sa_tree::NoMemory;
+use sa_tree::{NoMemory, held};
 use sqlite_items::Items;
 use std::alloc::Global;
 

@@ -2,9 +2,9 @@
 
 use indexmap::IndexMap;
 use sa_core::{Core, SigCore, TypeInfo};
-use sa_flat::{FlatFormal, held};
+use sa_flat::FlatFormal;
 use sa_lower_draft::Tables;
-use sa_tree::{Kind, ModeTy, NoMemory, Ty};
+use sa_tree::{Kind, ModeTy, NoMemory, Ty, held};
 use sqlite_items::Items;
 use std::alloc::Global;
 

@@ -6,9 +6,9 @@ use crate::own_body::own_body;
 use crate::passing::{Passing, passing_of, widened_result};
 use crate::signatures::{SignatureTypes, is_immutable, signature_types};
 use sa_core::{Core, ImplCore, SigCore, Target};
-use sa_flat::{FlatBody, FlatFormal, held};
+use sa_flat::{FlatBody, FlatFormal};
 use sa_lower_draft::Tables;
-use sa_tree::NoMemory;
+use sa_tree::{NoMemory, held};
 use sqlite_items::Items;
 use std::alloc::Global;
 

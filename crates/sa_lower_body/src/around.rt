@@ -2,9 +2,8 @@
 
 use crate::loop_sites::LoopSites;
 use sa_core::{Core, FeatureCore};
-use sa_flat::held;
 use sa_lower_draft::Inside;
-use sa_tree::{Kind, NoMemory};
+use sa_tree::{Kind, NoMemory, held};
 
 /// What is around a statement.
 #[derive(Clone, Copy)]

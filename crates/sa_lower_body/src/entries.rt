@@ -4,9 +4,9 @@ use crate::around::Around;
 use crate::stmts::stmts;
 use crate::value::value_of;
 use sa_core::{ExprCore, TestCore};
-use sa_flat::{FlatExit, held};
+use sa_flat::FlatExit;
 use sa_lower_draft::Draft;
-use sa_tree::NoMemory;
+use sa_tree::{NoMemory, held};
 use std::alloc::Global;
 
 /// The entries of an `if`. Each goes on in the block `after` once its statements are done; the block that is open at the end

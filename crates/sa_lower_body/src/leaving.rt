@@ -4,9 +4,9 @@ use crate::around::Around;
 use crate::looping::returned;
 use crate::value::value_of;
 use sa_core::ExprCore;
-use sa_flat::{FlatExit, FlatStep, held};
+use sa_flat::{FlatExit, FlatStep};
 use sa_lower_draft::{Draft, OpenBody};
-use sa_tree::{NoMemory, Pos};
+use sa_tree::{NoMemory, Pos, held};
 use std::alloc::Global;
 
 /// The forms of leaving a loop, by their numbers: always, and where the test is false. Else it is where the test is true.

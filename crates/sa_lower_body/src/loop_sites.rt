@@ -2,8 +2,7 @@
 //! its loop, so that all loops together cost one walk over the sites.
 
 use sa_core::SiteCore;
-use sa_flat::held;
-use sa_tree::NoMemory;
+use sa_tree::{NoMemory, held};
 use sqlite_items::Items;
 use std::alloc::Global;
 

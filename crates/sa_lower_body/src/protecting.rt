@@ -5,9 +5,9 @@
 use crate::around::{Around, is_immutable};
 use crate::stmts::stmts;
 use sa_core::{ArmCore, Core, StmtCore};
-use sa_flat::{FlatExit, FlatStep, Raised, held};
+use sa_flat::{FlatExit, FlatStep, Raised};
 use sa_lower_draft::{ArmTest, Draft, Exception, Inside, OpenBody};
-use sa_tree::NoMemory;
+use sa_tree::{NoMemory, held};
 use sqlite_items::Items;
 use std::alloc::Global;
 

@@ -2,10 +2,9 @@
 
 use crate::around::Around;
 use sa_core::ExprCore;
-use sa_flat::held;
 use sa_lower_draft::Draft;
 use sa_lower_expr::{Owner, place_expr};
-use sa_tree::NoMemory;
+use sa_tree::{NoMemory, held};
 use std::alloc::Global;
 
 /// Places the expression of a statement, or one of its tests, and gives the variable that holds its value, if it has one.

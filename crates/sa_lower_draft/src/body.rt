@@ -2,8 +2,8 @@
 //! can name it.
 
 use crate::inside::Inside;
-use sa_flat::{FlatBlock, FlatBody, FlatExit, FlatFormal, FlatStep, Raised, held};
-use sa_tree::NoMemory;
+use sa_flat::{FlatBlock, FlatBody, FlatExit, FlatFormal, FlatStep, Raised};
+use sa_tree::{NoMemory, held};
 use sqlite_items::Items;
 use std::alloc::Global;
 use std::mem;

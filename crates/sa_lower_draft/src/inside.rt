@@ -1,8 +1,8 @@
 //! What is around a place of a body. It is handed down from a statement to those inside it, so that nothing has to be put back
 //! behind them.
 
-use sa_flat::{FIRST_TEMPORARY, LEAVING_BLOCK, Raised, held};
-use sa_tree::NoMemory;
+use sa_flat::{FIRST_TEMPORARY, LEAVING_BLOCK, Raised};
+use sa_tree::{NoMemory, held};
 
 /// Where a raise goes that leaves the body. Its variables are the first temporaries.
 const LEAVING: Raised = Raised {

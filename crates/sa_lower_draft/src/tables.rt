@@ -2,8 +2,8 @@
 //! that a number names the same one to the end; positions and types are there from the beginning.
 
 use indexmap::{IndexMap, IndexSet};
-use sa_flat::{BindEntry, Fail, Raised, held};
-use sa_tree::{Name, NoMemory, Pos, Ty};
+use sa_flat::{BindEntry, Fail, Raised};
+use sa_tree::{Name, NoMemory, Pos, Ty, held};
 use sqlite_items::Items;
 use std::alloc::Global;
 

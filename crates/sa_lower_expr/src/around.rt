@@ -1,9 +1,8 @@
 //! What is around an expression, and what its program says of types, features and signatures by their numbers.
 
 use sa_core::{CalledCore, Core, FeatureCore, SigCore, TypeInfo};
-use sa_flat::held;
 use sa_lower_draft::Inside;
-use sa_tree::{Kind, NoMemory};
+use sa_tree::{Kind, NoMemory, held};
 
 /// What a statement stands in.
 #[derive(Clone, Copy, Debug, PartialEq, Eq)]

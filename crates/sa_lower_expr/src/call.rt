@@ -5,10 +5,10 @@ use crate::copies::copy_back;
 use crate::passing::{Passed, pass_value};
 use crate::reached::{Reached, bound_result};
 use sa_core::{Core, Target};
-use sa_flat::{CallPlan, Callee, FlatArg, FlatStep, held};
+use sa_flat::{CallPlan, Callee, FlatArg, FlatStep};
 use sa_lower_draft::{Draft, OpenBody, Tables};
 use sa_prelude::BuiltinFeature;
-use sa_tree::{Kind, Mode, NoMemory, Pos};
+use sa_tree::{Kind, Mode, NoMemory, Pos, held};
 use sqlite_items::Items;
 use std::alloc::Global;
 

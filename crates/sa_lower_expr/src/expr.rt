@@ -10,9 +10,8 @@ use crate::simple::{array, new_array, void_test, widened, without_parts};
 use crate::sites::{begin_others, begin_site, end_site};
 use crate::writing::variables_in;
 use sa_core::{Core, ExprCore};
-use sa_flat::held;
 use sa_lower_draft::{Draft, Inside};
-use sa_tree::NoMemory;
+use sa_tree::{NoMemory, held};
 use sqlite_items::Items;
 use std::alloc::Global;
 

@@ -6,10 +6,9 @@ use crate::around::{
     site_called, type_at, var_type,
 };
 use sa_core::{CalledCore, Core, ExprCore, SigCore, Target};
-use sa_flat::held;
 use sa_lower_draft::Tables;
 use sa_prelude::BuiltinFeature;
-use sa_tree::{ModeTy, NoMemory, Ty};
+use sa_tree::{ModeTy, NoMemory, Ty, held};
 use sqlite_items::Boxed;
 
 /// What a call reaches.

@@ -2,9 +2,9 @@
 
 use crate::around::{Around, Owner, Variables};
 use sa_core::ExprCore;
-use sa_flat::{Fail, FlatConst, FlatStep, held};
+use sa_flat::{Fail, FlatConst, FlatStep};
 use sa_lower_draft::{Draft, OpenBody};
-use sa_tree::{Name, NoMemory, Pos};
+use sa_tree::{Name, NoMemory, Pos, held};
 use std::alloc::Global;
 
 /// A form that holds no expressions. The others are no such form.

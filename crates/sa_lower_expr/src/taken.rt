@@ -2,9 +2,8 @@
 
 use crate::around::{attribute_type, element_type, kind_of, shared_type, var_type};
 use sa_core::{Core, ImplCore, Target};
-use sa_flat::held;
 use sa_prelude::BuiltinFeature;
-use sa_tree::{Kind, NoMemory};
+use sa_tree::{Kind, NoMemory, held};
 
 /// Whether an implementation takes the argument at this place at an abstract type. The answer is NoMemory where a number of
 /// the implementation or the place is out of range.

@@ -6,6 +6,7 @@ use Rattle.std.proofs.lemmas.List.Sums.{fold_more}
 use Rattle.std.proofs.lemmas.List.Elements.{All-nil, All-more}
 use Rattle.std.proofs.lemmas.Option.{slice_get_read}
 use Rattle.sa_lex.specs.declared.token.Token.{Token}
+use Rattle.sa_tree.specs.declared.rule.Rule.TheVariants.{NestedTooDeep, WordNotTaken}
 use Rattle.sa_parse_expr.specs.declared.levels.Counter.{Counter}
 use Rattle.sa_parse_expr.specs.declared.levels.Step.{Step}
 use Rattle.sa_parse_expr.specs.Level.{counters_behind, level_behind, level_of, after, step_of, is_refused, IsTaken, AreTaken, IsFirstBreach}
@@ -55,7 +56,7 @@ module _ (tokens : List Token) (i : ℕ) (t : Token) (lt : i < length tokens) (i
       }
 
   -- a refused word
-  pub IsFirstBreach-word : (file : ℕ) → AreTaken tokens i → is_refused t.kind ≡ true → IsFirstBreach tokens (record { code = 8; pos = record { file = file; at = t.start } })
+  pub IsFirstBreach-word : (file : ℕ) → AreTaken tokens i → is_refused t.kind ≡ true → IsFirstBreach tokens (record { rule = WordNotTaken; pos = record { file = file; at = t.start } })
   IsFirstBreach-word file taken word = record {
     place = i;
     token = t;
@@ -66,7 +67,7 @@ module _ (tokens : List Token) (i : ℕ) (t : Token) (lt : i < length tokens) (i
   }
 
   -- a token at which the level passes 200
-  pub IsFirstBreach-level : (file level : ℕ) (counters : List Counter) → AreTaken tokens i → counters ≡ counters_behind (take (i + 1) tokens) → level ≡ level_of counters → 200 < level → IsFirstBreach tokens (record { code = 7; pos = record { file = file; at = t.start } })
+  pub IsFirstBreach-level : (file level : ℕ) (counters : List Counter) → AreTaken tokens i → counters ≡ counters_behind (take (i + 1) tokens) → level ≡ level_of counters → 200 < level → IsFirstBreach tokens (record { rule = NestedTooDeep; pos = record { file = file; at = t.start } })
   IsFirstBreach-level file level counters taken behind sum large =
       let same : level_behind (take i tokens ++ t ∷ []) ≡ level = sym (sum ∙ ap level_of behind ∙ ap level_behind take-more) in
       record {

@@ -9,6 +9,8 @@ use Rattle.sa_lex.specs.declared.word.TheConstants as word
 use Rattle.sa_tree.specs.declared.refusal.Refusal.{Refusal}
 use Rattle.sa_tree.specs.declared.refusal.FrontFault.{FrontFault}
 use Rattle.sa_tree.specs.declared.refusal.FrontFault.TheVariants.{Refused, NoMemory}
+use Rattle.sa_tree.specs.declared.rule.Rule.{Rule}
+use Rattle.sa_tree.specs.declared.rule.Rule.TheVariants.{NestedTooDeep, WordNotTaken}
 use Rattle.sa_parse_expr.specs.declared.levels.Counter.{Counter}
 use Rattle.sa_parse_expr.specs.declared.levels.Step.{Step}
 use Rattle.sa_parse_expr.specs.declared.levels.Step.TheVariants.{Open, Close, Add, AddAndOpen, Reset, Bar, Clear, Keep}
@@ -101,10 +103,10 @@ pub record AreTaken (tokens : List Token) (count : ℕ) : Type 0 where
   pub levels : (k : ℕ) → k ≤ count → level_behind (take k tokens) ≤ 200
 
 -- the rule that a token breaks behind others: it is a refused word (E08), or the level passes 200 there (E07)
-abbrev pub Breaks : List Token → Token → ℕ → Type 0
-Breaks before token code =
-    ((code ≡ 8) × (is_refused token.kind ≡ true))
-    ⊎ ((code ≡ 7) × (200 < level_behind (before ++ token ∷ [])))
+abbrev pub Breaks : List Token → Token → Rule → Type 0
+Breaks before token rule =
+    ((rule ≡ WordNotTaken) × (is_refused token.kind ≡ true))
+    ⊎ ((rule ≡ NestedTooDeep) × (200 < level_behind (before ++ token ∷ [])))
 
 -- the first token that breaks a rule
 pub record IsFirstBreach (tokens : List Token) (refusal : Refusal) : Type 0 where
@@ -112,7 +114,7 @@ pub record IsFirstBreach (tokens : List Token) (refusal : Refusal) : Type 0 wher
   pub token : Token
   pub stands : slice_get tokens place ≡ Some token
   pub taken : AreTaken tokens place
-  pub breaks : Breaks (take place tokens) token refusal.code
+  pub breaks : Breaks (take place tokens) token refusal.rule
   pub at : refusal.pos.at ≡ token.start
 
 -- a refusal names the first token of the file that breaks a rule, and the rule

@@ -5,6 +5,7 @@ use Rattle.sa_lex.specs.declared.token.Token.{Token}
 use Rattle.sa_lex.specs.declared.token.TokenKind.{TokenKind}
 use Rattle.sa_tree.specs.declared.refusal.FrontFault.{FrontFault}
 use Rattle.sa_tree.specs.declared.refusal.FrontFault.TheVariants.{Refused, NoMemory}
+use Rattle.sa_tree.specs.declared.rule.Rule.TheVariants.{UnexpectedToken}
 
 -- what stands there
 unfoldable pub kind_at : List Token → ℕ → Option TokenKind
@@ -20,7 +21,7 @@ start_at text tokens at = option_map_or (λ (token : Token). token.start) (slice
 
 -- a token that can't stand where it does, in this file: E06
 abbrev pub IsUnexpected : ℕ → FrontFault → Type 0
-IsUnexpected file (Refused refusal) = (refusal.code ≡ 6) × (refusal.pos.file ≡ file)
+IsUnexpected file (Refused refusal) = (refusal.rule ≡ UnexpectedToken) × (refusal.pos.file ≡ file)
 IsUnexpected file NoMemory = ⊤
 
 -- a place behind this one, up to the end of the file

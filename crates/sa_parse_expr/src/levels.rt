@@ -7,17 +7,11 @@ ghost use Rattle.std.specs.Prelude.{◌≡◌, ◌+◌, ◌≤◌, [], ◌∷◌
 ghost use Rattle.sa_parse_expr.specs.Level.{AreTaken, Refuses, added, after, at_bar, is_refused, level_of, opened, set_to_one, step_of, step_of_sign, step_of_word};
 
 use sa_lex::{Token, TokenKind, sign, word};
-use sa_tree::{FrontFault, Pos, Refusal};
+use sa_tree::{FrontFault, Pos, Rule};
 use std::alloc::{AllocError, Global};
 
 /// The greatest level that is taken.
 const MAX_LEVEL: u32 = 200;
-
-/// Constructs are nested too deep.
-const NESTED_TOO_DEEP: u8 = 7;
-
-/// A word that the profile refuses.
-const WORD_NOT_TAKEN: u8 = 8;
 
 /// An open construct.
 #[derive(Clone, Copy)]
@@ -241,13 +235,11 @@ pub fn scan(alloc: Global, tokens: &[Token], file: u32) -> Result<(), FrontFault
             at: token.start,
         };
         if is_refused(&token.kind) {
-            let code = WORD_NOT_TAKEN;
-            return Err(FrontFault::Refused(Refusal { code, pos }));
+            return Err(FrontFault::Refused(Rule::WordNotTaken.at(pos)));
         }
         levels.step(step_of(&token.kind))?;
         if levels.level > MAX_LEVEL {
-            let code = NESTED_TOO_DEEP;
-            return Err(FrontFault::Refused(Refusal { code, pos }));
+            return Err(FrontFault::Refused(Rule::NestedTooDeep.at(pos)));
         }
     }
     Ok(())

@@ -6,14 +6,12 @@ ghost use Rattle.std.specs.Bool.{OnTrue};
 ghost use Rattle.sa_lex.specs.Token.{IsWithin};
 ghost use Rattle.sa_lex.specs.declared.token.TokenKind.TheVariants.{Sign, Word};
 ghost use Rattle.sa_tree.specs.declared.refusal.FrontFault.TheVariants.{Refused};
+ghost use Rattle.sa_tree.specs.declared.rule.Rule.TheVariants.{UnexpectedToken};
 ghost use Rattle.sa_parse_expr.specs.Places.{IsUnexpected, bytes_at, kind_at, start_at};
 
 use sa_lex::{Token, TokenKind, slice_of};
-use sa_tree::{FrontFault, Name, Pos, Refusal};
+use sa_tree::{FrontFault, Name, Pos, Rule};
 use std::alloc::{AllocError, Global};
-
-/// A token that can't stand where it does.
-const UNEXPECTED: u8 = 6;
 
 /// A file's tokens with its text. A place among the tokens is their number from 0; each place past the last token is
 /// the end of the file, where no token stands.
@@ -99,13 +97,10 @@ impl Tokens<'_> {
 
     /// E06 at the token, or at the end of the file.
     pub fn unexpected(&self, at: u32) -> FrontFault
-        ensures value { result ≡ Refused (record { code = 6; pos = record { file = self.now.file; at = start_at self.now.src.now self.now.list.now at } }) }
+        ensures value { result ≡ Refused (record { rule = UnexpectedToken; pos = record { file = self.now.file; at = start_at self.now.src.now self.now.list.now at } }) }
         ensures unexpected { IsUnexpected self.now.file result }
     {
-        FrontFault::Refused(Refusal {
-            code: UNEXPECTED,
-            pos: self.pos(at),
-        })
+        FrontFault::Refused(Rule::UnexpectedToken.at(self.pos(at)))
     }
 
     /// The place behind this sign, or E06 where another token or none stands.

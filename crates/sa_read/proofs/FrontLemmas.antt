@@ -57,10 +57,10 @@ breach texts lists n (Refused refusal) each there before (broken, file) = inr (i
 pub grammar : (texts : List (List ℕ)) (lists : List (List Token)) (n : ℕ) (fault : FrontFault) → AreTokensOfTexts texts lists (length texts) → n < length texts → IsTakenUpTo texts (length texts) → IsRefusal (slice_index_or lists n []) n fault → Refuses texts fault
 grammar texts lists n fault each there taken (inl broken) = breach texts lists n fault each there (λ k lt. taken k (omega arith)) broken
 grammar texts lists n NoMemory each there taken (inr (none, unexpected)) = tt
-grammar texts lists n (Refused refusal) each there taken (inr (none, (code, file))) = inr (inr (record {
+grammar texts lists n (Refused refusal) each there taken (inr (none, (rule, file))) = inr (inr (record {
   taken = taken;
   within = rw file there;
-  code = code;
+  rule = rule;
 }))
 
 -- tokens are at most as many as the bytes of their text

@@ -6,6 +6,7 @@ use Rattle.sa_parse_expr.specs.Level.{AreTaken, IsFirstBreach}
 use Rattle.sa_tree.specs.declared.refusal.Refusal.{Refusal}
 use Rattle.sa_tree.specs.declared.refusal.FrontFault.{FrontFault}
 use Rattle.sa_tree.specs.declared.refusal.FrontFault.TheVariants.{Refused, NoMemory}
+use Rattle.sa_tree.specs.declared.rule.Rule.TheVariants.{UnexpectedToken}
 use Rattle.sa_read.specs.Program.{at}
 
 -- the text has tokens
@@ -47,7 +48,7 @@ pub record IsBreach (texts : List (List ℕ)) (refusal : Refusal) : Type 0 where
 pub record IsUnexpected (texts : List (List ℕ)) (refusal : Refusal) : Type 0 where
   pub taken : IsTakenUpTo texts (length texts)
   pub within : refusal.pos.file < length texts
-  pub code : refusal.code ≡ 6
+  pub rule : refusal.rule ≡ UnexpectedToken
 
 -- the refusal is the first of these texts
 abbrev pub IsRefusalOf : List (List ℕ) → Refusal → Type 0

@@ -4,6 +4,7 @@ use Rattle.sa_outside.specs.Files.{Files, Lacks}
 use Rattle.sa_prelude.specs.PreludeText.{prelude_text}
 use Rattle.sa_tree.specs.declared.pos.Sources.{Sources}
 use Rattle.sa_tree.specs.declared.refusal.Refusal.{Refusal}
+use Rattle.sa_tree.specs.declared.rule.Rule.TheVariants.{SourceTooLarge}
 use Rattle.sa_read.specs.Read.{HasFile, HasLonger}
 use Rattle.sa_read.specs.declared.program.Program.{Program}
 use Rattle.sa_read.specs.declared.program.TheConstants.{MOST_BYTES}
@@ -26,7 +27,7 @@ no_files = record { names = codes "prelude" ∷ []; texts = prelude_text ∷ [] 
 
 -- the refusal of the file with this number, which is too large from this byte on
 abbrev pub too_large : ℕ → ℕ → Refusal
-too_large number room = record { code = 50; pos = record { file = number; at = room } }
+too_large number room = record { rule = SourceTooLarge; pos = record { file = number; at = room } }
 
 -- the first n files have their texts behind the prelude's
 abbrev pub HaveTexts : Option Files → List (List ℕ) → List (List ℕ) → ℕ → Type 0

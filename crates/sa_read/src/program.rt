@@ -7,7 +7,7 @@ ghost use Rattle.sa_read.specs.Program.{IsReadFrom, LacksOneOf, no_files, too_la
 use crate::read::{Read, ReadFault, read_file};
 use sa_outside::Store;
 use sa_prelude::text;
-use sa_tree::{Name, Pos, Refusal, Sources};
+use sa_tree::{Name, Pos, Refusal, Rule, Sources};
 use sqlite_items::Items;
 use std::alloc::{AllocError, Global};
 
@@ -104,11 +104,8 @@ fn too_large(number: u32, room: usize) -> Refusal
     requires { room ≤ MOST_BYTES }
     ensures { result ≡ too_large number room }
 {
-    Refusal {
-        code: 50,
-        pos: Pos {
-            file: number,
-            at: room as u32,
-        },
-    }
+    Rule::SourceTooLarge.at(Pos {
+        file: number,
+        at: room as u32,
+    })
 }

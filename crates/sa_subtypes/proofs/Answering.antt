@@ -8,31 +8,31 @@ use Rattle.sa_tree.specs.declared.class.Class.{Class}
 use Rattle.sa_tree.specs.declared.class.Flat.{Flat}
 use Rattle.sa_tree.specs.Types.{BareTy, Named, Same, Rout, Iter, BareTys, no_types, type, bare, bare_tys}
 use Rattle.sa_tree.specs.TypeEquality.{same_type, same_type_Decides}
-use Rattle.sa_pairs.specs.declared.declared.Edge.{Edge}
+use Rattle.sa_subtypes_pairs.specs.declared.declared.Edge.{Edge}
 use Rattle.sa_subtypes.specs.declared.edges.Edges.{Edges}
-use Rattle.sa_lineage.specs.declared.lineage.Lineage.{Lineage}
-use Rattle.sa_pairs.specs.declared.names.Names.{Names}
-use Rattle.sa_pairs.specs.declared.written.Written.{Written}
+use Rattle.sa_subtypes_lineage.specs.declared.lineage.Lineage.{Lineage}
+use Rattle.sa_subtypes_pairs.specs.declared.names.Names.{Names}
+use Rattle.sa_subtypes_pairs.specs.declared.written.Written.{Written}
 use Rattle.sa_subtypes.specs.Below.{class_in, leads_in, climbs_in, tops_in, immutable_in, AreSubtypesOf}
 use Rattle.sa_subtypes.specs.Bounds.{holds}
 use Rattle.sa_subtypes.specs.Deciding.{found_between, types_in}
-use Rattle.sa_pairs.specs.Edges.{EdgeNodes, edge_of, seen, declared_edges}
-use Rattle.sa_lineage.specs.Kept.{IsEdgeOf, AreWritten}
-use Rattle.sa_lineage.specs.Lineages.{Tables, At, class_at, AreArgs, AreTried, IsFound, tables}
-use Rattle.sa_pairs.specs.Numbers.{AreNamesOf, number_in}
-use Rattle.sa_pairs.specs.Spelled.{count_types, spelled_all}
-use Rattle.sa_pairs.specs.Words.{behind}
+use Rattle.sa_subtypes_pairs.specs.Edges.{EdgeNodes, edge_of, seen, declared_edges}
+use Rattle.sa_subtypes_lineage.specs.Kept.{IsEdgeOf, AreWritten}
+use Rattle.sa_subtypes_lineage.specs.Lineages.{Tables, At, class_at, AreArgs, AreTried, IsFound, tables}
+use Rattle.sa_subtypes_pairs.specs.Numbers.{AreNamesOf, number_in}
+use Rattle.sa_subtypes_pairs.specs.Spelled.{count_types, spelled_all}
+use Rattle.sa_subtypes_pairs.specs.Words.{behind}
 use Rattle.sa_subtypes.specs.Subtypes.{IsEdge, Sub, is_immutable_type, top}
 use Rattle.sa_subtypes.proofs.Bounds.{holds-exact}
-use Rattle.sa_lineage.proofs.Tests.{or-cases, or_first, or_second}
+use Rattle.sa_subtypes_lineage.proofs.Tests.{or-cases, or_first, or_second}
 use Rattle.sa_subtypes.proofs.Chains.{Chain, here, Below, below-sub, sub-below}
 use Rattle.sa_subtypes.proofs.ClassFacts.{name-is, kind-immutable}
 use Rattle.sa_subtypes.proofs.ClassPlaces.{numbered-named}
 use Rattle.sa_subtypes.proofs.Deciding.{at_types, counts-length, found-decides}
 use Rattle.sa_subtypes.proofs.Declarations.{number_of, all_edges}
-use Rattle.sa_lineage.proofs.Lineages.{leads-found, found-leads}
+use Rattle.sa_subtypes_lineage.proofs.Lineages.{leads-found, found-leads}
 use Rattle.sa_subtypes.proofs.Members.{Among, among-at}
-use Rattle.sa_pairs.proofs.Spelling.{spelled_all-words}
+use Rattle.sa_subtypes_pairs.proofs.Spelling.{spelled_all-words}
 use Rattle.sa_subtypes.proofs.Steps.{AreEdges, IsAtType, HasLeads, read_at, read-at, leads-chain, chain-leads}
 use Rattle.sa_subtypes.proofs.WordChains.{edge-named}
 

@@ -13,11 +13,11 @@ use Rattle.sa_tree.specs.TypeEquality.{same_type, same_types}
 use Rattle.sa_tree.proofs.BareTypes.{bare-Named, bare-Same, bare-Rout, bare-Iter}
 use Rattle.sa_tree.proofs.TypeTests.{same_types-all_bare}
 use Rattle.sa_subtypes.specs.declared.edges.Edges.{Edges}
-use Rattle.sa_lineage.specs.declared.lineage.Above.{Above}
-use Rattle.sa_lineage.specs.declared.links.Link.{Link}
+use Rattle.sa_subtypes_lineage.specs.declared.lineage.Above.{Above}
+use Rattle.sa_subtypes_lineage.specs.declared.links.Link.{Link}
 use Rattle.sa_subtypes.specs.Below.{tables_in, class_in, leads_in, climbs_in, tops_in}
 use Rattle.sa_subtypes.specs.Deciding.{some_place, is_by, place_by, range_by, list_by, entry_by, link_by, in_list, found_in, found_between, types_in}
-use Rattle.sa_lineage.specs.Lineages.{Tables}
+use Rattle.sa_subtypes_lineage.specs.Lineages.{Tables}
 use Rattle.sa_subtypes.specs.Subtypes.{top, top_name}
 
 -- ---- counts and equal lists

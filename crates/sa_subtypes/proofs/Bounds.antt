@@ -9,7 +9,7 @@ use Rattle.sa_tree.specs.Types.{BareTy, Named, Same, Rout, Iter, BareArgs, no_ar
 use Rattle.sa_subtypes.specs.Bounds.{goes_by, rises, stands_as, holds, args_hold, result_holds}
 use Rattle.sa_subtypes.specs.Subtypes.{top, MayStand}
 use Rattle.sa_subtypes.proofs.Chains.{IsNamed, Chain, here, step, Below, above_all, by_chain, by_routine, by_iter, BelowArgs, no_more, by_in, by_once, by_both, by_out, BelowResult, no_results, by_result}
-use Rattle.sa_lineage.proofs.Tests.{or-cases, or_first, or_second, both}
+use Rattle.sa_subtypes_lineage.proofs.Tests.{or-cases, or_first, or_second, both}
 use Rattle.sa_subtypes.proofs.Walks.{same_mode-self, same_mode-true}
 
 no_first : (a b : Bool) → (a || b) ≡ false → a ≡ false

@@ -6,8 +6,8 @@ use Rattle.sa_tree.specs.declared.class.Class.{Class}
 use Rattle.sa_tree.specs.declared.class.Flat.{Flat}
 use Rattle.sa_tree.specs.declared.class.Kind.{Kind}
 use Rattle.sa_tree.specs.Types.{BareTy, Named, Same, Rout, Iter}
-use Rattle.sa_pairs.specs.declared.names.Names.{Names}
-use Rattle.sa_pairs.specs.Numbers.{class_place, number_in, row_of, AreNamesOf, kind_bare, name_of, arity_of}
+use Rattle.sa_subtypes_pairs.specs.declared.names.Names.{Names}
+use Rattle.sa_subtypes_pairs.specs.Numbers.{class_place, number_in, row_of, AreNamesOf, kind_bare, name_of, arity_of}
 use Rattle.sa_subtypes.specs.Subtypes.{class_named, is_immutable_kind, is_immutable_type}
 use Rattle.sa_subtypes.proofs.ClassPlaces.{named-numbered, numbered-named}
 

@@ -6,7 +6,7 @@ use Rattle.std.specs.Cmp.Lexicographic.{pointwise}
 use Rattle.sa_tree.specs.declared.class.Class.{Class}
 use Rattle.sa_tree.specs.declared.class.Param.{Param}
 use Rattle.sa_types.specs.Substitution.{place_of}
-use Rattle.sa_pairs.specs.Numbers.{class_place}
+use Rattle.sa_subtypes_pairs.specs.Numbers.{class_place}
 use Rattle.sa_subtypes.specs.Subtypes.{class_named}
 
 same_class : (d c : Class) → Some d ≡ Some c → d ≡ c

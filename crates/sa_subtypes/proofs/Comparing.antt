@@ -11,10 +11,10 @@ use Rattle.sa_tree.specs.declared.ty.Ty.{Ty}
 use Rattle.sa_tree.specs.declared.ty.Ty.TheVariants as ty
 use Rattle.sa_tree.specs.Types.{BareTy, BareTys, bare, bare_arg, bare_tys, all_bare, all_bare_args, option_bare}
 use Rattle.sa_tree.proofs.BareTypes.{bare-Named, bare-Same, bare-Rout, bare-Iter, bare_arg-parts}
-use Rattle.sa_pairs.specs.declared.pattern.Node.{Node}
-use Rattle.sa_pairs.specs.declared.pattern.Node.TheVariants as node
+use Rattle.sa_subtypes_pairs.specs.declared.pattern.Node.{Node}
+use Rattle.sa_subtypes_pairs.specs.declared.pattern.Node.TheVariants as node
 use Rattle.sa_subtypes.specs.Questions.{is_class, is_list, is_routine, is_iter, is_type_head, is_head, a_variable, a_head, another, headed, node_meets, meets, Seen, found, past, unlike, seen_then, met_then, walk_mode, walk_inside, walk_all, walk_args, walk_result, walk, walk_arg, sought, is_wanted, seeking, item_seen, first_in, value_below, value_from, is_number, counts_up, same_item, stands, passed_if, comparing, is_past, is_end, both_fit, class_fits, upper_fits, first_fits, pair_fits}
-use Rattle.sa_pairs.specs.Spelled.{count_types, count_args, count_result, Item, a_type, a_mode}
+use Rattle.sa_subtypes_pairs.specs.Spelled.{count_types, count_args, count_result, Item, a_type, a_mode}
 
 -- ---- the whole
 

@@ -5,20 +5,20 @@ use Rattle.std.specs.Cmp.{first_so, second_so}
 use Rattle.std.proofs.lemmas.Bool.{eqb-true, eq-eqb}
 use Rattle.sa_tree.specs.Types.{BareTy, BareTys, no_types, type, bare_tys}
 use Rattle.sa_tree.specs.TypeEquality.{same_type, same_types, same_type_Decides}
-use Rattle.sa_lineage.specs.declared.lineage.Above.{Above}
-use Rattle.sa_lineage.specs.declared.links.Link.{Link}
-use Rattle.sa_pairs.specs.declared.pattern.Node.{Node}
-use Rattle.sa_lineage.specs.Lines.{in_line}
+use Rattle.sa_subtypes_lineage.specs.declared.lineage.Above.{Above}
+use Rattle.sa_subtypes_lineage.specs.declared.links.Link.{Link}
+use Rattle.sa_subtypes_pairs.specs.declared.pattern.Node.{Node}
+use Rattle.sa_subtypes_lineage.specs.Lines.{in_line}
 use Rattle.sa_subtypes.specs.Deciding.{some_place, in_tree, is_by, entry_by, place_by, range_by, list_by, link_by, in_list, found_in}
-use Rattle.sa_lineage.specs.Lineages.{Tables, At, class_at, pair_of, Line, AreLinked, InList, HasForm, AreTried, InLine, ByList, IsFound}
+use Rattle.sa_subtypes_lineage.specs.Lineages.{Tables, At, class_at, pair_of, Line, AreLinked, InList, HasForm, AreTried, InLine, ByList, IsFound}
 use Rattle.sa_subtypes.specs.Questions.{pair_fits}
-use Rattle.sa_pairs.specs.Spelled.{count_types, spelled_all, read_types}
-use Rattle.sa_pairs.specs.Words.{IsInstance}
-use Rattle.sa_lineage.proofs.Tests.{or-cases, or_first, or_second, both}
-use Rattle.sa_lineage.proofs.LineTests.{line-decides}
+use Rattle.sa_subtypes_pairs.specs.Spelled.{count_types, spelled_all, read_types}
+use Rattle.sa_subtypes_pairs.specs.Words.{IsInstance}
+use Rattle.sa_subtypes_lineage.proofs.Tests.{or-cases, or_first, or_second, both}
+use Rattle.sa_subtypes_lineage.proofs.LineTests.{line-decides}
 use Rattle.sa_subtypes.proofs.PairsFor.{BecomesPair, pair-for}
 use Rattle.sa_subtypes.proofs.Questions.{fits-exact}
-use Rattle.sa_pairs.proofs.Spelling.{read-spelled_all}
+use Rattle.sa_subtypes_pairs.proofs.Spelling.{read-spelled_all}
 
 other_test : (m n : ℕ) → m ≢ n → nat_eq m n ≡ false
 other_test m n h = go (nat_eq m n) refl

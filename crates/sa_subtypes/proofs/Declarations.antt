@@ -9,20 +9,20 @@ use Rattle.sa_tree.specs.Types.{BareTy, Named, Same, Rout, Iter, BareTys, no_typ
 use Rattle.sa_tree.proofs.BareTypes.{bare-Named}
 use Rattle.sa_types.specs.AtTypes.{own_type, at_instance}
 use Rattle.sa_types.specs.Substitution.{place_of}
-use Rattle.sa_pairs.specs.declared.pattern.Node.{Node}
-use Rattle.sa_pairs.specs.declared.pattern.Node.TheVariants as node
-use Rattle.sa_pairs.specs.Words.{behind, Values, AreWords, put}
-use Rattle.sa_pairs.specs.Spelled.{count_types, read_type, read_types}
-use Rattle.sa_pairs.specs.Patterns.{pair_nodes, below_nodes, above_nodes, IsNamedIn, head_name}
-use Rattle.sa_pairs.specs.Numbers.{class_place}
-use Rattle.sa_pairs.specs.Edges.{EdgeNodes, number_alone, class_number, edge_up, edge_down, edge_below, edge_above, edges_in, where_own, edges_at, edges_upto, declared_edges}
+use Rattle.sa_subtypes_pairs.specs.declared.pattern.Node.{Node}
+use Rattle.sa_subtypes_pairs.specs.declared.pattern.Node.TheVariants as node
+use Rattle.sa_subtypes_pairs.specs.Words.{behind, Values, AreWords, put}
+use Rattle.sa_subtypes_pairs.specs.Spelled.{count_types, read_type, read_types}
+use Rattle.sa_subtypes_pairs.specs.Patterns.{pair_nodes, below_nodes, above_nodes, IsNamedIn, head_name}
+use Rattle.sa_subtypes_pairs.specs.Numbers.{class_place}
+use Rattle.sa_subtypes_pairs.specs.Edges.{EdgeNodes, number_alone, class_number, edge_up, edge_down, edge_below, edge_above, edges_in, where_own, edges_at, edges_upto, declared_edges}
 use Rattle.sa_subtypes.specs.Subtypes.{class_named, IsClass, IsClassIn, DeclaresBelow, DeclaresAbove, IsEdge}
 use Rattle.sa_subtypes.proofs.ClassPlaces.{IsNumbered, named-numbered, numbered-named, place_of-within}
-use Rattle.sa_pairs.proofs.Dressed.{count-all_bare, dress_all, all_bare-dressed, length-dressed}
+use Rattle.sa_subtypes_pairs.proofs.Dressed.{count-all_bare, dress_all, all_bare-dressed, length-dressed}
 use Rattle.sa_subtypes.proofs.Instances.{bare-at_instance}
 use Rattle.sa_subtypes.proofs.Members.{Among, among_left, among_right, among-append, among-contains, contains-among, among-flat_map, among_from-flat_map}
-use Rattle.sa_pairs.proofs.Owns.{readings, count-readings}
-use Rattle.sa_pairs.proofs.Patterns.{type_in, args_in, type_in-class, spelled_at, spelled_at-words, put-below, put-above, ReadsAs, read-below, read-above}
+use Rattle.sa_subtypes_pairs.proofs.Owns.{readings, count-readings}
+use Rattle.sa_subtypes_pairs.proofs.Patterns.{type_in, args_in, type_in-class, spelled_at, spelled_at-words, put-below, put-above, ReadsAs, read-below, read-above}
 
 same_number : (m n : ℕ) → Some m ≡ Some n → m ≡ n
 same_number m n e = cc

@@ -3,16 +3,16 @@ use Rattle.std.proofs.Common.{◌≡◌, ℕ, List, [], ◌∷◌, ◌++◌, Som
 use Rattle.sa_tree.specs.declared.class.Class.{Class}
 use Rattle.sa_tree.specs.declared.class.Flat.{Flat}
 use Rattle.sa_tree.specs.Types.{BareTy, Named, BareTys}
-use Rattle.sa_pairs.specs.declared.pattern.Node.{Node}
-use Rattle.sa_pairs.specs.declared.pattern.Node.TheVariants as node
-use Rattle.sa_pairs.specs.Words.{behind, Values, AreWords, put}
-use Rattle.sa_pairs.specs.Spelled.{count_types, spelled, spelled_all, type_of, first_item, read_type, read_types}
-use Rattle.sa_pairs.specs.Edges.{EdgeNodes}
+use Rattle.sa_subtypes_pairs.specs.declared.pattern.Node.{Node}
+use Rattle.sa_subtypes_pairs.specs.declared.pattern.Node.TheVariants as node
+use Rattle.sa_subtypes_pairs.specs.Words.{behind, Values, AreWords, put}
+use Rattle.sa_subtypes_pairs.specs.Spelled.{count_types, spelled, spelled_all, type_of, first_item, read_type, read_types}
+use Rattle.sa_subtypes_pairs.specs.Edges.{EdgeNodes}
 use Rattle.sa_subtypes.specs.Subtypes.{IsEdge}
 use Rattle.sa_subtypes.proofs.Declarations.{number_of, all_edges, edge-declared, declared-edge}
 use Rattle.sa_subtypes.proofs.Members.{Among}
-use Rattle.sa_pairs.proofs.Owns.{spelled-Named}
-use Rattle.sa_pairs.proofs.Readings.{read-node}
+use Rattle.sa_subtypes_pairs.proofs.Owns.{spelled-Named}
+use Rattle.sa_subtypes_pairs.proofs.Readings.{read-node}
 
 same_name : (name other : List ℕ) (ts us : BareTys) → Named name ts ≡ Named other us → name ≡ other
 same_name name other ts us e = cc

@@ -14,10 +14,10 @@ use Rattle.sa_tree.specs.Types.{BareTy, Named, Same, Rout, Iter, type, arg, give
 use Rattle.sa_tree.proofs.BareTypes.{bare-Named, bare-Same, bare-Rout, bare-Iter, bare_arg-parts, by_variants}
 use Rattle.sa_types.specs.Substitution.{place_of, given_for, placed, named_alone, named, substituted, substituted_arg}
 use Rattle.sa_types.proofs.Substituting.{placed-Named, placed-Same, placed-Rout, placed-Iter, substituted-Named, substituted-Same, substituted-Rout, substituted-Iter, substituted_arg-parts}
-use Rattle.sa_pairs.specs.Spelled.{standing, instance, instance_all, instance_args, instance_result}
+use Rattle.sa_subtypes_pairs.specs.Spelled.{standing, instance, instance_all, instance_args, instance_result}
 use Rattle.sa_types.specs.AtTypes.{own_type, at_instance}
-use Rattle.sa_pairs.proofs.Owns.{type_at}
-use Rattle.sa_pairs.proofs.Patterns.{type_in}
+use Rattle.sa_subtypes_pairs.proofs.Owns.{type_at}
+use Rattle.sa_subtypes_pairs.proofs.Patterns.{type_in}
 
 -- ---- induction over the types of a source
 

@@ -3,13 +3,13 @@ use Rattle.std.proofs.Common.{◌≡◌, ℕ, ◌+◌, List, [], ◌∷◌, ◌+
 use Rattle.std.specs.Prelude.{◌↔◌}
 use Rattle.std.proofs.lemmas.List.{append_cancel_right}
 use Rattle.sa_tree.specs.Types.{BareTys}
-use Rattle.sa_pairs.specs.declared.pattern.Node.{Node}
-use Rattle.sa_pairs.specs.declared.pattern.Node.TheVariants as node
+use Rattle.sa_subtypes_pairs.specs.declared.pattern.Node.{Node}
+use Rattle.sa_subtypes_pairs.specs.declared.pattern.Node.TheVariants as node
 use Rattle.sa_subtypes.specs.Questions.{IsPairFor}
-use Rattle.sa_pairs.specs.Spelled.{count_types, spelled_all}
-use Rattle.sa_pairs.specs.Words.{behind, Values, AreWords, put}
+use Rattle.sa_subtypes_pairs.specs.Spelled.{count_types, spelled_all}
+use Rattle.sa_subtypes_pairs.specs.Words.{behind, Values, AreWords, put}
 use Rattle.sa_subtypes.proofs.TypeWords.{cons-head, cons-tail, all-words}
-use Rattle.sa_pairs.proofs.Words.{behind_none, behind-append, behind-put, put-append}
+use Rattle.sa_subtypes_pairs.proofs.Words.{behind_none, behind-append, behind-put, put-append}
 
 -- the pair of two types with these arguments
 abbrev pub pair_for : BareTys → List ℕ → BareTys → List Node

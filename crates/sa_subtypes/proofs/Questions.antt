@@ -8,14 +8,14 @@ use Rattle.std.proofs.lemmas.List.{append_cancel_left, append-nil}
 use Rattle.std.proofs.lemmas.Option.{none-some}
 use Rattle.sa_tree.specs.TypeEquality.{same_type_Decides}
 use Rattle.sa_tree.specs.Types.{BareTy, BareTys, type, bare_tys}
-use Rattle.sa_pairs.specs.declared.pattern.Node.{Node}
-use Rattle.sa_pairs.specs.declared.pattern.Node.TheVariants as node
+use Rattle.sa_subtypes_pairs.specs.declared.pattern.Node.{Node}
+use Rattle.sa_subtypes_pairs.specs.declared.pattern.Node.TheVariants as node
 use Rattle.sa_subtypes.specs.Questions.{word_of, IsPairFor, Seen, found, past, unlike, walk_all, sought, seeking, item_seen, first_in, is_number, counts_up, value_below, value_from, same_item, stands, passed_if, comparing, is_past, is_end, both_fit, class_fits, upper_fits, first_fits, pair_fits}
-use Rattle.sa_pairs.specs.Spelled.{count_types, spelled, spelled_all, Item, a_type, a_mode}
-use Rattle.sa_pairs.specs.Words.{IsWord, Values, AreWords, put, is_variable, comes}
+use Rattle.sa_subtypes_pairs.specs.Spelled.{count_types, spelled, spelled_all, Item, a_type, a_mode}
+use Rattle.sa_subtypes_pairs.specs.Words.{IsWord, Values, AreWords, put, is_variable, comes}
 use Rattle.sa_subtypes.proofs.TypeWords.{cons-head, item_head, item_inside, word-head, spelled-word, item-word, item-equal, put-empty, not_empty}
 use Rattle.sa_subtypes.proofs.Walks.{past-equal, unlike-past, same_mode-self, same_mode-true, head-unbound, IsCut, cut-all, Outcome, outcome-all}
-use Rattle.sa_pairs.proofs.Words.{put-same, words-equal}
+use Rattle.sa_subtypes_pairs.proofs.Words.{put-same, words-equal}
 
 -- ---- what stands for a variable as a word
 

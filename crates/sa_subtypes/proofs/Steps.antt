@@ -3,17 +3,17 @@ use Rattle.std.proofs.Common.{◌≡◌, ◌⊎◌, inl, inr, ℕ, List, Some, s
 use Rattle.sa_tree.specs.declared.class.Class.{Class}
 use Rattle.sa_tree.specs.declared.class.Flat.{Flat}
 use Rattle.sa_tree.specs.Types.{BareTy, Named, BareTys}
-use Rattle.sa_pairs.specs.declared.declared.Edge.{Edge}
-use Rattle.sa_pairs.specs.Spelled.{count_types, spelled_all, read_types}
-use Rattle.sa_pairs.specs.Edges.{EdgeNodes}
-use Rattle.sa_lineage.specs.Kept.{IsEdgeOf}
-use Rattle.sa_lineage.specs.Lineages.{Tables, At, class_at, pair_of, Step, Leads, by_edge, by_edges}
+use Rattle.sa_subtypes_pairs.specs.declared.declared.Edge.{Edge}
+use Rattle.sa_subtypes_pairs.specs.Spelled.{count_types, spelled_all, read_types}
+use Rattle.sa_subtypes_pairs.specs.Edges.{EdgeNodes}
+use Rattle.sa_subtypes_lineage.specs.Kept.{IsEdgeOf}
+use Rattle.sa_subtypes_lineage.specs.Lineages.{Tables, At, class_at, pair_of, Step, Leads, by_edge, by_edges}
 use Rattle.sa_subtypes.specs.Subtypes.{IsEdge}
 use Rattle.sa_subtypes.proofs.Chains.{Chain, here, step}
 use Rattle.sa_subtypes.proofs.Declarations.{number_of, all_edges}
 use Rattle.sa_subtypes.proofs.EdgeInstances.{Declares, declares-edge, edge-declares}
 use Rattle.sa_subtypes.proofs.Members.{Among}
-use Rattle.sa_pairs.proofs.Spelling.{spelled_all-words, read-spelled_all}
+use Rattle.sa_subtypes_pairs.proofs.Spelling.{spelled_all-words, read-spelled_all}
 
 same_number : (m n : ℕ) → Some m ≡ Some n → m ≡ n
 same_number m n e = cc

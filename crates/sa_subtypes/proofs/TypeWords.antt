@@ -5,12 +5,12 @@ use Rattle.std.proofs.lemmas.List.{append_cancel_left, append-nil}
 use Rattle.std.proofs.lemmas.Option.{none-some}
 use Rattle.sa_tree.specs.declared.ty.Mode.{Mode}
 use Rattle.sa_tree.specs.Types.{BareTy, Named, Same, Rout, Iter, BareTys, no_types, type, BareArgs, no_args, arg, BareResult, no_result, gives}
-use Rattle.sa_pairs.specs.declared.pattern.Node.{Node}
-use Rattle.sa_pairs.specs.declared.pattern.Node.TheVariants as node
+use Rattle.sa_subtypes_pairs.specs.declared.pattern.Node.{Node}
+use Rattle.sa_subtypes_pairs.specs.declared.pattern.Node.TheVariants as node
 use Rattle.sa_subtypes.specs.Questions.{spelled_args, spelled_result, word_of}
-use Rattle.sa_pairs.specs.Spelled.{count_types, count_args, count_result, spelled, spelled_all, Item, a_type, a_mode}
-use Rattle.sa_pairs.specs.Words.{held, behind, IsWord, Values, AreWords, value_of, put}
-use Rattle.sa_pairs.proofs.Words.{behind_none, behind-append, behind-split, words-equal}
+use Rattle.sa_subtypes_pairs.specs.Spelled.{count_types, count_args, count_result, spelled, spelled_all, Item, a_type, a_mode}
+use Rattle.sa_subtypes_pairs.specs.Words.{held, behind, IsWord, Values, AreWords, value_of, put}
+use Rattle.sa_subtypes_pairs.proofs.Words.{behind_none, behind-append, behind-split, words-equal}
 
 -- ---- lists of nodes
 

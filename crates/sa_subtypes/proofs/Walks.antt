@@ -9,13 +9,13 @@ use Rattle.sa_tree.specs.declared.ty.Mode.{Mode}
 use Rattle.sa_tree.specs.declared.ty.Mode.TheVariants.{In, Out, Inout, Once}
 use Rattle.sa_tree.specs.TypeEquality.{same_mode}
 use Rattle.sa_tree.specs.Types.{BareTy, Named, Same, Rout, Iter, BareTys, no_types, type, BareArgs, no_args, arg, BareResult, no_result, gives}
-use Rattle.sa_pairs.specs.declared.pattern.Node.{Node}
-use Rattle.sa_pairs.specs.declared.pattern.Node.TheVariants as node
+use Rattle.sa_subtypes_pairs.specs.declared.pattern.Node.{Node}
+use Rattle.sa_subtypes_pairs.specs.declared.pattern.Node.TheVariants as node
 use Rattle.sa_subtypes.specs.Questions.{spelled_args, spelled_result, word_of, is_class, is_list, is_routine, is_iter, is_passed, is_head, Met, a_variable, a_head, another, headed, meets, Seen, found, past, unlike, seen_then, met_then, walk_mode, walk_inside, walk_all, walk_args, walk_result}
-use Rattle.sa_pairs.specs.Spelled.{count_types, count_args, count_result, spelled, spelled_all, Item, a_type, a_mode}
-use Rattle.sa_pairs.specs.Words.{behind, Values, AreWords, value_of, put, is_variable, comes}
+use Rattle.sa_subtypes_pairs.specs.Spelled.{count_types, count_args, count_result, spelled, spelled_all, Item, a_type, a_mode}
+use Rattle.sa_subtypes_pairs.specs.Words.{behind, Values, AreWords, value_of, put, is_variable, comes}
 use Rattle.sa_subtypes.proofs.TypeWords.{item_head, item_inside, word-head, inside, spelled-word, args-words, put-empty, put-split, word-cases}
-use Rattle.sa_pairs.proofs.Words.{put-append}
+use Rattle.sa_subtypes_pairs.proofs.Words.{put-append}
 
 -- ---- what is seen
 

@@ -3,18 +3,18 @@ use Rattle.std.proofs.Common.{◌≡◌, ℕ, List, [], ◌∷◌, ◌++◌, Som
 use Rattle.sa_tree.specs.declared.class.Class.{Class}
 use Rattle.sa_tree.specs.declared.class.Flat.{Flat}
 use Rattle.sa_tree.specs.Types.{BareTy, Named}
-use Rattle.sa_pairs.specs.declared.pattern.Node.{Node}
-use Rattle.sa_pairs.specs.declared.pattern.Node.TheVariants as node
-use Rattle.sa_pairs.specs.Words.{behind, Values, AreWords, put}
-use Rattle.sa_pairs.specs.Spelled.{count_types, spelled, spelled_all, type_of, first_item, read_type, read_types}
-use Rattle.sa_pairs.specs.Edges.{EdgeNodes}
+use Rattle.sa_subtypes_pairs.specs.declared.pattern.Node.{Node}
+use Rattle.sa_subtypes_pairs.specs.declared.pattern.Node.TheVariants as node
+use Rattle.sa_subtypes_pairs.specs.Words.{behind, Values, AreWords, put}
+use Rattle.sa_subtypes_pairs.specs.Spelled.{count_types, spelled, spelled_all, type_of, first_item, read_type, read_types}
+use Rattle.sa_subtypes_pairs.specs.Edges.{EdgeNodes}
 use Rattle.sa_subtypes.specs.Subtypes.{IsEdge}
 use Rattle.sa_subtypes.proofs.Chains.{IsNamed, Chain, here, step}
 use Rattle.sa_subtypes.proofs.Declarations.{all_edges, edge-declared, declared-edge}
 use Rattle.sa_subtypes.proofs.Members.{Among}
-use Rattle.sa_pairs.proofs.Owns.{spelled-Named}
-use Rattle.sa_pairs.proofs.Readings.{read-node}
-use Rattle.sa_pairs.proofs.Spelling.{spelled_all-words, read-spelled}
+use Rattle.sa_subtypes_pairs.proofs.Owns.{spelled-Named}
+use Rattle.sa_subtypes_pairs.proofs.Readings.{read-node}
+use Rattle.sa_subtypes_pairs.proofs.Spelling.{spelled_all-words, read-spelled}
 
 -- edges lead from one word to another, over none or more words between them
 pub data WordChain (Edge : List Node → List Node → Type 0) : List Node → List Node → Type 0 where

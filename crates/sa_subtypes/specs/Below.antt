@@ -8,8 +8,8 @@ use Rattle.sa_tree.specs.TypeEquality.{same_type}
 use Rattle.sa_subtypes.specs.declared.edges.Edges.{Edges}
 use Rattle.sa_subtypes.specs.Bounds.{holds}
 use Rattle.sa_subtypes.specs.Deciding.{found_between, types_in}
-use Rattle.sa_lineage.specs.Lineages.{Tables, tables}
-use Rattle.sa_pairs.specs.Numbers.{kind_bare, number_in}
+use Rattle.sa_subtypes_lineage.specs.Lineages.{Tables, tables}
+use Rattle.sa_subtypes_pairs.specs.Numbers.{kind_bare, number_in}
 use Rattle.sa_subtypes.specs.Subtypes.{IsSubtype, is_immutable_kind, top}
 
 module _ (edges : Edges) where

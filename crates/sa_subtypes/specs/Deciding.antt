@@ -2,10 +2,10 @@
 use Rattle.std.specs.Prelude.{ℕ, zero, suc, ◌-◌, ◌||◌, ◌&&◌, not, Bool, false, nat_eq, List, [], ◌∷◌, length, Option, None, Some, slice_get}
 use Rattle.sa_tree.specs.Types.{BareTy, BareTys, no_types, type, bare_tys}
 use Rattle.sa_tree.specs.TypeEquality.{same_types}
-use Rattle.sa_lineage.specs.declared.lineage.Above.{Above}
-use Rattle.sa_lineage.specs.declared.links.Link.{Link}
-use Rattle.sa_lineage.specs.Lineages.{Tables}
-use Rattle.sa_lineage.specs.Lines.{in_line}
+use Rattle.sa_subtypes_lineage.specs.declared.lineage.Above.{Above}
+use Rattle.sa_subtypes_lineage.specs.declared.links.Link.{Link}
+use Rattle.sa_subtypes_lineage.specs.Lineages.{Tables}
+use Rattle.sa_subtypes_lineage.specs.Lines.{in_line}
 use Rattle.sa_subtypes.specs.Questions.{pair_fits}
 
 -- ---- the lists

@@ -3,10 +3,10 @@ pub mod Bounds
 pub mod Deciding
 pub mod Questions
 pub mod Subtypes
-pub use Rattle.sa_pairs.specs.Edges
-pub use Rattle.sa_pairs.specs.Numbers
-pub use Rattle.sa_pairs.specs.Pairs
-pub use Rattle.sa_pairs.specs.Words
-pub use Rattle.sa_lineage.specs.Kept
-pub use Rattle.sa_lineage.specs.Lineages
-pub use Rattle.sa_lineage.specs.Lines
+pub use Rattle.sa_subtypes_pairs.specs.Edges
+pub use Rattle.sa_subtypes_pairs.specs.Numbers
+pub use Rattle.sa_subtypes_pairs.specs.Pairs
+pub use Rattle.sa_subtypes_pairs.specs.Words
+pub use Rattle.sa_subtypes_lineage.specs.Kept
+pub use Rattle.sa_subtypes_lineage.specs.Lineages
+pub use Rattle.sa_subtypes_lineage.specs.Lines

@@ -5,8 +5,8 @@ use Rattle.std.specs.Cmp.Lexicographic.{pointwise}
 use Rattle.sa_tree.specs.declared.ty.Mode.{Mode}
 use Rattle.sa_tree.specs.TypeEquality.{same_mode, same_type}
 use Rattle.sa_tree.specs.Types.{BareTy, Named, Same, Rout, Iter, BareTys, no_types, type, BareArgs, no_args, arg, BareResult, no_result, gives, bare, bare_tys}
-use Rattle.sa_pairs.specs.declared.pattern.Node.{Node}
-use Rattle.sa_pairs.specs.declared.pattern.Node.TheVariants as node
+use Rattle.sa_subtypes_pairs.specs.declared.pattern.Node.{Node}
+use Rattle.sa_subtypes_pairs.specs.declared.pattern.Node.TheVariants as node
 use Rattle.sa_subtypes.specs.declared.beside.Beside.{Beside}
 use Rattle.sa_subtypes.specs.declared.beside.Beside.TheVariants as beside
 use Rattle.sa_subtypes.specs.declared.seek.Found.{Found}
@@ -14,8 +14,8 @@ use Rattle.sa_subtypes.specs.declared.seek.Found.TheVariants as finding
 use Rattle.sa_subtypes.specs.declared.part.Part.{Part}
 use Rattle.sa_subtypes.specs.declared.part.Part.TheVariants as part
 use Rattle.sa_subtypes.specs.declared.question.Question.{Question}
-use Rattle.sa_pairs.specs.Spelled.{count_types, count_args, count_result, written_args, written_result, nowhere, same_nodes, spelled, spelled_all, Item, a_type, a_mode}
-use Rattle.sa_pairs.specs.Words.{Values, AreWords, put}
+use Rattle.sa_subtypes_pairs.specs.Spelled.{count_types, count_args, count_result, written_args, written_result, nowhere, same_nodes, spelled, spelled_all, Item, a_type, a_mode}
+use Rattle.sa_subtypes_pairs.specs.Words.{Values, AreWords, put}
 
 -- ---- the words of types
 

@@ -2,11 +2,11 @@
 
 ghost use Rattle.std.specs.Prelude.{◌≡◌, ◌+◌, ◌*◌, ◌<◌, drop, nat_eq};
 ghost use Rattle.sa_subtypes.specs.Questions.{is_class, is_head, is_iter, is_list, is_passed, is_routine, is_type_head, item_of, meets, met};
-ghost use Rattle.sa_pairs.specs.Spelled.{count_args, count_result};
+ghost use Rattle.sa_subtypes_pairs.specs.Spelled.{count_args, count_result};
 ghost use Rattle.sa_tree.specs.Types.{all_bare_args, bare, option_bare};
 
 use crate::part::Part;
-use sa_pairs::Node;
+use sa_subtypes_pairs::Node;
 use sa_tree::{Mode, ModeTy, Name, Ty};
 use sqlite_items::Boxed;
 

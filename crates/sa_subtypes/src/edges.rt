@@ -2,11 +2,11 @@
 
 ghost use Rattle.std.specs.Prelude.{◌≡◌};
 ghost use Rattle.std.proofs.Props.{props};
-ghost use Rattle.sa_lineage.specs.Lineages.{AreTried, tables};
-ghost use Rattle.sa_pairs.specs.Numbers.{number_in};
+ghost use Rattle.sa_subtypes_lineage.specs.Lineages.{AreTried, tables};
+ghost use Rattle.sa_subtypes_pairs.specs.Numbers.{number_in};
 ghost use Rattle.sa_subtypes.specs.Subtypes.{top_name};
 
-use sa_lineage::Lineage;
+use sa_subtypes_lineage::Lineage;
 
 /// The edges that the classes of a program declare, arranged so that a question takes no memory.
 #[derive(Drop)]

@@ -3,15 +3,15 @@
 ghost use Rattle.std.specs.Prelude.{◌≡◌, ◌||◌, ◌-◌, length, map, nat_eq, slice_get};
 ghost use Rattle.sa_subtypes.specs.Below.{tables_in};
 ghost use Rattle.sa_subtypes.specs.Deciding.{found_in, in_list, in_tree, is_by, list_by, place_by, some_place};
-ghost use Rattle.sa_lineage.specs.Lines.{in_line};
-ghost use Rattle.sa_pairs.specs.Pairs.{nodes_of};
+ghost use Rattle.sa_subtypes_lineage.specs.Lines.{in_line};
+ghost use Rattle.sa_subtypes_pairs.specs.Pairs.{nodes_of};
 ghost use Rattle.sa_subtypes.specs.Questions.{pair_fits};
 ghost use Rattle.sa_tree.specs.TypeEquality.{same_types};
 ghost use Rattle.sa_tree.specs.Types.{all_bare, bare};
 
 use crate::edges::Edges;
 use crate::question::pair_fits;
-use sa_lineage::{Above, Link, is_in_line};
+use sa_subtypes_lineage::{Above, Link, is_in_line};
 use sa_tree::Ty;
 
 impl Edges {
@@ -43,7 +43,7 @@ impl Edges {
     }
 
     /// Whether the second class is the first or above it in its tree.
-    #[tactic(auto, using(sa_lineage::proofs::Jumps::trees))]
+    #[tactic(auto, using(sa_subtypes_lineage::proofs::Jumps::trees))]
     fn is_in_line(&self, lower: u32, upper: u32) -> bool
         ensures { result ≡ in_line self.now.lineage.links.items lower upper }
     {

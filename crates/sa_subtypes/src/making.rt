@@ -4,8 +4,8 @@ ghost use Rattle.std.specs.Prelude.{◌≡◌, IfOk};
 ghost use Rattle.sa_subtypes.specs.Below.{AreSubtypesOf};
 
 use crate::edges::Edges;
-use sa_lineage::arranged;
-use sa_pairs::{Names, Work, check_supertypes, written_edges};
+use sa_subtypes_lineage::arranged;
+use sa_subtypes_pairs::{Names, Work, check_supertypes, written_edges};
 use sa_tree::{Flat, FrontFault};
 use std::alloc::Global;
 

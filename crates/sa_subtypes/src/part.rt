@@ -2,7 +2,7 @@
 
 ghost use Rattle.std.specs.Prelude.{◌≡◌};
 ghost use Rattle.sa_subtypes.specs.Questions.{item_of, same_item};
-ghost use Rattle.sa_pairs.specs.Spelled.{a_mode, a_type};
+ghost use Rattle.sa_subtypes_pairs.specs.Spelled.{a_mode, a_type};
 ghost use Rattle.sa_tree.specs.Types.{bare};
 
 use sa_tree::{Mode, Ty};

@@ -7,13 +7,13 @@
 ghost use Rattle.std.specs.Prelude.{◌≡◌, drop, length, map, slice_get};
 ghost use Rattle.std.specs.Option.{option_map};
 ghost use Rattle.sa_subtypes.specs.Questions.{both_fit, class_fits, comparing, counts_up, first_fits, is_end, is_number, item_of, pair_fits, past, reached, seeking, stands, upper_fits, value_below, value_from, value_in, walk, walk_all, walk_arg, walk_args, walk_inside, walk_mode, walk_result};
-ghost use Rattle.sa_pairs.specs.Spelled.{a_type};
+ghost use Rattle.sa_subtypes_pairs.specs.Spelled.{a_type};
 ghost use Rattle.sa_tree.specs.Types.{all_bare, all_bare_args, bare, bare_arg, option_bare};
 
 use crate::beside::{Beside, beside_at, is_count};
 use crate::part::{Part, is_same};
 use crate::seek::{Found, first_in, search_types};
-use sa_pairs::Node;
+use sa_subtypes_pairs::Node;
 use sa_tree::{Mode, ModeTy, Ty};
 use sqlite_items::Boxed;
 

@@ -3,7 +3,7 @@
 
 ghost use Rattle.std.specs.Prelude.{◌≡◌};
 ghost use Rattle.sa_subtypes.specs.Below.{below, immutable_in};
-ghost use Rattle.sa_pairs.specs.Numbers.{kind_bare};
+ghost use Rattle.sa_subtypes_pairs.specs.Numbers.{kind_bare};
 ghost use Rattle.sa_subtypes.specs.Subtypes.{is_immutable_kind};
 ghost use Rattle.sa_tree.specs.Types.{bare};
 

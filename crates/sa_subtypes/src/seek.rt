@@ -7,7 +7,7 @@ ghost use Rattle.sa_tree.specs.Types.{all_bare, all_bare_args, bare, bare_arg, o
 
 use crate::beside::{Beside, beside_at};
 use crate::part::Part;
-use sa_pairs::Node;
+use sa_subtypes_pairs::Node;
 use sa_tree::{Mode, ModeTy, Ty};
 use sqlite_items::Boxed;
 

@@ -1,4 +1,5 @@
 pub mod Names
+pub mod Rules
 pub mod Sources
 pub mod TypeEquality
 pub mod TypeHash

@@ -6,6 +6,7 @@ mod expr;
 mod name;
 mod pos;
 mod refusal;
+mod rule;
 mod shared;
 mod stmt;
 mod ty;
@@ -14,7 +15,8 @@ pub use class::{Access, Change, Class, Feature, Flat, Formal, Include, Kind, Par
 pub use expr::{Expr, Given, Op, Recv};
 pub use name::Name;
 pub use pos::{Pos, Sources, line_of};
-pub use refusal::{FrontFault, NoMemory, Refusal};
+pub use refusal::{FrontFault, NoMemory, Refusal, held};
+pub use rule::Rule;
 pub use shared::Shared;
 pub use stmt::{Arm, Body, CaseArm, Local, Stmt, TypeArm};
 pub use ty::{Mode, ModeTy, Ty};

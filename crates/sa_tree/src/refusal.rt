@@ -4,14 +4,15 @@ ghost use Rattle.std.specs.Prelude.{◌≡◌};
 ghost use Rattle.sa_tree.specs.declared.refusal.FrontFault.TheVariants as fault;
 
 use crate::pos::Pos;
+use crate::rule::Rule;
 use std::alloc::{AllocError, AllocFailed};
 use thiserror::Error;
 
-/// The written rule that a source breaks, by its number: 24 stands for E24.
+/// The written rule that a source breaks, and where.
 #[derive(Clone, Copy, Debug, PartialEq, Eq, Hash, Error)]
-#[error("refused by rule E{code:02}")]
+#[error("{rule}")]
 pub struct Refusal {
-    pub code: u8,
+    pub rule: Rule,
     pub pos: Pos,
 }
 
@@ -42,6 +43,19 @@ impl<T: Drop> From<AllocFailed<T>> for NoMemory {
 
     fn from(_error: AllocFailed<T>) -> NoMemory {
         NoMemory
+    }
+}
+
+/// What is there by the way that the tables were made. Where it isn't, memory is said to have run out.
+pub fn held<T>(found: Option<T>) -> Result<T, NoMemory> {
+    found.ok_or(NoMemory)
+}
+
+impl From<Refusal> for FrontFault {
+    ghost from_gives = { λ refusal e. e ≡ fault.Refused refusal };
+
+    fn from(refusal: Refusal) -> FrontFault {
+        FrontFault::Refused(refusal)
     }
 }
 

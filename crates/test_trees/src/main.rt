@@ -40,9 +40,9 @@ fn answer(alloc: Global, shown: Result<String, FrontFault>) -> Result<String, Al
     match shown {
         Ok(text) => Ok(text),
         Err(FrontFault::Refused(refusal)) => {
-            let code = refusal.code;
+            let rule = refusal.rule;
             let at = refusal.pos.at;
-            format!(in alloc; " E{code:02} at {at}")
+            format!(in alloc; " {rule} at {at}")
         }
         Err(FrontFault::NoMemory) => Err(AllocError),
     }

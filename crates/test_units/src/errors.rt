@@ -1,14 +1,14 @@
 //! What the errors of `sa_tree` print.
 
-use sa_tree::{FrontFault, NoMemory, Pos, Refusal};
+use sa_tree::{FrontFault, NoMemory, Pos, Rule};
 use std::alloc::AllocError;
 
 #[test]
 fn an_error_prints_its_cause(rt: HostRuntime) -> Result<(), AllocError> {
     let alloc = rt.alloc();
     let pos = Pos { file: 1, at: 0 };
-    let refused = FrontFault::Refused(Refusal { code: 7, pos });
-    assert_eq!(rt; refused.to_string(alloc)?.as_str(), "refused by rule E07");
+    let refused = FrontFault::Refused(Rule::NestedTooDeep.at(pos));
+    assert_eq!(rt; refused.to_string(alloc)?.as_str(), "E07: nested too deep");
     assert_eq!(rt;
         FrontFault::NoMemory.to_string(alloc)?.as_str(),
         "out of memory"

@@ -1,7 +1,7 @@
 //! The variables that an iter keeps while it is suspended.
 
 use sa_flat::{CallPlan, Callee, Fail, FlatBlock, FlatBody, FlatExit, FlatStep, Raised};
-use sa_live::kept_variables;
+use sa_lower_live::kept_variables;
 use sa_tree::NoMemory;
 use sqlite_items::Items;
 use std::alloc::Global;

@@ -25,8 +25,8 @@ const GAPS: [(&[u8], &str); 12] = [
     (b"---\n-", "sign - 4..5"),
     (b"-- \xFF \"\n;", "sign ; 7..8"),
     (b"\"--\" --\"", "text [45, 45] 0..4"),
-    (b"\x0B", "E01 at 0"),
-    (b"a\x00", "E01 at 1"),
+    (b"\x0B", "E01: bad byte at 0"),
+    (b"a\x00", "E01: bad byte at 1"),
 ];
 
 const NAMES: [(&[u8], &str); 20] = [
@@ -55,22 +55,22 @@ const NAMES: [(&[u8], &str); 20] = [
         "word if 0..2, lower 3..6, sign _ 7..8, word if 8..10, lower 11..14",
     ),
     (b"elt! loop! far!", "iter 0..4, iter 5..10, iter 11..15"),
-    (b"a!! ", "E01 at 2"),
-    (b"A!", "E01 at 1"),
-    (b"ITER!", "E01 at 4"),
-    (b"a !", "E01 at 2"),
+    (b"a!! ", "E01: bad byte at 2"),
+    (b"A!", "E01: bad byte at 1"),
+    (b"ITER!", "E01: bad byte at 4"),
+    (b"a !", "E01: bad byte at 2"),
     (b"a!=b", "iter 0..2, sign = 2..3, lower 3..4"),
     (
         b"$OB $A_1 $SAME",
         "abstract 0..3, abstract 4..8, abstract 9..14",
     ),
-    (b"$", "E01 at 0"),
-    (b"$ OB", "E01 at 0"),
-    (b"$ob", "E01 at 0"),
+    (b"$", "E01: bad byte at 0"),
+    (b"$ OB", "E01: bad byte at 0"),
+    (b"$ob", "E01: bad byte at 0"),
     (b"x $Ob", "lower 0..1, abstract 2..4, lower 4..5"),
-    (b"$1", "E01 at 0"),
-    (b"$A!", "E01 at 2"),
-    (b"caf\xC3\xA9", "E01 at 3"),
+    (b"$1", "E01: bad byte at 0"),
+    (b"$A!", "E01: bad byte at 2"),
+    (b"caf\xC3\xA9", "E01: bad byte at 3"),
 ];
 
 const NUMBERS: [(&[u8], &str); 25] = [
@@ -78,10 +78,10 @@ const NUMBERS: [(&[u8], &str); 25] = [
         b"0 7 00 2147483647",
         "int 0 0..1, int 7 2..3, int 0 4..6, int 2147483647 7..17",
     ),
-    (b"2147483648", "E03 at 0"),
-    (b"99999999999999999999999999", "E03 at 0"),
-    (b" 99999999999a", "E03 at 1"),
-    (b"0x7fffFFFF 0x80000000", "E03 at 11"),
+    (b"2147483648", "E03: number too large at 0"),
+    (b"99999999999999999999999999", "E03: number too large at 0"),
+    (b" 99999999999a", "E03: number too large at 1"),
+    (b"0x7fffFFFF 0x80000000", "E03: number too large at 11"),
     (
         b"0xaF 0o17 0b101",
         "int 175 0..4, int 15 5..9, int 5 10..15",
@@ -91,17 +91,20 @@ const NUMBERS: [(&[u8], &str); 25] = [
         "int 1000 0..5, int 1 6..8, int 12 9..13, int 255 14..20",
     ),
     (b"_1", "sign _ 0..1, int 1 1..2"),
-    (b"0x", "E04 at 0"),
-    (b"0xg", "E04 at 0"),
-    (b"0x_1", "E04 at 0"),
-    (b"0X1", "E04 at 0"),
-    (b"0b12", "E04 at 0"),
-    (b"0o8", "E04 at 0"),
-    (b"0b11111111111111111111111111111111112", "E03 at 0"),
-    (b"a 12a", "E04 at 2"),
-    (b"1_a", "E04 at 0"),
-    (b"1.5", "E04 at 0"),
-    (b"0x1.5", "E04 at 0"),
+    (b"0x", "E04: number form not taken at 0"),
+    (b"0xg", "E04: number form not taken at 0"),
+    (b"0x_1", "E04: number form not taken at 0"),
+    (b"0X1", "E04: number form not taken at 0"),
+    (b"0b12", "E04: number form not taken at 0"),
+    (b"0o8", "E04: number form not taken at 0"),
+    (
+        b"0b11111111111111111111111111111111112",
+        "E03: number too large at 0",
+    ),
+    (b"a 12a", "E04: number form not taken at 2"),
+    (b"1_a", "E04: number form not taken at 0"),
+    (b"1.5", "E04: number form not taken at 0"),
+    (b"0x1.5", "E04: number form not taken at 0"),
     (
         b"1.upto!(n)",
         "int 1 0..1, sign . 1..2, iter 2..7, sign ( 7..8, lower 8..9, sign ) 9..10",
@@ -128,19 +131,19 @@ const CHARACTERS: [(&[u8], &str); 18] = [
         "char 0 0..4, char 10 5..10, char 65 11..17, char 255 18..24",
     ),
     (b"'\xFF'", "char 255 0..3"),
-    (b"''", "E02 at 0"),
-    (b"'", "E02 at 0"),
-    (b"x 'ab'", "E02 at 2"),
-    (b"'\\1011'", "E02 at 0"),
-    (b"'\\18'", "E02 at 0"),
-    (b"'\\'", "E02 at 0"),
-    (b"'\n'", "E02 at 0"),
-    (b"'\\\n'", "E02 at 0"),
-    (b"'\\q'", "E05 at 1"),
-    (b"'\\qa'", "E02 at 0"),
-    (b"'\\400'", "E05 at 1"),
-    (b"'\\8'", "E05 at 1"),
-    (b"'\\A'", "E05 at 1"),
+    (b"''", "E02: literal not ended at 0"),
+    (b"'", "E02: literal not ended at 0"),
+    (b"x 'ab'", "E02: literal not ended at 2"),
+    (b"'\\1011'", "E02: literal not ended at 0"),
+    (b"'\\18'", "E02: literal not ended at 0"),
+    (b"'\\'", "E02: literal not ended at 0"),
+    (b"'\n'", "E02: literal not ended at 0"),
+    (b"'\\\n'", "E02: literal not ended at 0"),
+    (b"'\\q'", "E05: unknown escape at 1"),
+    (b"'\\qa'", "E02: literal not ended at 0"),
+    (b"'\\400'", "E05: unknown escape at 1"),
+    (b"'\\8'", "E05: unknown escape at 1"),
+    (b"'\\A'", "E05: unknown escape at 1"),
 ];
 
 const TEXTS: [(&[u8], &str); 14] = [
@@ -151,13 +154,13 @@ const TEXTS: [(&[u8], &str); 14] = [
     (b"\"\\1\\12\\1234\"", "text [1, 10, 83, 52] 0..12"),
     (b"\"\\19\"", "text [1, 57] 0..5"),
     (b"\"\xC3\xA9\t\"", "text [195, 169, 9] 0..5"),
-    (b"\"abc", "E02 at 0"),
-    (b"  \"abc\n\"", "E02 at 2"),
-    (b"\"\\q", "E02 at 0"),
-    (b"\"\\\"", "E02 at 0"),
-    (b"\"a\\q\\z\"", "E05 at 2"),
-    (b"x \"a\\777\"", "E05 at 4"),
-    (b"\"\\xFF\"", "E05 at 1"),
+    (b"\"abc", "E02: literal not ended at 0"),
+    (b"  \"abc\n\"", "E02: literal not ended at 2"),
+    (b"\"\\q", "E02: literal not ended at 0"),
+    (b"\"\\\"", "E02: literal not ended at 0"),
+    (b"\"a\\q\\z\"", "E05: unknown escape at 2"),
+    (b"x \"a\\777\"", "E05: unknown escape at 4"),
+    (b"\"\\xFF\"", "E05: unknown escape at 1"),
 ];
 
 const SIGN_TEXTS: [(&[u8], &str); 7] = [
@@ -178,8 +181,8 @@ const SIGN_TEXTS: [(&[u8], &str); 7] = [
         "sign + 0..1, sign - 1..2, sign * 2..3, sign % 3..4, sign ^ 4..5, sign ~ 5..6, sign # 6..7, sign | 7..8, sign _ 8..9, sign -> 9..11, sign . 11..12",
     ),
     (b"<--=\n=", "sign < 0..1, sign = 5..6"),
-    (b"a?", "E01 at 1"),
-    (b"@", "E01 at 0"),
+    (b"a?", "E01: bad byte at 1"),
+    (b"@", "E01: bad byte at 0"),
 ];
 
 /// Each word by its constant.
@@ -289,9 +292,9 @@ fn shown(alloc: Global, text: &[u8]) -> Result<String, AllocError>
             }
         }
         Err(FrontFault::Refused(refusal)) => {
-            let code = refusal.code;
+            let rule = refusal.rule;
             let at = refusal.pos.at;
-            write!(line, "E{code:02} at {at}")?;
+            write!(line, "{rule} at {at}")?;
         }
         Err(FrontFault::NoMemory) => line.push_str("no memory")?,
     }

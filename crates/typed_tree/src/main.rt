@@ -1,5 +1,5 @@
 //! Prints the typed tree of a program as JSON, of the sources whose files the arguments name. Where a rule refuses the sources,
-//! `["Refused", RULE, [FILE, BYTE]]` is printed in its place, with the number of the rule.
+//! `["Refused", RULE, [FILE, BYTE]]` is printed in its place, with the text of the rule.
 #![tactic(auto)]
 
 ghost use Rattle.std.specs.Prelude.{◌≤◌, ◌<◌, All, length};
@@ -67,7 +67,7 @@ fn add_tree(alloc: Global, writer: &mut Writer, program: &Program) -> Result<(),
 /// Adds the rule that refuses a program.
 fn add_refusal(writer: &mut Writer, refusal: Refusal) -> Result<(), AllocError> {
     writer.open("Refused")?;
-    writer.number(u32::from(refusal.code))?;
+    writer.bytes(refusal.rule.text().as_bytes())?;
     writer.pos(refusal.pos)?;
     writer.close_list()
 }

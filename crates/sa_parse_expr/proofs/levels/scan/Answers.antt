@@ -1,5 +1,6 @@
-use Rattle.std.proofs.Common.{◌≡◌, reverse, sym, ap, refl, ◌∙◌, arith}
-use Rattle.sa_parse_expr.specs.Level.{level_of}
+use Rattle.std.proofs.Common.{◌≡◌, reverse, sym, ap, refl, subst, ◌∙◌, arith}
+use Rattle.sa_tree.specs.declared.refusal.Refusal.{Refusal}
+use Rattle.sa_parse_expr.specs.Level.{level_of, IsFirstBreach}
 use Rattle.sa_parse_expr.proofs.Taken.{counters_behind-none, counters_behind-step, AreTaken-none, AreTaken-more, IsFirstBreach-word, IsFirstBreach-level}
 use Rattle.sa_parse_expr.proofs.levels.scan.Goals as goal
 
@@ -14,6 +15,7 @@ loop-token-init c =
 
 pub returns-then-is_refused-clause-refused : goal.returns-then-is_refused-clause-refused
 returns-then-is_refused-clause-refused c =
+    subst (λ (r : Refusal). IsFirstBreach c.args.tokens.now r × (r.pos.file ≡ c.args.file)) (sym c.at.ensures)
     (IsFirstBreach-word c.args.tokens.now c.loop-token.token-index c.token-item.result (omega arith) c.token-item.is c.args.file c.loop-token.invariant.taken (sym c.is_refused.ensures ∙ c.if-is_refused.true), refl)
 
 pub returns-then-levels-gt-MAX_LEVEL-clause-refused : goal.returns-then-levels-gt-MAX_LEVEL-clause-refused
@@ -23,6 +25,7 @@ returns-then-levels-gt-MAX_LEVEL-clause-refused c =
     let t = c.token-item.result in
     let counters = reverse c.step.new.self.counters.items in
     let behind = counters_behind-step tokens i t (omega arith) c.token-item.is c.step_of.result (reverse c.loop-token.levels.counters.items) counters c.step_of.ensures c.in_ok-step.ensures c.loop-token.invariant.counters in
+    subst (λ (r : Refusal). IsFirstBreach tokens r × (r.pos.file ≡ c.args.file)) (sym c.at-then-levels-gt-MAX_LEVEL.ensures)
     (IsFirstBreach-level tokens i t (omega arith) c.token-item.is c.args.file c.step.new.self.level counters c.loop-token.invariant.taken behind c.step.new.self.sum (omega arith), refl)
 
 pub loop-token-preserved : goal.loop-token-preserved

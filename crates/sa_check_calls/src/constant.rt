@@ -1,0 +1,21 @@
+//! A call that chooses a const is its value.
+
+use crate::receiver::Receiver;
+use sa_check_choice::{Built, Typed};
+use sa_core::ExprCore;
+
+/// A const in place of the call that names it. What it is called on isn't evaluated, so the sites that typing it made are
+/// taken out again; the bound types that its binds made stay.
+pub(crate) fn constant(built: &mut Built, on: Receiver, value: ExprCore, ty: Option<u32>) -> Typed {
+    let iter = on.iter();
+    if let Receiver::Value(_, sites) = &on {
+        for _ in *sites..built.sites.len() {
+            let _ = built.sites.pop();
+        }
+    }
+    Typed {
+        core: value,
+        ty,
+        iter,
+    }
+}

@@ -1,0 +1,209 @@
+//! Contextual forms at the type that their place wants.
+
+use crate::calls::{called_value, callee};
+use crate::passing::{PassedArgs, passed};
+use crate::ready::{ReadyArg, ReadyExpr};
+use crate::receiver::Receiver;
+use sa_check_choice::{
+    Built, ChosenFeature, Reached, Typed, View, first_iter, is_concrete, is_sub, number_of,
+    type_of, widened,
+};
+use sa_core::ExprCore;
+use sa_tree::{FrontFault, NoMemory, Pos, Rule, Ty, held};
+use sqlite_items::Items;
+use std::alloc::Global;
+
+/// The class of array literals.
+const ARRAY: &[u8] = b"ARRAY";
+
+/// An expression at the type that its place wants. One that has a type by itself keeps it.
+#[cycle(settle)]
+pub fn settled(
+    alloc: Global,
+    view: &View<'_>,
+    built: &Built,
+    ready: ReadyExpr,
+    wanted: Option<u32>,
+) -> Result<Typed, FrontFault> {
+    match ready {
+        ReadyExpr::Typed(value, _) => Ok(value),
+        ReadyExpr::Void(pos) => void(wanted, pos),
+        ReadyExpr::Create(args, pos) => create(alloc, view, built, args, wanted, pos),
+        ReadyExpr::Items(items, pos) => array(alloc, view, built, items, wanted, pos),
+    }
+}
+
+/// `void`: E41 where no type is wanted.
+fn void(wanted: Option<u32>, pos: Pos) -> Result<Typed, FrontFault> {
+    let Some(ty) = wanted else {
+        return Err(Rule::NoTypeFromContext.at(pos).into());
+    };
+    Ok(Typed {
+        core: ExprCore::VoidOf(ty),
+        ty: Some(ty),
+        iter: None,
+    })
+}
+
+/// `#(..)` without a type: a call of `create` on void of the wanted type, and E41 unless that is a concrete one.
+#[cycle(settle)]
+fn create(
+    alloc: Global,
+    view: &View<'_>,
+    built: &Built,
+    args: Vec<ReadyArg>,
+    wanted: Option<u32>,
+    pos: Pos,
+) -> Result<Typed, FrontFault> {
+    let on = created(view, wanted);
+    let callee = callee(
+        alloc,
+        view,
+        built,
+        &on,
+        b"create",
+        args.as_slice(),
+        pos,
+        true,
+    )?;
+    let passed = passed(alloc, view, built, args, callee.params.as_slice(), pos)?;
+    Ok(made(alloc, callee, on, passed, pos)?)
+}
+
+/// What `#(..)` without a type calls `create` on: nothing that has a type, unless a concrete one is wanted.
+fn created(view: &View<'_>, wanted: Option<u32>) -> Receiver {
+    match wanted {
+        Some(class) if is_concrete(view, class) => Receiver::Class(class),
+        _ => Receiver::Untyped,
+    }
+}
+
+/// The call of `create`, or its value where it is a const.
+fn made(
+    alloc: Global,
+    callee: ChosenFeature,
+    on: Receiver,
+    passed: PassedArgs,
+    pos: Pos,
+) -> Result<Typed, NoMemory> {
+    let ChosenFeature {
+        reached,
+        params: _params,
+        result: ty,
+    } = callee;
+    match reached {
+        Reached::Called(called) => called_value(alloc, called, on, passed, ty, pos),
+        Reached::Value(core) => Ok(Typed {
+            core,
+            ty,
+            iter: None,
+        }),
+    }
+}
+
+/// A value where a type is wanted, with the number of the type that it has by itself.
+#[derive(Drop)]
+pub(crate) struct SettledValue {
+    pub core: ExprCore,
+    pub from: u32,
+    pub iter: Option<Pos>,
+}
+
+/// An expression as a value of the type that its place wants, to which it is widened.
+#[cycle(settle)]
+pub(crate) fn settled_to(
+    alloc: Global,
+    view: &View<'_>,
+    built: &Built,
+    ready: ReadyExpr,
+    to: u32,
+) -> Result<SettledValue, FrontFault> {
+    let pos = ready.pos();
+    let Typed { core, ty, iter } = settled(alloc, view, built, ready, Some(to))?;
+    let from = held(ty)?;
+    let core = widened(alloc, view, core, from, to, pos)?;
+    Ok(SettledValue { core, from, iter })
+}
+
+/// An array literal: E41 unless an array is wanted, and E33 unless each element goes to the type of its elements.
+#[cycle(settle)]
+fn array(
+    alloc: Global,
+    view: &View<'_>,
+    built: &Built,
+    items: Vec<ReadyExpr>,
+    wanted: Option<u32>,
+    pos: Pos,
+) -> Result<Typed, FrontFault> {
+    let Some((ty, of)) = array_type(view, built, wanted) else {
+        return Err(Rule::NoTypeFromContext.at(pos).into());
+    };
+    let elements = elements(alloc, view, built, items, of)?;
+    if !elements.go {
+        return Err(Rule::WrongType.at(pos).into());
+    }
+    Ok(Typed {
+        core: ExprCore::Items(ty, elements.cores, pos),
+        ty: Some(ty),
+        iter: elements.iter,
+    })
+}
+
+/// The elements of an array literal.
+#[derive(Drop)]
+struct ArrayElements {
+    cores: Items<ExprCore>,
+    /// The first iter call in them.
+    iter: Option<Pos>,
+    /// Whether each goes to the type of the array's elements.
+    go: bool,
+}
+
+/// The elements of an array literal whose elements have the type with the number `of`.
+#[cycle(settle)]
+fn elements(
+    alloc: Global,
+    view: &View<'_>,
+    built: &Built,
+    items: Vec<ReadyExpr>,
+    of: u32,
+) -> Result<ArrayElements, FrontFault> {
+    let mut all = ArrayElements {
+        cores: Items::new(alloc),
+        iter: None,
+        go: true,
+    };
+    for item in items {
+        let value = settled_to(alloc, view, built, item, of)?;
+        let goes = is_sub(view, built, value.from, of);
+        all.add(value, goes)?;
+    }
+    Ok(all)
+}
+
+impl ArrayElements {
+    fn add(&mut self, value: SettledValue, goes: bool) -> Result<(), NoMemory> {
+        let SettledValue {
+            core,
+            from: _from,
+            iter,
+        } = value;
+        self.cores.push(core)?;
+        self.iter = first_iter(self.iter, iter);
+        self.go = self.go && goes;
+        Ok(())
+    }
+}
+
+/// The number of a wanted array type and that of its elements' type.
+fn array_type(view: &View<'_>, built: &Built, wanted: Option<u32>) -> Option<(u32, u32)> {
+    let ty = wanted?;
+    let Ty::Named(name, given, _) = type_of(view, built, ty)? else {
+        return None;
+    };
+    if name.as_slice() != ARRAY {
+        return None;
+    }
+    let of = given.get(0)?;
+    Some((ty, number_of(view, built, of)?))
+}

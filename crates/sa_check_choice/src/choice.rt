@@ -1,0 +1,174 @@
+//! Which candidate a call chooses, and what it then reaches.
+
+use crate::candidates::{Candidate, candidates, described};
+use crate::target::{Reached, reached_by};
+use crate::view::View;
+use sa_overload::{ArgIn, Cand, Choice, choose, fits};
+use sa_tree::{FrontFault, Mode, NoMemory, Pos, Rule, held};
+use sqlite_items::Items;
+use std::alloc::Global;
+
+/// A parameter of what is called.
+#[derive(Clone, Copy, Debug, PartialEq, Eq)]
+pub struct Param {
+    pub mode: Mode,
+    /// The number of its type.
+    pub ty: u32,
+}
+
+/// What a call reaches.
+#[derive(Drop)]
+pub struct ChosenFeature {
+    pub reached: Reached,
+    pub params: Items<Param>,
+    /// The number of the result's type, or none where it gives no result.
+    pub result: Option<u32>,
+}
+
+/// What a call by name on the type with the number `of` reaches, by the types of its arguments, at a place that wants a
+/// result or wants none. Refused at `pos`:
+///
+/// - E30: nothing has the name. E34: only private features have it that aren't seen here.
+/// - E31: none fits. E32: several do, and none of them is the most specific one.
+/// - E41: those that fit have several types where an argument has none, which is a contextual one.
+pub fn chosen(
+    alloc: Global,
+    view: &View<'_>,
+    of: u32,
+    name: &[u8],
+    args: &[ArgIn],
+    wants: bool,
+    pos: Pos,
+) -> Result<ChosenFeature, FrontFault> {
+    let call = Call::new(alloc, view, of, name, pos)?;
+    let candidate = call.choice(view, args, wants, pos)?;
+    Ok(described_choice(alloc, view, of, candidate)?)
+}
+
+/// What the candidate is that a bind's head chooses: one with a result where one fits, and else one without. It is
+/// refused as `chosen` refuses.
+pub fn bound_candidate(
+    alloc: Global,
+    view: &View<'_>,
+    of: u32,
+    name: &[u8],
+    args: &[ArgIn],
+    pos: Pos,
+) -> Result<Candidate, FrontFault> {
+    let call = Call::new(alloc, view, of, name, pos)?;
+    let wants = call.has_result(view, args);
+    call.choice(view, args, wants, pos)
+}
+
+/// What is reached by a call on a type that has chosen a candidate.
+pub fn described_choice(
+    alloc: Global,
+    view: &View<'_>,
+    of: u32,
+    candidate: Candidate,
+) -> Result<ChosenFeature, NoMemory> {
+    let member = held(view.program.member(candidate.from, candidate.member))?;
+    let mut params = Items::new(alloc);
+    for (place, mode) in member.modes.as_slice().iter().enumerate() {
+        let ty = held(view.program.argument(candidate.from, member, place))?;
+        params.push(Param { mode: *mode, ty })?;
+    }
+    Ok(ChosenFeature {
+        reached: reached_by(alloc, view, of, candidate)?,
+        params,
+        result: view.program.result(candidate.from, member),
+    })
+}
+
+/// The candidates of a call, by their places and as the choice sees them.
+#[derive(Drop)]
+struct Call {
+    candidates: Items<Candidate>,
+    described: Items<Cand>,
+}
+
+impl Call {
+    fn new(
+        alloc: Global,
+        view: &View<'_>,
+        of: u32,
+        name: &[u8],
+        pos: Pos,
+    ) -> Result<Call, FrontFault> {
+        let candidates = candidates(alloc, view, of, name, pos)?;
+        let described = described(alloc, view, candidates.as_slice())?;
+        Ok(Call {
+            candidates,
+            described,
+        })
+    }
+
+    /// Whether one that gives a result fits.
+    fn has_result(&self, view: &View<'_>, args: &[ArgIn]) -> bool {
+        let edges = view.program.edges();
+        self.described
+            .as_slice()
+            .iter()
+            .any(|cand| fits(cand, args, true, edges))
+    }
+
+    /// The chosen one: E31, E32, E41.
+    fn choice(
+        &self,
+        view: &View<'_>,
+        args: &[ArgIn],
+        wants: bool,
+        pos: Pos,
+    ) -> Result<Candidate, FrontFault> {
+        let described = self.described.as_slice();
+        if described.len() >= u32::MAX as usize {
+            return Err(FrontFault::NoMemory);
+        }
+        let place = match choose(described, args, wants, view.program.edges()) {
+            Choice::One(place) => place as usize,
+            Choice::NoneFits => return Err(Rule::NoFeatureFits.at(pos).into()),
+            Choice::Several(_, _) => return Err(Rule::SeveralFeaturesFit.at(pos).into()),
+        };
+        let cand = held(described.get(place))?;
+        if !have_one_context(view, described, cand, args, wants) {
+            return Err(Rule::NoTypeFromContext.at(pos).into());
+        }
+        Ok(*held(self.candidates.get(place))?)
+    }
+}
+
+/// Whether all candidates that fit have the chosen one's types where an argument is contextual.
+fn have_one_context(
+    view: &View<'_>,
+    described: &[Cand],
+    chosen: &Cand,
+    args: &[ArgIn],
+    wants: bool,
+) -> bool {
+    if !args.iter().any(is_contextual) {
+        return true;
+    }
+    let edges = view.program.edges();
+    for cand in described {
+        if fits(cand, args, wants, edges) && !is_one_context(cand, chosen, args) {
+            return false;
+        }
+    }
+    true
+}
+
+/// Whether an argument takes its type from its parameter.
+fn is_contextual(arg: &ArgIn) -> bool {
+    arg.ty.is_none() && !arg.left
+}
+
+/// Whether two candidates have the same types where an argument is contextual.
+fn is_one_context(one: &Cand, other: &Cand, args: &[ArgIn]) -> bool {
+    let params = one.args.as_slice().iter().zip(other.args.as_slice());
+    for (arg, (one, other)) in args.iter().zip(params) {
+        if is_contextual(arg) && one.ty != other.ty {
+            return false;
+        }
+    }
+    true
+}

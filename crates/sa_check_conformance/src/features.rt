@@ -1,0 +1,24 @@
+//! What members are as features: their names and whether they are constants.
+
+use sa_check_program::{Member, Program};
+use sa_tree::{Feature, NoMemory, Part, held};
+
+/// The feature of a member of a type.
+pub(crate) fn feature_of<'p>(
+    program: &'p Program<'_>,
+    ty: u32,
+    member: &Member,
+) -> Result<&'p Feature, NoMemory> {
+    let class = held(program.class(ty))?;
+    held(class.features.get(member.feature as usize))
+}
+
+/// Whether a member may implement a signature: it is public, and no constant.
+pub(crate) fn may_implement(
+    program: &Program<'_>,
+    ty: u32,
+    member: &Member,
+) -> Result<bool, NoMemory> {
+    let feature = feature_of(program, ty, member)?;
+    Ok(!member.private && !matches!(feature.part, Part::Const(_, _)))
+}

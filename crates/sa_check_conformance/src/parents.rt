@@ -1,0 +1,57 @@
+//! An order of the abstract types in which each stands behind those after its `<`.
+
+use sa_check_program::Program;
+use sa_graph::{Graph, word};
+use sa_tree::{Kind, NoMemory, held};
+use std::alloc::Global;
+
+/// The numbers of the types after the `<` of a type.
+pub(crate) fn parents(alloc: Global, program: &Program<'_>, ty: u32) -> Result<Vec<u32>, NoMemory> {
+    let mut numbers = Vec::new(alloc);
+    let Some(class) = program.class(ty) else {
+        return Ok(numbers);
+    };
+    for below in class.below.as_slice() {
+        numbers.push(held(program.number_of(ty, below))?)?;
+    }
+    Ok(numbers)
+}
+
+/// Whether a type is abstract.
+pub(crate) fn is_abstract(program: &Program<'_>, ty: u32) -> bool {
+    matches!(program.kind(ty), Some(Kind::Abstract))
+}
+
+/// The numbers of the abstract types, each behind the types after its `<`.
+pub(crate) fn upper_first(alloc: Global, program: &Program<'_>) -> Result<Vec<u32>, NoMemory> {
+    let mut starts = Vec::new(alloc);
+    let mut ends = Vec::new(alloc);
+    for ty in 0..program.count() {
+        for parent in parents(alloc, program, ty)? {
+            starts.push(ty)?;
+            ends.push(parent)?;
+        }
+    }
+    let graph = Graph::new(alloc, program.count() as usize, starts, ends)?;
+    abstract_ones(alloc, program, graph.order(alloc)?.as_slice())
+}
+
+/// Those of the types that are abstract, in the same order.
+fn abstract_ones(
+    alloc: Global,
+    program: &Program<'_>,
+    types: &[u32],
+) -> Result<Vec<u32>, NoMemory> {
+    let mut numbers = Vec::new(alloc);
+    for ty in types {
+        if is_abstract(program, *ty) {
+            numbers.push(*ty)?;
+        }
+    }
+    Ok(numbers)
+}
+
+/// The number of a place in a list.
+pub(crate) fn number(place: usize) -> Result<u32, NoMemory> {
+    word(place)
+}

@@ -1,0 +1,246 @@
+//! Binds: a call some of whose arguments are given later.
+
+use sa_check_calls::{
+    PassedArgs, ReadyArg, Receiver, is_iter_name, leave_of, passed, seen_arguments,
+};
+use sa_check_choice::{
+    Built, Candidate, Place, Typed, View, bound_candidate, described_choice, description,
+    first_iter, number_of, position, variable_named,
+};
+use sa_core::{CalledCore, ExprCore};
+use sa_overload::Cand;
+use sa_tree::{Expr, FrontFault, ModeTy, Name, NoMemory, Pos, Rule, Ty, held};
+use sqlite_items::{Boxed, Items};
+use std::alloc::Global;
+
+/// `bind(..)` of a head that is a call by name, with what stands inside it typed. It is refused at `pos` with E45:
+///
+/// - unless the head isn't a variable, `call`, `call!` or a built-in iter;
+/// - if an argument of the head is `out` or `inout`;
+/// - if what the head chooses is a const.
+///
+/// The head is refused at its name as another call is, but that it may stand outside a loop and within a protect.
+pub fn bind_form(
+    alloc: Global,
+    view: &View<'_>,
+    place: &Place,
+    built: &mut Built,
+    head: &Expr,
+    name: &Name,
+    receiver: Receiver,
+    args: Vec<ReadyArg>,
+    pos: Pos,
+) -> Result<Typed, FrontFault> {
+    if !is_bindable(place, head) || writes(args.as_slice()) {
+        return Err(Rule::BadBind.at(pos).into());
+    }
+    bind(
+        alloc,
+        view,
+        built,
+        receiver,
+        name.as_slice(),
+        args,
+        position(head),
+        pos,
+    )
+}
+
+/// Whether a head is a call by name that can be bound: it isn't a variable, `call`, `call!`, `while!`, `until!` or `break!`.
+fn is_bindable(place: &Place, head: &Expr) -> bool {
+    let Expr::Call(on, name, _, _) = head else {
+        return false;
+    };
+    variable_named(place, head).is_none()
+        && leave_of(on, name).is_none()
+        && !matches!(name.as_slice(), b"call" | b"call!")
+}
+
+/// Whether the call writes a variable.
+fn writes(args: &[ReadyArg]) -> bool {
+    args.iter()
+        .any(|arg| matches!(arg, ReadyArg::Variable(_, _)))
+}
+
+/// What the head of a bind calls, and the number of the type of the bound value.
+#[derive(Clone, Copy)]
+struct Head {
+    of: u32,
+    candidate: Candidate,
+    called: CalledCore,
+    ty: u32,
+}
+
+/// The bound value of a head that stands at `at`.
+fn bind(
+    alloc: Global,
+    view: &View<'_>,
+    built: &mut Built,
+    on: Receiver,
+    name: &[u8],
+    args: Vec<ReadyArg>,
+    at: Pos,
+    pos: Pos,
+) -> Result<Typed, FrontFault> {
+    let head = head_of(alloc, view, built, &on, name, args.as_slice(), at, pos)?;
+    let passed = head_passed(alloc, view, built, head, args, at)?;
+    Ok(bound_value(alloc, head, on, passed, pos)?)
+}
+
+/// What a head chooses: E45 where that is a const.
+fn head_of(
+    alloc: Global,
+    view: &View<'_>,
+    built: &mut Built,
+    on: &Receiver,
+    name: &[u8],
+    args: &[ReadyArg],
+    at: Pos,
+    pos: Pos,
+) -> Result<Head, FrontFault> {
+    let of = on.ty(view, at)?;
+    let candidate = head_candidate(alloc, view, built, of, name, args, at)?;
+    let Some(called) = head_called(alloc, view, of, candidate)? else {
+        return Err(Rule::BadBind.at(pos).into());
+    };
+    let ty = bound_number(alloc, view, built, name, args, candidate, pos)?;
+    Ok(Head {
+        of,
+        candidate,
+        called,
+        ty,
+    })
+}
+
+/// The candidate that a head chooses.
+fn head_candidate(
+    alloc: Global,
+    view: &View<'_>,
+    built: &Built,
+    of: u32,
+    name: &[u8],
+    args: &[ReadyArg],
+    at: Pos,
+) -> Result<Candidate, FrontFault> {
+    let seen = seen_arguments(alloc, view, built, args)?;
+    bound_candidate(alloc, view, of, name, seen.as_slice(), at)
+}
+
+/// What a candidate calls. A const calls nothing.
+fn head_called(
+    alloc: Global,
+    view: &View<'_>,
+    of: u32,
+    candidate: Candidate,
+) -> Result<Option<CalledCore>, NoMemory> {
+    Ok(
+        described_choice(alloc, view, of, candidate)?
+            .reached
+            .called(),
+    )
+}
+
+/// The arguments of a head at the parameters of what it calls.
+fn head_passed(
+    alloc: Global,
+    view: &View<'_>,
+    built: &Built,
+    head: Head,
+    args: Vec<ReadyArg>,
+    at: Pos,
+) -> Result<PassedArgs, FrontFault> {
+    let choice = described_choice(alloc, view, head.of, head.candidate)?;
+    passed(alloc, view, built, args, choice.params.as_slice(), at)
+}
+
+/// The bind of what the head calls.
+fn bound_value(
+    alloc: Global,
+    head: Head,
+    on: Receiver,
+    passed: PassedArgs,
+    pos: Pos,
+) -> Result<Typed, NoMemory> {
+    let PassedArgs {
+        args,
+        iter,
+        once: _once,
+        fit: _fit,
+    } = passed;
+    let iter = first_iter(on.iter(), iter);
+    let on = Boxed::new(alloc, on.into_core()?)?;
+    Ok(Typed {
+        core: ExprCore::Bind(head.called, on, args, head.ty, pos),
+        ty: Some(head.ty),
+        iter,
+    })
+}
+
+/// The number of the type of a bound value.
+fn bound_number(
+    alloc: Global,
+    view: &View<'_>,
+    built: &mut Built,
+    name: &[u8],
+    args: &[ReadyArg],
+    candidate: Candidate,
+    pos: Pos,
+) -> Result<u32, NoMemory> {
+    let ty = bound_type(alloc, view, name, args, candidate, pos)?;
+    number_of_bound(view, built, ty)
+}
+
+/// The type of a bound value at the position of its bind: over the open arguments in order, each with the mode and the type
+/// of its parameter. The types keep the positions at which the candidate writes them.
+fn bound_type(
+    alloc: Global,
+    view: &View<'_>,
+    name: &[u8],
+    args: &[ReadyArg],
+    candidate: Candidate,
+    pos: Pos,
+) -> Result<Ty, NoMemory> {
+    let Cand {
+        args: params,
+        result: gives,
+    } = description(alloc, view, candidate)?;
+    let open = open_params(alloc, args, params.as_slice())?;
+    let gives = match gives {
+        None => None,
+        Some(ty) => Some(Boxed::new(alloc, ty)?),
+    };
+    if is_iter_name(name) {
+        Ok(Ty::Iter(open, gives, pos))
+    } else {
+        Ok(Ty::Rout(open, gives, pos))
+    }
+}
+
+/// The parameters whose arguments are left open.
+fn open_params(
+    alloc: Global,
+    args: &[ReadyArg],
+    params: &[ModeTy],
+) -> Result<Items<ModeTy>, NoMemory> {
+    let mut open = Items::new(alloc);
+    for (arg, param) in args.iter().zip(params) {
+        if matches!(arg, ReadyArg::Left(_)) {
+            let ty = param.ty.copy(alloc)?;
+            open.push(ModeTy {
+                mode: param.mode,
+                ty,
+            })?;
+        }
+    }
+    Ok(open)
+}
+
+/// The number of the type of a bound value, which is a new one where it is no needed instance and no bind has made it.
+fn number_of_bound(view: &View<'_>, built: &mut Built, ty: Ty) -> Result<u32, NoMemory> {
+    if let Some(number) = number_of(view, built, &ty) {
+        return Ok(number);
+    }
+    let place = held(u32::try_from(built.bound.len()).ok())?;
+    built.bound.insert(ty, ())?;
+    held(view.program.count().checked_add(place))
+}

@@ -1,0 +1,71 @@
+//! New objects, those that a class creates, and the test for void.
+
+use sa_check_calls::{ReadyArg, ReadyExpr, Receiver, call};
+use sa_check_choice::{Built, Place, Typed, View, kind_of, of_type};
+use sa_check_program::{BOOL, INT};
+use sa_core::ExprCore;
+use sa_tree::{FrontFault, Kind, Pos, Rule, held};
+use sqlite_items::Boxed;
+use std::alloc::Global;
+
+/// `new`. E30: the class is no reference class. E31: its objects have an array part, whose length is missing.
+pub fn new_object(view: &View<'_>, pos: Pos) -> Result<Typed, FrontFault> {
+    if kind_of(view, view.class) != Kind::Reference {
+        return Err(Rule::UnknownName.at(pos).into());
+    }
+    if view.program.has_array(view.class) {
+        return Err(Rule::NoFeatureFits.at(pos).into());
+    }
+    Ok(of_type(ExprCore::New(view.class, pos), view.class))
+}
+
+/// `new(n)`. E30: the class is no reference class. E31: its objects have no array part. E33: the length is no INT.
+pub fn new_array(
+    alloc: Global,
+    view: &View<'_>,
+    length: Typed,
+    pos: Pos,
+) -> Result<Typed, FrontFault> {
+    if kind_of(view, view.class) != Kind::Reference {
+        return Err(Rule::UnknownName.at(pos).into());
+    }
+    if !view.program.has_array(view.class) {
+        return Err(Rule::NoFeatureFits.at(pos).into());
+    }
+    if length.ty != Some(INT) {
+        return Err(Rule::WrongType.at(pos).into());
+    }
+    Ok(Typed {
+        core: ExprCore::NewArray(view.class, Boxed::new(alloc, length.core)?, pos),
+        ty: Some(view.class),
+        iter: length.iter,
+    })
+}
+
+/// `#C(..)` with the number of its class: a call of `create` on void of the class.
+pub fn create(
+    alloc: Global,
+    view: &View<'_>,
+    place: &Place,
+    built: &mut Built,
+    class: Option<u32>,
+    args: Vec<ReadyArg>,
+    pos: Pos,
+    wants: bool,
+) -> Result<Typed, FrontFault> {
+    let class = held(class)?;
+    let on = Receiver::Class(class);
+    call(alloc, view, place, built, on, b"create", args, pos, wants)
+}
+
+/// `void(e)`: E41 where the expression is contextual.
+pub fn is_void(alloc: Global, of: ReadyExpr, pos: Pos) -> Result<Typed, FrontFault> {
+    let ReadyExpr::Typed(of, _) = of else {
+        return Err(Rule::NoTypeFromContext.at(pos).into());
+    };
+    Ok(Typed {
+        core: ExprCore::IsVoid(Boxed::new(alloc, of.core)?),
+        ty: Some(BOOL),
+        iter: of.iter,
+    })
+}

@@ -1,0 +1,214 @@
+//! Operators and the features that they call, once their operands are typed.
+//!
+//! A comparison by `<=`, `>`, `>=` or `/=` calls `is_leq`, `is_gt`, `is_geq` or `is_neq` where the class of the left operand
+//! has a feature of that name, seen or not. Elsewhere `a <= b` means `~(b < a)`, `a > b` means `b < a`, `a >= b` means
+//! `~(a < b)` and `a /= b` means `~(a = b)`. Operands are evaluated from left to right all the same.
+
+use crate::swapped::swapped;
+use sa_check_calls::{ReadyArg, ReadyExpr, Receiver, call};
+use sa_check_choice::{Built, Place, Typed, View, first_iter, kind_of};
+use sa_check_program::BOOL;
+use sa_core::ExprCore;
+use sa_tree::{FrontFault, Kind, NoMemory, Op, Pos, Rule};
+use sqlite_items::Boxed;
+use std::alloc::Global;
+
+/// The feature that an operator calls.
+fn called_name(op: Op) -> &'static [u8] {
+    match op {
+        Op::Plus => b"plus",
+        Op::Minus => b"minus",
+        Op::Times => b"times",
+        Op::Div => b"div",
+        Op::Pow => b"pow",
+        Op::Mod => b"mod",
+        Op::Lt => b"is_lt",
+        Op::Leq => b"is_leq",
+        Op::Gt => b"is_gt",
+        Op::Geq => b"is_geq",
+        Op::Eq => b"is_eq",
+        Op::Neq => b"is_neq",
+        Op::And => b"and",
+        Op::Or => b"or",
+        Op::Negate => b"negate",
+        Op::Not => b"not",
+    }
+}
+
+/// `and` and `or`: E33 unless both operands are BOOL.
+pub fn connected(
+    alloc: Global,
+    op: Op,
+    one: Typed,
+    other: Typed,
+    pos: Pos,
+) -> Result<Typed, FrontFault> {
+    if one.ty != Some(BOOL) || other.ty != Some(BOOL) {
+        return Err(Rule::WrongType.at(pos).into());
+    }
+    let iter = first_iter(one.iter, other.iter);
+    let one = Boxed::new(alloc, one.core)?;
+    let other = Boxed::new(alloc, other.core)?;
+    let core = match op {
+        Op::Or => ExprCore::Or(one, other),
+        _ => ExprCore::And(one, other),
+    };
+    Ok(Typed {
+        core,
+        ty: Some(BOOL),
+        iter,
+    })
+}
+
+/// `-` and `~`: a call on the operand.
+pub fn unary(
+    alloc: Global,
+    view: &View<'_>,
+    place: &Place,
+    built: &mut Built,
+    op: Op,
+    of: Receiver,
+    pos: Pos,
+    wants: bool,
+) -> Result<Typed, FrontFault> {
+    let none = Vec::new(alloc);
+    call(
+        alloc,
+        view,
+        place,
+        built,
+        of,
+        called_name(op),
+        none,
+        pos,
+        wants,
+    )
+}
+
+/// `e[..]` and `[..]`: a call of `aget`.
+pub fn index(
+    alloc: Global,
+    view: &View<'_>,
+    place: &Place,
+    built: &mut Built,
+    of: Receiver,
+    places: Vec<ReadyExpr>,
+    pos: Pos,
+    wants: bool,
+) -> Result<Typed, FrontFault> {
+    let args = values(alloc, places)?;
+    call(alloc, view, place, built, of, b"aget", args, pos, wants)
+}
+
+/// Arguments that are values.
+fn values(alloc: Global, list: Vec<ReadyExpr>) -> Result<Vec<ReadyArg>, NoMemory> {
+    let mut args = Vec::new(alloc);
+    for value in list {
+        args.push(ReadyArg::Value(value))?;
+    }
+    Ok(args)
+}
+
+/// An operator of two operands that isn't `and` or `or`, of which the left one stands at `at`. E41 where what is called on
+/// is contextual, and the refusals of the call.
+pub fn binary(
+    alloc: Global,
+    view: &View<'_>,
+    place: &Place,
+    built: &mut Built,
+    op: Op,
+    one: Receiver,
+    at: Pos,
+    other: ReadyExpr,
+    pos: Pos,
+    wants: bool,
+) -> Result<Typed, FrontFault> {
+    let of = one.ty(view, pos)?;
+    let name = called_name(op);
+    if !is_derived(op) || has_feature(view, of, name) {
+        return called(alloc, view, place, built, one, name, other, pos, wants);
+    }
+    if op == Op::Gt {
+        return swapped(alloc, view, built, one, at, other, pos, wants);
+    }
+    let opposite = opposite(alloc, view, place, built, op, one, at, other, pos)?;
+    negated(alloc, view, place, built, opposite, pos, wants)
+}
+
+/// The comparison whose opposite `<=`, `>=` or `/=` means.
+fn opposite(
+    alloc: Global,
+    view: &View<'_>,
+    place: &Place,
+    built: &mut Built,
+    op: Op,
+    one: Receiver,
+    at: Pos,
+    other: ReadyExpr,
+    pos: Pos,
+) -> Result<Typed, FrontFault> {
+    match op {
+        Op::Leq => swapped(alloc, view, built, one, at, other, pos, true),
+        Op::Geq => called(alloc, view, place, built, one, b"is_lt", other, pos, true),
+        _ => called(alloc, view, place, built, one, b"is_eq", other, pos, true),
+    }
+}
+
+/// Whether an operator means another call where the class of its left operand has no feature for it.
+fn is_derived(op: Op) -> bool {
+    matches!(op, Op::Leq | Op::Gt | Op::Geq | Op::Neq)
+}
+
+/// Whether the class of a type has a feature or a signature with a name, seen or not.
+fn has_feature(view: &View<'_>, of: u32, name: &[u8]) -> bool {
+    if kind_of(view, of) == Kind::Abstract {
+        return !view.signatures.named(of, name).is_empty();
+    }
+    !view.program.named(of, name).is_empty()
+}
+
+/// A call with one argument.
+fn called(
+    alloc: Global,
+    view: &View<'_>,
+    place: &Place,
+    built: &mut Built,
+    on: Receiver,
+    name: &[u8],
+    arg: ReadyExpr,
+    pos: Pos,
+    wants: bool,
+) -> Result<Typed, FrontFault> {
+    let mut args = Vec::new(alloc);
+    args.push(ReadyArg::Value(arg))?;
+    call(alloc, view, place, built, on, name, args, pos, wants)
+}
+
+/// The call of `not` on a comparison: E33 unless this gives BOOL.
+fn negated(
+    alloc: Global,
+    view: &View<'_>,
+    place: &Place,
+    built: &mut Built,
+    compared: Typed,
+    pos: Pos,
+    wants: bool,
+) -> Result<Typed, FrontFault> {
+    if compared.ty != Some(BOOL) {
+        return Err(Rule::WrongType.at(pos).into());
+    }
+    let sites = built.sites.len();
+    let on = Receiver::Value(compared, sites);
+    let none = Vec::new(alloc);
+    call(
+        alloc,
+        view,
+        place,
+        built,
+        on,
+        called_name(Op::Not),
+        none,
+        pos,
+        wants,
+    )
+}

@@ -1,0 +1,150 @@
+//! Comparisons that are called on their second operand.
+
+use sa_check_calls::{ReadyExpr, Receiver};
+use sa_check_choice::{Built, Typed, View, chosen, first_iter, kind_of, type_of, widened};
+use sa_check_program::BOOL;
+use sa_core::{CalledCore, ExprCore, Target};
+use sa_overload::ArgIn;
+use sa_tree::{FrontFault, Kind, Mode, NoMemory, Pos, Rule, held};
+use sqlite_items::Boxed;
+use std::alloc::Global;
+
+/// The feature that is called.
+const IS_LT: &[u8] = b"is_lt";
+
+/// `a > b` as `b < a`: a call of `is_lt` on the second operand, with the first as its argument. The first stands at `at`.
+///
+/// E41 where one of them is contextual, the refusals of the call, where an abstract type of the second operand has no
+/// feature that fits, and E33 unless the called feature gives BOOL.
+pub(crate) fn swapped(
+    alloc: Global,
+    view: &View<'_>,
+    built: &Built,
+    one: Receiver,
+    at: Pos,
+    other: ReadyExpr,
+    pos: Pos,
+    wants: bool,
+) -> Result<Typed, FrontFault> {
+    let less = less_of(alloc, view, built, &one, &other, wants, pos)?;
+    if !less.gives_bool {
+        return Err(Rule::WrongType.at(pos).into());
+    }
+    Ok(call_of(alloc, view, less, one, at, other, pos)?)
+}
+
+/// The `is_lt` that is called on the second operand, where both have a type by themselves.
+fn less_of(
+    alloc: Global,
+    view: &View<'_>,
+    built: &Built,
+    one: &Receiver,
+    other: &ReadyExpr,
+    wants: bool,
+    pos: Pos,
+) -> Result<Comparison, FrontFault> {
+    let Receiver::Value(one, _) = one else {
+        return Err(Rule::NoTypeFromContext.at(pos).into());
+    };
+    let ReadyExpr::Typed(other, _) = other else {
+        return Err(Rule::NoTypeFromContext.at(pos).into());
+    };
+    less(
+        alloc,
+        view,
+        built,
+        held(other.ty)?,
+        held(one.ty)?,
+        wants,
+        pos,
+    )
+}
+
+/// The call of `is_lt` on the second operand, with the first as its argument.
+fn call_of(
+    alloc: Global,
+    view: &View<'_>,
+    less: Comparison,
+    one: Receiver,
+    at: Pos,
+    other: ReadyExpr,
+    pos: Pos,
+) -> Result<Typed, NoMemory> {
+    let iter = first_iter(one.iter(), other.iter());
+    let arg = passed_operand(alloc, view, less, one, at)?;
+    let on = Boxed::new(alloc, other.into_core()?)?;
+    Ok(Typed {
+        core: ExprCore::Swapped(less.target, arg, on, pos),
+        ty: Some(BOOL),
+        iter,
+    })
+}
+
+/// The first operand as the argument.
+fn passed_operand(
+    alloc: Global,
+    view: &View<'_>,
+    less: Comparison,
+    one: Receiver,
+    at: Pos,
+) -> Result<Boxed<ExprCore>, NoMemory> {
+    let arg = widened(alloc, view, one.into_core()?, less.from, less.param, at)?;
+    Ok(Boxed::new(alloc, arg)?)
+}
+
+/// The `is_lt` of a concrete class that is called.
+#[derive(Clone, Copy)]
+struct Comparison {
+    target: Target,
+    /// The number of the argument's type.
+    from: u32,
+    /// The number of its parameter's type.
+    param: u32,
+    gives_bool: bool,
+}
+
+/// The `is_lt` that is chosen on a type for an argument of another one.
+fn less(
+    alloc: Global,
+    view: &View<'_>,
+    built: &Built,
+    of: u32,
+    from: u32,
+    wants: bool,
+    pos: Pos,
+) -> Result<Comparison, FrontFault> {
+    if kind_of(view, of) == Kind::Abstract {
+        return Err(none_on_abstract(view, of).at(pos).into());
+    }
+    let arg = argument(alloc, view, built, from)?;
+    let less = chosen(alloc, view, of, IS_LT, &[arg], wants, pos)?;
+    let Some(CalledCore::Static(target, _)) = less.reached.called() else {
+        return Err(FrontFault::NoMemory);
+    };
+    let param = held(less.params.get(0))?;
+    Ok(Comparison {
+        target,
+        from,
+        param: param.ty,
+        gives_bool: less.result == Some(BOOL),
+    })
+}
+
+/// The rule that a call on an abstract type breaks here: it has no `is_lt`, or none that fits.
+fn none_on_abstract(view: &View<'_>, of: u32) -> Rule {
+    if view.signatures.named(of, IS_LT).is_empty() {
+        Rule::UnknownName
+    } else {
+        Rule::NoFeatureFits
+    }
+}
+
+/// An argument with a type.
+fn argument(alloc: Global, view: &View<'_>, built: &Built, number: u32) -> Result<ArgIn, NoMemory> {
+    let ty = held(type_of(view, built, number))?;
+    Ok(ArgIn {
+        mode: Mode::In,
+        ty: Some(ty.copy(alloc)?),
+        left: false,
+    })
+}

@@ -1,7 +1,0 @@
-pub mod Kept
-pub mod Lineages
-pub mod Lines
-pub use Rattle.sa_pairs.specs.Edges
-pub use Rattle.sa_pairs.specs.Numbers
-pub use Rattle.sa_pairs.specs.Pairs
-pub use Rattle.sa_pairs.specs.Words

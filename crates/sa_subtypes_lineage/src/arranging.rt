@@ -1,0 +1,100 @@
+//! The declared edges are arranged as tables, or a cycle of edges is refused.
+
+ghost use Rattle.std.specs.Prelude.{◌≡◌, IfOk};
+
+use crate::lineage::{Edged, Lineage, Lists, links_of};
+use crate::links::Link;
+use sa_graph::{Graph, Grouped, put, word};
+use sa_subtypes_pairs::{Edge, Names, Pairs, Work, Written, edges_of, lowers, uppers};
+use sa_tree::{Class, FrontFault, NoMemory, Rule};
+use std::alloc::Global;
+
+/// The tables of the written edges. E18 where edges form a cycle.
+pub fn arranged(
+    alloc: Global,
+    work: &mut Work,
+    classes: &[Class],
+    names: Names,
+    written: &[Written],
+) -> Result<Lineage, FrontFault>
+    ensures { IfOk result (λ lineage. lineage.names ≡ names) }
+{
+    let mut pairs = Pairs::new(alloc);
+    let edges = edges_of(alloc, work, written, &mut pairs)?;
+    let order = order_of(alloc, classes, &names, edges.as_slice())?;
+    let (links, lists) = tables_of(
+        alloc,
+        work,
+        &names,
+        edges.as_slice(),
+        order.as_slice(),
+        &mut pairs,
+    )?;
+    let Lists { lists, above, .. } = lists;
+    Ok(Lineage {
+        names,
+        pairs,
+        edges,
+        links,
+        lists,
+        above,
+    })
+}
+
+/// The trees and the lists.
+fn tables_of(
+    alloc: Global,
+    work: &mut Work,
+    names: &Names,
+    edges: &[Edge],
+    order: &[u32],
+    pairs: &mut Pairs,
+) -> Result<(Vec<Link>, Lists), NoMemory> {
+    let lower = lowers(alloc, edges)?;
+    let by_lower = Grouped::new(alloc, names.classes(), lower.as_slice())?;
+    let rank = rank_of(alloc, order)?;
+    let edged = Edged {
+        names,
+        edges,
+        by_lower: &by_lower,
+        order,
+        rank: rank.as_slice(),
+    };
+    let links = links_of(alloc, pairs, &edged)?;
+    let lists = Lists::make(alloc, work, &edged, links.as_slice(), pairs)?;
+    Ok((links, lists))
+}
+
+/// The classes, each behind those that it has edges to. E18 where edges form a cycle.
+fn order_of(
+    alloc: Global,
+    classes: &[Class],
+    names: &Names,
+    edges: &[Edge],
+) -> Result<Vec<u32>, FrontFault> {
+    let starts = lowers(alloc, edges)?;
+    let ends = uppers(alloc, edges)?;
+    let graph = Graph::new(alloc, names.classes(), starts, ends)?;
+    let order = graph.order(alloc)?;
+    match graph.first_on_cycle(alloc, order.as_slice())? {
+        None => Ok(order),
+        Some(number) => Err(cycle_at(classes, number)),
+    }
+}
+
+/// The refusal at the name of a class that lies on a cycle.
+fn cycle_at(classes: &[Class], number: usize) -> FrontFault {
+    match classes.get(number) {
+        Some(class) => Rule::SubtypeCycle.at(class.name.pos).into(),
+        None => FrontFault::NoMemory,
+    }
+}
+
+/// The place of each class in the order.
+fn rank_of(alloc: Global, order: &[u32]) -> Result<Vec<u32>, NoMemory> {
+    let mut rank = vec![in alloc; 0u32; order.len()]?;
+    for (place, class) in order.iter().enumerate() {
+        put(&mut rank, *class as usize, word(place)?)?;
+    }
+    Ok(rank)
+}
