@@ -5,12 +5,9 @@ use crate::value::{entry, test, untyped_value};
 use sa_check_expr::{Built, View, leave, parts, position, ready, settled, typed, widened};
 use sa_check_program::{BOOL, OB};
 use sa_core::{ExprCore, StmtCore};
-use sa_tree::{Expr, FrontFault, Name, Op, Pos, Recv, Rule, held};
+use sa_tree::{Expr, FaultKind, FrontFault, Name, Op, Pos, Recv, Rule, held};
 use sqlite_items::Items;
 use std::alloc::Global;
-
-/// The fault of an `assert` whose test is false.
-const ASSERT: u8 = 7;
 
 /// The number of `break!` among the names that leave a loop.
 const BREAK: u8 = 0;
@@ -68,7 +65,7 @@ fn asserted(alloc: Global, test: ExprCore, pos: Pos) -> Result<StmtCore, FrontFa
     let mut entries = Items::new(alloc);
     entries.push(entry(alloc, test, Items::new(alloc))?)?;
     let mut rest = Items::new(alloc);
-    rest.push(StmtCore::Stop(ASSERT, pos))?;
+    rest.push(StmtCore::Stop(FaultKind::Assert.number(), pos))?;
     Ok(StmtCore::If(entries, rest))
 }
 

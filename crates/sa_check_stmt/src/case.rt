@@ -5,12 +5,9 @@ use sa_check_expr::{Built, ReadyArg, ReadyExpr, Receiver, Typed, View, call, rea
 use sa_check_program::{BOOL, OB};
 use sa_check_simple::{Draft, with_type};
 use sa_core::{ExprCore, StmtCore, TestCore};
-use sa_tree::{CaseArm, Expr, FrontFault, NoMemory, Pos, Rule, held};
+use sa_tree::{CaseArm, Expr, FaultKind, FrontFault, NoMemory, Pos, Rule, held};
 use sqlite_items::Items;
 use std::alloc::Global;
-
-/// The fault of a `case` without `else` whose value none of its own is equal to.
-const NO_BRANCH: u8 = 5;
 
 /// The variable that holds the value of a `case`, and the position of the form.
 #[derive(Clone, Copy)]
@@ -118,7 +115,7 @@ fn otherwise(
         return Ok(rest);
     }
     let mut stop = Items::new(alloc);
-    stop.push(StmtCore::Stop(NO_BRANCH, pos))?;
+    stop.push(StmtCore::Stop(FaultKind::NoBranch.number(), pos))?;
     Ok(stop)
 }
 

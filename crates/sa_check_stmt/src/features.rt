@@ -4,7 +4,7 @@ use crate::statement::statements;
 use sa_check_expr::{Built, View, position, typed, written};
 use sa_check_simple::{Draft, fitting};
 use sa_core::{ExprCore, FeatureCore, SharedCore, StmtCore};
-use sa_tree::{Expr, Feature, Formal, FrontFault, Mode, Part, Pos, Rule, Stmt, held};
+use sa_tree::{Expr, FaultKind, Feature, Formal, FrontFault, Mode, Part, Pos, Rule, Stmt, held};
 use sqlite_items::Items;
 use std::alloc::Global;
 use std::mem;
@@ -14,9 +14,6 @@ const MOST_VARIABLES: usize = 200;
 
 /// How many `out` and `inout` arguments a feature has at most.
 const MOST_OUT: usize = 16;
-
-/// The fault of a routine with a result that reaches its end.
-const NO_RETURN: u8 = 6;
 
 /// A routine or an iter of the class, typed. `built.sites` is empty before and after the call, and the answer has them.
 ///
@@ -57,7 +54,7 @@ fn whole_body(
 ) -> Result<Items<StmtCore>, FrontFault> {
     let mut body = statements(alloc, view, draft, built, body_of(f))?;
     if draft.result.is_some() && !draft.iter {
-        body.push(StmtCore::Stop(NO_RETURN, f.name.pos))?;
+        body.push(StmtCore::Stop(FaultKind::NoReturn.number(), f.name.pos))?;
     }
     Ok(body)
 }

@@ -6,4 +6,3 @@ pub mod Report
 pub mod Runs
 pub mod Seen
 pub mod Status
-pub mod Texts

@@ -6,7 +6,7 @@ use Rattle.sa_tree.specs.Sources.{text_of}
 use Rattle.std.specs.Prelude.{Option, None, Some}
 use Rattle.sa_drive.specs.declared.outcome.Outcome.{Outcome}
 use Rattle.sa_tree.specs.Rules.{rule_text}
-use Rattle.sa_drive.specs.Texts.{fault_text}
+use Rattle.sa_tree.specs.Faults.{fault_text}
 use Rattle.sa_drive.specs.declared.cause.Cause.{Cause}
 use Rattle.sa_drive.specs.declared.cause.Cause.TheVariants.{Done, Refused, Fault, Stopped, Spent, StoreFault, InFault, OutFault, Usage, Malformed, Invalid, Unlinked, Segment, Trap, TooDeep, NotListing, NoMemory}
 

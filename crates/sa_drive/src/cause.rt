@@ -3,7 +3,7 @@
 ghost use Rattle.std.specs.Prelude.{◌≡◌};
 ghost use Rattle.sa_drive.specs.Status.{status_of};
 
-use sa_tree::{Pos, Refusal};
+use sa_tree::{FaultKind, Pos, Refusal};
 use sqlite_items::Items;
 use wa_syntax::TrapKind;
 
@@ -15,7 +15,7 @@ pub enum Cause {
     /// The source breaks a written rule, at the position.
     Refused(Refusal),
     /// The program stopped with the fault of this kind at the position.
-    Fault(u8, Pos),
+    Fault(FaultKind, Pos),
     /// A module stopped by its own call of `env.stop` with these two numbers.
     Stopped(u32, u32),
     /// The program or module hadn't ended within the fuel, which is this number of steps.

@@ -12,7 +12,6 @@ mod print;
 mod report;
 mod run;
 mod selftest;
-mod texts;
 mod top;
 
 pub use cause::{Cause, Exit};

@@ -5,7 +5,6 @@ ghost use Rattle.sa_drive.specs.Lines.{about_place, about_file, stop_line, listi
 
 use crate::cause::Cause;
 use crate::outcome::Outcome;
-use crate::texts::fault_text;
 use itoa::Buffer;
 use sa_tree::{Pos, Sources, line_of};
 use std::alloc::{AllocError, Global};
@@ -46,7 +45,7 @@ fn line(alloc: Global, sources: &Sources, file: &str, cause: &Cause) -> Result<V
         Cause::Refused(refusal) => {
             about_place(alloc, sources, refusal.pos, "", refusal.rule.text())
         }
-        Cause::Fault(kind, pos) => about_place(alloc, sources, *pos, "fault: ", fault_text(*kind)),
+        Cause::Fault(kind, pos) => about_place(alloc, sources, *pos, "fault: ", kind.text()),
         Cause::Stopped(code, site) => stop_line(alloc, file, *code, *site),
         Cause::Spent(_) => Vec::from_slice(alloc, b"fuel spent\n"),
         Cause::StoreFault => Vec::from_slice(alloc, b"store fault\n"),

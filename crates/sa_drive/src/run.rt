@@ -14,7 +14,7 @@ use crate::exec::{Ended, run_module};
 use crate::outcome::Outcome;
 use sa_compile::Built;
 use sa_outside::{Sink, Source, Store};
-use sa_tree::{Pos, Sources};
+use sa_tree::{FaultKind, Pos, Sources};
 use sa_words::Run;
 use std::alloc::Global;
 
@@ -88,7 +88,7 @@ fn fault_at(code: u32, site: u32, sites: &[Pos], sources: &Sources) -> Cause
     ensures placed { IsPlaced sources.now result }
     ensures later { ComesBeforeOutput result → ⊥ }
 {
-    let Ok(kind) = u8::try_from(code) else {
+    let Some(kind) = FaultKind::of_number(code) else {
         return Cause::Stopped(code, site);
     };
     match sites.get(site as usize) {

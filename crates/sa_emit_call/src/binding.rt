@@ -6,11 +6,12 @@ use crate::dispatch::{add_unreturned, target_of};
 use crate::entry::{entry_words, given};
 use sa_dispatch::Span;
 use sa_emit_value::{
-    ADDRESS, ARGUMENTS, Around, DEPTH, NO_ROOM, STATUS, TypeSpan, add_answers, add_fail_if,
-    add_handed, add_if, add_if_else, add_span_test, add_type_of, add_void_test, add_widened,
-    deeper, held, spans_of,
+    ADDRESS, ARGUMENTS, Around, DEPTH, STATUS, TypeSpan, add_answers, add_fail_if, add_handed,
+    add_if, add_if_else, add_span_test, add_type_of, add_void_test, add_widened, deeper, held,
+    spans_of,
 };
 use sa_flat::{BindEntry, CallPlan, Callee, Fail, FlatArg};
+use sa_runtime::fault_numbers::NO_ROOM;
 use sa_runtime::layout::{ALLOCATE, BOUND, BOUND_CALL, RESULT, attribute_at, header};
 use sa_runtime::line::{Op, add_line};
 use sqlite_items::Items;

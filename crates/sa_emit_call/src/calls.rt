@@ -7,7 +7,8 @@ use sa_emit_value::{
     add_if, add_raise, add_set, add_set_shared, deeper, held,
 };
 use sa_flat::{CallPlan, Callee, Fail};
-use sa_runtime::layout::{BODY_TYPE, FIRST_BODY, GREATEST_DEPTH, TOO_DEEP};
+use sa_runtime::fault_numbers::TOO_DEEP;
+use sa_runtime::layout::{BODY_TYPE, FIRST_BODY, GREATEST_DEPTH};
 use sa_runtime::line::{Op, add_line};
 use sqlite_items::Items;
 use std::alloc::Global;

@@ -3,7 +3,8 @@
 use crate::outcome::Site;
 use sa_emit_call::add_depth_test;
 use sa_emit_value::{Around, add_fail_if, add_if};
-use sa_runtime::layout::{FRAME_SELF_AT, NEW_FRAME, RELEASE, TOO_MANY_FRAMES};
+use sa_runtime::fault_numbers::TOO_MANY_FRAMES;
+use sa_runtime::layout::{FRAME_SELF_AT, NEW_FRAME, RELEASE};
 use sa_runtime::line::{Op, add_line};
 use sqlite_items::Items;
 use std::alloc::Global;

@@ -5,10 +5,11 @@ use crate::frames::{add_has_entry, add_release};
 use crate::sites::{add_resume, add_start};
 use sa_emit_call::{add_bind, add_call, add_widen_for};
 use sa_emit_value::{
-    Around, UNCAUGHT, add_const, add_init_shared, add_is_void, add_me, add_move, add_new,
-    add_new_array, add_put_item, add_type_is, add_unwrap, add_void_test, add_widen,
+    Around, add_const, add_init_shared, add_is_void, add_me, add_move, add_new, add_new_array,
+    add_put_item, add_type_is, add_unwrap, add_void_test, add_widen,
 };
 use sa_flat::{FlatStep, Raised};
+use sa_runtime::fault_numbers::UNCAUGHT;
 use sa_runtime::line::{Op, add_line};
 use sqlite_items::Items;
 use std::alloc::Global;

@@ -2,11 +2,12 @@
 
 use crate::area::add_result;
 use crate::around::{Around, STATUS, held};
-use crate::failing::{INDEX, OVERFLOW, add_fail_if, add_void_test};
+use crate::failing::{add_fail_if, add_void_test};
 use crate::inline::{Form, form_of};
 use crate::objects::add_element;
 use sa_flat::CallPlan;
 use sa_prelude::BuiltinFeature;
+use sa_runtime::fault_numbers::{INDEX, OVERFLOW};
 use sa_runtime::layout::{FIRST_BUILTIN, first_element_at};
 use sa_runtime::line::{Op, add_line};
 use sqlite_items::Items;

@@ -3,6 +3,7 @@
 use crate::around::{Around, BLOCK, NOT_A_HEAD, Role, held};
 use crate::choice::add_if;
 use sa_flat::{Fail, FlatBody, FlatExit, Raised};
+use sa_runtime::fault_numbers::VOID;
 use sa_runtime::layout::{
     EXCEPTION, EXCEPTION_KIND, EXCEPTION_PLACE, FAULT, FAULT_KIND, HANDED_ON, RAISED,
 };
@@ -11,21 +12,6 @@ use sqlite_items::Items;
 use std::alloc::Global;
 use wa_syntax::opcode::{I64_EQZ, I64_EXTEND_I32_U, RETURN};
 use wa_syntax::{Instr, NoMemory};
-
-/// The fault where a result is out of range.
-pub const OVERFLOW: u32 = 1;
-
-/// The fault where a receiver, or what is raised, is void.
-pub const VOID: u32 = 3;
-
-/// The fault where a place or a count is out of range.
-pub const INDEX: u32 = 4;
-
-/// The number of a raise by the statement `raise`, which is a fault where nothing catches it.
-pub const UNCAUGHT: u32 = 8;
-
-/// The fault where the room is used up.
-pub const NO_ROOM: u32 = 9;
 
 /// Adds a fault where the operand isn't 0. `kind` reads its number.
 pub fn add_fail_if(

@@ -30,8 +30,8 @@ pub use below::{Below, TypeSpan, spans_of};
 pub use builtins::add_builtin;
 pub use choice::{add_if, add_if_else};
 pub use failing::{
-    NO_ROOM, UNCAUGHT, add_fail, add_fail_if, add_handed_on, add_jump, add_raise, add_void_test,
-    deeper, head_of, leaves,
+    add_fail, add_fail_if, add_handed_on, add_jump, add_raise, add_void_test, deeper, head_of,
+    leaves,
 };
 pub use objects::{add_new, add_new_array, add_put_item, add_unwrap, add_widen, add_widened};
 pub use values::{

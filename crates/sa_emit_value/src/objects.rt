@@ -4,8 +4,9 @@ use crate::area::add_result;
 use crate::around::{ADDRESS, Around, Role, STATUS};
 use crate::builtins::CREATE;
 use crate::choice::add_if_else;
-use crate::failing::{NO_ROOM, add_fail_if, deeper};
+use crate::failing::{add_fail_if, deeper};
 use sa_flat::Fail;
+use sa_runtime::fault_numbers::NO_ROOM;
 use sa_runtime::layout::{
     ALLOCATE, BOOL, BOXED, CHAR, INT, OBJECT, UNWRAPPED, WIDENED, attribute_at, first_element_at,
     header,

@@ -6,11 +6,8 @@ use crate::stmts::stmts;
 use sa_core::ArmCore;
 use sa_flat::{FlatExit, FlatStep};
 use sa_lower_draft::{ArmTest, Draft, Inside, OpenBody};
-use sa_tree::{NoMemory, Pos};
+use sa_tree::{FaultKind, NoMemory, Pos};
 use std::alloc::Global;
-
-/// The fault of a typecase of which no arm fits.
-const NO_BRANCH: u8 = 5;
 
 /// The arms of a `typecase`. They leave the block open where none of them fits, and give the block behind the typecase; or
 /// None where the arm is known, and the block behind it is open.
@@ -125,7 +122,7 @@ pub(crate) fn no_arm_fits(
 ) -> Result<(), NoMemory> {
     let fail = draft.tables.fail(pos, around.inside.raised)?;
     let exit = FlatExit::Stop {
-        kind: NO_BRANCH,
+        kind: FaultKind::NoBranch.number(),
         fail,
     };
     draft.body.end(alloc, exit, after)

@@ -1,25 +1,11 @@
 //! How a function ends: the value that it gives, and its status, which is 0 or the number of a fault.
 
+use crate::fault_numbers::{DIVISION_BY_ZERO, INDEX, NO_ROOM, OVERFLOW};
 use crate::layout::RESULT;
 use crate::line::Op::{Do, I32, SetGlobal};
 use crate::operations::TO_WORD;
 use crate::parts::Part::{self, If, Line};
 use wa_syntax::opcode::RETURN;
-
-/// The fault `overflow`.
-const OVERFLOW: u32 = 1;
-
-/// The fault `division by zero`.
-const DIV_ZERO: u32 = 2;
-
-/// The fault `void`.
-pub const VOID: u32 = 3;
-
-/// The fault `index`.
-pub const INDEX: u32 = 4;
-
-/// The fault `no room`.
-pub const NO_ROOM: u32 = 9;
 
 /// Ends a feature without a value.
 pub const DONE: Part = Line(&[I32(0)]);
@@ -34,7 +20,7 @@ pub const GIVE_ADDRESS: Part = Line(&[TO_WORD, SetGlobal(RESULT), I32(0)]);
 pub const OVERFLOW_IF: Part = If(&[Line(&[I32(OVERFLOW), Do(RETURN)])]);
 
 /// Ends a feature by `division by zero` where the operand isn't 0.
-pub const DIV_ZERO_IF: Part = If(&[Line(&[I32(DIV_ZERO), Do(RETURN)])]);
+pub const DIV_ZERO_IF: Part = If(&[Line(&[I32(DIVISION_BY_ZERO), Do(RETURN)])]);
 
 /// Ends a feature by `index` where the operand isn't 0.
 pub const INDEX_IF: Part = If(&[Line(&[I32(INDEX), Do(RETURN)])]);

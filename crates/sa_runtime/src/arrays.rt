@@ -1,6 +1,7 @@
 //! The features of `AREF` and `ARRAY`. An array is an object, and its elements follow its attributes.
 
-use crate::answers::{DONE, GIVE_ADDRESS, GIVE_WORD, INDEX, INDEX_IF, NO_ROOM_IF, VOID};
+use crate::answers::{DONE, GIVE_ADDRESS, GIVE_WORD, INDEX_IF, NO_ROOM_IF};
+use crate::fault_numbers::{INDEX, VOID};
 use crate::layout::ALLOCATE;
 use crate::line::Op::{Call, Do, Get, I32, I64, Memory, Tee};
 use crate::locals::{FIRST, MADE, SECOND, SELF};

@@ -3,9 +3,10 @@
 
 use crate::bound_features::add_features;
 use crate::bound_locals::{BEHIND_BOUND, DEPTH, ENTRY, FRAME, INDEX, KIND, OBJECT, SELF, STATUS};
+use crate::fault_numbers::{TOO_DEEP, TOO_MANY_FRAMES};
 use crate::layout::{
     BODY_TYPE, END_FRAME, FAULT_KIND, FRAME_OUT, FRAME_SELF_AT, GREATEST_DEPTH, HANDED_ON, KIND_AT,
-    MADE, NEW_FRAME, NUMBER_AT, RETURNED, ROUTINE, SELF_AT, SUSPENDED, TOO_DEEP, TOO_MANY_FRAMES,
+    MADE, NEW_FRAME, NUMBER_AT, RETURNED, ROUTINE, SELF_AT, SUSPENDED,
 };
 use crate::line::Op::{Br, Call, CallIndirect, Do, Get, I32, I64, Memory, Set, SetGlobal, Tee};
 use crate::operations::{LOAD_COUNT, TO_ADDRESS};

@@ -1,9 +1,9 @@
 //! Calls of bound values whose features have no body: attributes, shareds and built-in features. Each does what a call of the
 //! feature itself does.
 
-use crate::answers::VOID;
 use crate::bound_locals::{ENTRY, INDEX, KIND, SELF, STATUS};
 use crate::builtins::BUILTINS;
+use crate::fault_numbers::VOID;
 use crate::layout::{
     CHANGED, FAULT_KIND, FIRST_ARGUMENT_AT, FIRST_AT, FIRST_BOUND_BUILTIN, FIRST_BUILTIN,
     GET_OF_OBJECT, GET_OF_VALUE, GET_SHARED, HANDED_ON, RESULT, RETURNED, SET_OF_OBJECT,

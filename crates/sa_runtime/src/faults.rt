@@ -1,5 +1,6 @@
 //! What a fault does: it raises an exception, or stops the program.
 
+use crate::fault_numbers::ASSERT;
 use crate::layout::{ALLOCATE, EXCEPTION, EXCEPTION_KIND, EXCEPTION_PLACE, FAULT_TYPE, STOP};
 use crate::line::Op::{BrIf, Call, Do, Get, I32, I64, Memory, SetGlobal, Tee};
 use crate::locals::MADE;
@@ -16,16 +17,13 @@ const PLACE: u32 = 1;
 /// The parameter with the line of that place.
 const LINE: u32 = 2;
 
-/// The number of the last fault that raises an exception; the others stop the program.
-const LAST_RAISED: u32 = 7;
-
 /// How many bytes an object of `FAULT` has: a header, the number of the fault and its line.
 const BYTES: u64 = 24;
 
 /// `FAULT`. Where the room lacks for the exception, the program stops.
 pub const FAULT: &[Part] = &[
     Block(&[
-        Line(&[Get(KIND), I32(LAST_RAISED), Do(I32_GT_U), BrIf(0)]),
+        Line(&[Get(KIND), I32(ASSERT), Do(I32_GT_U), BrIf(0)]),
         Line(&[I64(FAULT_TYPE as u64), I64(BYTES), Call(ALLOCATE)]),
         Line(&[Tee(MADE), Do(I32_EQZ), BrIf(0)]),
         Line(&[Get(MADE), Get(KIND), TO_WORD, Memory(I64_STORE, 8)]),

@@ -98,12 +98,6 @@ pub const ENDED: u32 = 3;
 /// The status of a body that hands on a fault, whose number is in `FAULT_KIND`.
 pub const HANDED_ON: u32 = 4;
 
-/// The number of the fault of activations that nest too deep.
-pub const TOO_DEEP: u32 = 10;
-
-/// The number of the fault of too many instances.
-pub const TOO_MANY_FRAMES: u32 = 11;
-
 /// How deep activations may nest.
 pub const GREATEST_DEPTH: u32 = 10_000;
 

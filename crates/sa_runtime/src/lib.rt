@@ -13,6 +13,7 @@ mod characters;
 mod comparisons;
 mod copying;
 mod decimal;
+pub mod fault_numbers;
 mod faults;
 mod frame;
 mod identity;

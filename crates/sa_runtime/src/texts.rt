@@ -1,10 +1,11 @@
 //! The features of `STR`. A void text is the address 0, where the length is 0.
 
-use crate::answers::{GIVE_ADDRESS, GIVE_WORD, INDEX_IF, NO_ROOM, NO_ROOM_IF};
+use crate::answers::{GIVE_ADDRESS, GIVE_WORD, INDEX_IF, NO_ROOM_IF};
 use crate::copying::{
     BYTE_IS_DONE, COPY_BYTES, LEAVE_WITHOUT_BYTE, LEAVE_WITHOUT_WORD, READ_WORD_ON, WORD_IS_DONE,
     WRITE_BYTE_ON, WRITE_WORD_ON,
 };
+use crate::fault_numbers::NO_ROOM;
 use crate::layout::{ALLOCATE, STR, TEXT};
 use crate::line::Op::{Br, BrIf, Call, Do, Get, I32, I64, Memory, Set, Tee};
 use crate::locals::{FIRST, FROM, LEFT, MADE, SECOND, SELF, SIZE, TO};

@@ -3,6 +3,7 @@
 
 mod class;
 mod expr;
+mod fault_kind;
 mod name;
 mod pos;
 mod refusal;
@@ -13,6 +14,7 @@ mod ty;
 
 pub use class::{Access, Change, Class, Feature, Flat, Formal, Include, Kind, Param, Part};
 pub use expr::{Expr, Given, Op, Recv};
+pub use fault_kind::FaultKind;
 pub use name::Name;
 pub use pos::{Pos, Sources, line_of};
 pub use refusal::{FrontFault, NoMemory, Refusal, held};
