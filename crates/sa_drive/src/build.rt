@@ -10,12 +10,12 @@ ghost use Rattle.sa_drive.specs.Seen.{Count, count, seen};
 use crate::cause::Cause;
 use crate::compile::{Compiled, Goal, compile_files};
 use crate::outcome::Outcome;
-use sa_outside::{Outage, Store};
+use sa_outside::{Outage, WriteFiles};
 use sa_words::Build;
 use std::alloc::Global;
 
 /// Compiles the program and writes its module.
-pub fn build<'a, S: Store>(alloc: Global, line: &Build<'a>, store: &mut S) -> Outcome<'a>
+pub fn build<'a, S: WriteFiles>(alloc: Global, line: &Build<'a>, store: &mut S) -> Outcome<'a>
     ensures comes { (input out : Count) → ComesOfProgram (seen (S.files store.old) (count (S.faults store.old) (S.faults store.new)) input out) (map (λ file. file.now) line.now.files.items) (BuildEnds (seen (S.files store.old) (count (S.faults store.old) (S.faults store.new)) input out)) result.sources result.cause }
     ensures placed { IsPlaced result.sources result.cause }
     ensures told { result.steps ≡ None }
@@ -35,7 +35,7 @@ pub fn build<'a, S: Store>(alloc: Global, line: &Build<'a>, store: &mut S) -> Ou
 }
 
 /// The cause after the module was written, or wasn't.
-fn written<S: Store>(store: &mut S, out: &str, module: &[u8]) -> Cause
+fn written<S: WriteFiles>(store: &mut S, out: &str, module: &[u8]) -> Cause
     ensures ends { (files : Option Files) (input out : Count) → BuildEnds (seen files (count (S.faults store.old) (S.faults store.new)) input out) result }
     ensures done { result ≡ Cause.Done → Writes (S.files store.old) (S.files store.new) out.now «module».now }
     ensures files { WritesFront (S.files store.old) (S.files store.new) out.now «module».now }

@@ -11,7 +11,7 @@ use crate::cause::Cause;
 use crate::compile::{Compiled, Goal, compile_files};
 use crate::outcome::Outcome;
 use crate::print::print;
-use sa_outside::{Sink, Store};
+use sa_outside::{ReadFiles, Sink};
 use sa_words::Check;
 use std::alloc::Global;
 
@@ -19,7 +19,7 @@ use std::alloc::Global;
 const ACCEPTED: &[u8] = b"accepted\n";
 
 /// Tells on out that the program is accepted, or gives the cause why it isn't.
-pub fn check<'a, S: Store, O: Sink>(
+pub fn check<'a, S: ReadFiles, O: Sink>(
     alloc: Global,
     line: &Check<'a>,
     store: &mut S,

@@ -7,11 +7,11 @@ ghost use Rattle.sa_drive.specs.Files.{ComesOfFiles, ComesOfGenerated, Explains,
 ghost use Rattle.sa_drive.specs.Lines.{IsPlaced};
 
 use crate::cause::Cause;
+use crate::module::{Built, module_of};
 use sa_check::check;
-use sa_compile::{Built, module_of};
 use sa_core::Core;
 use sa_gen::generate;
-use sa_outside::Store;
+use sa_outside::ReadFiles;
 use sa_prelude::text;
 use sa_read::{Program, ReadFault, classes, read_program};
 use sa_tree::{Class, FrontFault, Name, NoMemory, Sources};
@@ -37,7 +37,12 @@ pub struct Compiled {
 }
 
 /// Reads the files of a program and compiles it.
-pub fn compile_files<S: Store>(alloc: Global, store: &mut S, files: &[&str], goal: Goal) -> Compiled
+pub fn compile_files<S: ReadFiles>(
+    alloc: Global,
+    store: &mut S,
+    files: &[&str],
+    goal: Goal,
+) -> Compiled
     ensures module { MatchResult result.«module» (λ _. IsTakenProgram (S.files store.old) (map (λ file. file.now) files.now) result.sources) (ComesOfFiles (S.files store.old) (Rose (S.faults store.old) (S.faults store.new)) (map (λ file. file.now) files.now) result.sources) }
     ensures size { IfOk result.«module» (λ built. length built.bytes.items < 4294967295) }
     ensures placed { IfErr result.«module» (IsPlaced result.sources) }

@@ -16,7 +16,7 @@ ghost use Rattle.wa_run.specs.declared.module_run.Run.{Run as Runs};
 use crate::cause::Cause;
 use crate::compile::{no_sources, unread};
 use crate::outcome::Outcome;
-use sa_outside::{Sink, Source, Store};
+use sa_outside::{ReadFiles, Sink, Source};
 use sa_read::{Read, read_file};
 use sa_tree::Sources;
 use sa_words::Exec;
@@ -76,7 +76,7 @@ fn has_steps(cause: &Cause) -> bool
 }
 
 /// Runs the module in the file.
-pub fn exec<'a, S: Store, I: Source, O: Sink>(
+pub fn exec<'a, S: ReadFiles, I: Source, O: Sink>(
     alloc: Global,
     line: &Exec<'a>,
     store: &mut S,

@@ -11,15 +11,15 @@ ghost use Rattle.sa_drive.specs.Seen.{Count, Seen, count, seen};
 use crate::cause::Cause;
 use crate::compile::{Compiled, Goal, compile_files};
 use crate::exec::{Ended, run_module};
+use crate::module::Built;
 use crate::outcome::Outcome;
-use sa_compile::Built;
-use sa_outside::{Sink, Source, Store};
+use sa_outside::{ReadFiles, Sink, Source};
 use sa_tree::{FaultKind, Pos, Sources};
 use sa_words::Run;
 use std::alloc::Global;
 
 /// Compiles the program and runs its module.
-pub fn run<'a, S: Store, I: Source, O: Sink>(
+pub fn run<'a, S: ReadFiles, I: Source, O: Sink>(
     alloc: Global,
     line: &Run<'a>,
     store: &mut S,

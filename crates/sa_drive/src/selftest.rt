@@ -10,10 +10,10 @@ ghost use Rattle.sa_drive.specs.Seen.{Count, count, seen};
 
 use crate::cause::Cause;
 use crate::compile::{Compiled, compile_generated};
+use crate::module::Built;
 use crate::outcome::Outcome;
 use crate::print::print;
 use crate::run::run_built;
-use sa_compile::Built;
 use sa_gen::add_numbered;
 use sa_outside::{Sink, SureSink, SureSource};
 use sa_tree::Sources;

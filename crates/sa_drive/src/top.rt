@@ -24,13 +24,13 @@ use crate::print::print_generated;
 use crate::report::report;
 use crate::run::run;
 use crate::selftest::selftest;
-use sa_outside::{Sink, Source, Store};
+use sa_outside::{Sink, Source, WriteFiles};
 use sa_words::{Command, WordsFault, command_of};
 use sqlite_items::Items;
 use std::alloc::Global;
 
 /// Does what the words of a command line, without the program's name, ask for.
-pub fn sather<S: Store, I: Source, O: Sink, E: Sink>(
+pub fn sather<S: WriteFiles, I: Source, O: Sink, E: Sink>(
     alloc: Global,
     words: &[String],
     store: &mut S,
@@ -72,7 +72,7 @@ pub fn sather<S: Store, I: Source, O: Sink, E: Sink>(
 }
 
 /// Does what the words ask for, but for the lines on err.
-fn obey<'a, S: Store, I: Source, O: Sink>(
+fn obey<'a, S: WriteFiles, I: Source, O: Sink>(
     alloc: Global,
     words: &'a [String],
     store: &mut S,
@@ -100,7 +100,7 @@ fn obey<'a, S: Store, I: Source, O: Sink>(
 }
 
 /// Does what a command asks for.
-fn do_command<'a, S: Store, I: Source, O: Sink>(
+fn do_command<'a, S: WriteFiles, I: Source, O: Sink>(
     alloc: Global,
     command: Command<'a>,
     store: &mut S,

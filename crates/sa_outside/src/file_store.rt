@@ -4,7 +4,7 @@ ghost use Rattle.std.specs.Prelude.{◌≡◌, ◌<◌, ◌≤◌, length, None,
 ghost use Rattle.sa_outside.specs.Adapters.{CountsOutage};
 
 use crate::calls::one_more;
-use crate::store::{Outage, Store};
+use crate::store::{Outage, ReadFiles, WriteFiles};
 use crate::streams::{read_full, write_out};
 use std::fs::{self, Files};
 use std::io::{self, Seek, SeekFrom};
@@ -49,7 +49,7 @@ impl<R: Files> FileStore<R> {
     }
 }
 
-impl<R: Files> Store for FileStore<R> {
+impl<R: Files> ReadFiles for FileStore<R> {
     ghost faults = { λ s. s };
 
     ghost files = { λ _. None };
@@ -65,7 +65,9 @@ impl<R: Files> Store for FileStore<R> {
         let answer = read_at(&self.rt, name, place, buffer);
         self.counted(answer)
     }
+}
 
+impl<R: Files> WriteFiles for FileStore<R> {
     /// Makes the file if it is missing, empties it and writes these bytes.
     fn write(&mut self, name: &str, bytes: &[u8]) -> Result<(), Outage>
         ensures count { self.old ≤ self.new }

@@ -1,5 +1,5 @@
-//! The world outside a call: a store of files, a source of bytes and a sink of bytes, as traits that say what each
-//! call did, the objects in memory that keep them, and the adapters over real files and streams.
+//! The world outside a call: a store of files that is read or written, a source of bytes and a sink of bytes, as traits that
+//! say what each call did, the objects in memory that keep them, and the adapters over real files and streams.
 #![tactic(auto)]
 
 mod calls;
@@ -19,6 +19,6 @@ pub use mem_source::MemSource;
 pub use mem_store::MemStore;
 pub use sink::Sink;
 pub use source::{Source, Take};
-pub use store::{Outage, Store};
+pub use store::{Outage, ReadFiles, WriteFiles};
 pub use streams::{ReadSource, WriteSink};
 pub use sure::{SureSink, SureSource};

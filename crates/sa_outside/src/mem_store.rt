@@ -10,7 +10,7 @@ ghost use Rattle.sa_outside.specs.Memory.{Fills};
 ghost use Rattle.sa_outside.specs.FileList.{File, files_of, HaveDistinctNames, IsFirstOfName};
 
 use crate::calls::Calls;
-use crate::store::{Outage, Store};
+use crate::store::{Outage, ReadFiles, WriteFiles};
 use std::alloc::AllocError;
 use std::marker::Model;
 
@@ -66,7 +66,7 @@ impl MemStore {
     }
 }
 
-impl Store for MemStore {
+impl ReadFiles for MemStore {
     ghost faults = { λ s. s.calls.faults };
 
     ghost files = { λ s. Some s.files };
@@ -97,7 +97,9 @@ impl Store for MemStore {
             None => Err(Outage::Failed),
         }
     }
+}
 
+impl WriteFiles for MemStore {
     /// Makes the file hold these bytes. It fails exactly at a listed call, and changes no file then, nor where memory is
     /// short.
     fn write(&mut self, name: &str, bytes: &[u8]) -> Result<(), Outage>

@@ -15,8 +15,8 @@ pub enum Outage {
     NoMemory,
 }
 
-/// A store of files under names.
-pub trait Store {
+/// A store of files under names that are read.
+pub trait ReadFiles {
     /// How often it has failed.
     ghost faults: { Self → ℕ };
 
@@ -34,11 +34,14 @@ pub trait Store {
         // It fails only where the store tells that it has no such file, or where it counts a fault.
         ensures failed { IsErrOf result Outage.Failed → Rose (faults self.old) (faults self.new) ⊎ Lacks (files self.old) name.now }
         ensures count { faults self.old ≤ faults self.new };
+}
 
+/// A store of files under names that are read and written.
+pub trait WriteFiles: ReadFiles {
     /// Makes the file hold these bytes. After an outage it holds what it held before or a front of these bytes.
     fn write(&mut self, name: &str, bytes: &[u8]) -> Result<(), Outage>
-        ensures ok { OnOk result (Writes (files self.old) (files self.new) name.now bytes.now) }
-        ensures outage { OnErr result (WritesFront (files self.old) (files self.new) name.now bytes.now) }
-        ensures failed { IsErrOf result Outage.Failed → Rose (faults self.old) (faults self.new) }
-        ensures count { faults self.old ≤ faults self.new };
+        ensures ok { OnOk result (Writes (Self.files self.old) (Self.files self.new) name.now bytes.now) }
+        ensures outage { OnErr result (WritesFront (Self.files self.old) (Self.files self.new) name.now bytes.now) }
+        ensures failed { IsErrOf result Outage.Failed → Rose (Self.faults self.old) (Self.faults self.new) }
+        ensures count { Self.faults self.old ≤ Self.faults self.new };
 }

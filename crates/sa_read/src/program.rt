@@ -5,7 +5,7 @@ ghost use Rattle.sa_outside.specs.Faults.{Rose};
 ghost use Rattle.sa_read.specs.Program.{IsReadFrom, LacksOneOf, no_files, too_large};
 
 use crate::read::{Read, ReadFault, read_file};
-use sa_outside::Store;
+use sa_outside::ReadFiles;
 use sa_prelude::text;
 use sa_tree::{Name, Pos, Refusal, Rule, Sources};
 use sqlite_items::Items;
@@ -29,7 +29,7 @@ pub struct Program {
 /// # Errors
 ///
 /// `Failed` where the store fails or has no such file; `NoMemory` also where the files can't be numbered.
-pub fn read_program<S: Store>(
+pub fn read_program<S: ReadFiles>(
     alloc: Global,
     store: &mut S,
     names: &[&str],

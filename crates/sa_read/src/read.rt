@@ -5,7 +5,7 @@ ghost use Rattle.sa_outside.specs.Faults.{Rose};
 ghost use Rattle.sa_outside.specs.Files.{Lacks};
 ghost use Rattle.sa_read.specs.Read.{IsReadOf, read_fault_of};
 
-use sa_outside::{Outage, Store};
+use sa_outside::{Outage, ReadFiles};
 use std::alloc::{AllocError, Global};
 
 /// How many bytes are asked of a store at once.
@@ -50,7 +50,7 @@ impl From<AllocError> for ReadFault {
 }
 
 /// Reads a file to its end, or up to the limit where it is longer.
-pub fn read_file<S: Store>(
+pub fn read_file<S: ReadFiles>(
     alloc: Global,
     store: &mut S,
     name: &str,
@@ -66,7 +66,7 @@ pub fn read_file<S: Store>(
 }
 
 /// Reads a file to its end or up to the limit, piece by piece.
-fn read_pieces<S: Store>(
+fn read_pieces<S: ReadFiles>(
     alloc: Global,
     store: &mut S,
     name: &str,

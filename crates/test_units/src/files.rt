@@ -1,6 +1,6 @@
 //! A store over real files.
 
-use sa_outside::{FileStore, Outage, Store};
+use sa_outside::{FileStore, Outage, ReadFiles, WriteFiles};
 use std::fs;
 use std::test::Fail;
 

@@ -2,7 +2,7 @@
 
 ghost use Rattle.std.specs.Prelude.{◌<◌, length, IfOk};
 
-use crate::lines::lines;
+use crate::line_numbers::line_numbers;
 use sa_core::{Core, positions};
 use sa_dispatch::rows;
 use sa_emit::emit;
@@ -30,7 +30,7 @@ pub fn module_of(
     ensures size { IfOk result (λ built. length built.bytes.items < 4294967295) }
 {
     let positions = positions(alloc, &core)?;
-    let lines = lines(alloc, texts, positions.as_slice())?;
+    let lines = line_numbers(alloc, texts, positions.as_slice())?;
     let core = Core { lines, ..core };
     let rows = rows(alloc, &core)?;
     let flat = lower(alloc, &core)?;

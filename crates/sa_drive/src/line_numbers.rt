@@ -1,4 +1,4 @@
-//! The lines of many positions: the line feeds of each text are found once.
+//! The line numbers of many positions: the line feeds of each text are found once.
 
 use sa_tree::{NoMemory, Pos, held};
 use sqlite_items::Items;
@@ -8,7 +8,7 @@ use std::alloc::Global;
 const LINE_FEED: u8 = b'\n';
 
 /// The line of each position in the texts, from 1.
-pub fn lines(
+pub fn line_numbers(
     alloc: Global,
     texts: &[Items<u8>],
     positions: &[Pos],
@@ -19,7 +19,7 @@ pub fn lines(
     }
     let mut lines = Items::new(alloc);
     for pos in positions {
-        lines.push(line(feeds.as_slice(), *pos)?)?;
+        lines.push(line_number(feeds.as_slice(), *pos)?)?;
     }
     Ok(lines)
 }
@@ -36,7 +36,7 @@ fn line_feeds(alloc: Global, text: &[u8]) -> Result<Items<u32>, NoMemory> {
 }
 
 /// The line of a position, from the line feeds of each text.
-fn line(feeds: &[Items<u32>], pos: Pos) -> Result<u32, NoMemory> {
+fn line_number(feeds: &[Items<u32>], pos: Pos) -> Result<u32, NoMemory> {
     let feeds = held(feeds.get(pos.file as usize))?;
     let before = feeds.as_slice().partition_point(|at| *at < pos.at);
     let before = held(u32::try_from(before).ok())?;
