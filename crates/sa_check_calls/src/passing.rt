@@ -4,7 +4,7 @@ use crate::ready::{ReadyArg, ReadyExpr};
 use crate::settle::settled_to;
 use sa_check_choice::{Built, Param, View, first_iter, type_of};
 use sa_core::ArgCore;
-use sa_overload::ArgIn;
+use sa_signatures::ArgIn;
 use sa_tree::{FrontFault, Mode, NoMemory, Pos, Rule, Ty, held};
 use sqlite_items::Items;
 use std::alloc::Global;

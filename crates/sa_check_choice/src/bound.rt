@@ -4,7 +4,7 @@ use crate::choice::{ChosenFeature, Param};
 use crate::target::Reached;
 use crate::view::{Built, View, number_of, type_of};
 use sa_core::CalledCore;
-use sa_overload::{ArgIn, Cand, fits};
+use sa_signatures::{ArgIn, Cand, fits};
 use sa_tree::{FrontFault, ModeTy, NoMemory, Pos, Rule, Ty, held};
 use sqlite_items::{Boxed, Items};
 use std::alloc::Global;

@@ -1,7 +1,7 @@
 //! The features and signatures that a call by name can choose.
 
 use crate::view::View;
-use sa_overload::Cand;
+use sa_signatures::Cand;
 use sa_tree::{FrontFault, Kind, NoMemory, Pos, Rule, held};
 use sa_types::Sig;
 use sqlite_items::Items;

@@ -3,7 +3,7 @@
 use crate::candidates::{Candidate, candidates, described};
 use crate::target::{Reached, reached_by};
 use crate::view::View;
-use sa_overload::{ArgIn, Cand, Choice, choose, fits};
+use sa_signatures::{ArgIn, Cand, Choice, choose, fits};
 use sa_tree::{FrontFault, Mode, NoMemory, Pos, Rule, held};
 use sqlite_items::Items;
 use std::alloc::Global;

@@ -5,7 +5,7 @@ use crate::features::{feature_of, may_implement};
 use crate::parents::is_abstract;
 use crate::signatures::Signatures;
 use sa_check_program::Program;
-use sa_sig::conforms;
+use sa_signatures::conforms;
 use sa_subtypes::Edges;
 use sa_tree::{FrontFault, NoMemory, Rule, held};
 use sa_types::{Instance, Sig};

@@ -4,7 +4,7 @@ use crate::parents::{number, parents};
 use crate::shapes::{Shape, Shapes};
 use indexmap::IndexMap;
 use sa_check_program::{Member, Program};
-use sa_sig::conforms;
+use sa_signatures::conforms;
 use sa_tree::{NoMemory, held};
 use sqlite_items::Items;
 use std::alloc::Global;

@@ -8,7 +8,7 @@ use sa_check_choice::{
     first_iter, number_of, position, variable_named,
 };
 use sa_core::{CalledCore, ExprCore};
-use sa_overload::Cand;
+use sa_signatures::Cand;
 use sa_tree::{Expr, FrontFault, ModeTy, Name, NoMemory, Pos, Rule, Ty, held};
 use sqlite_items::{Boxed, Items};
 use std::alloc::Global;

@@ -4,7 +4,7 @@ use sa_check_calls::{ReadyExpr, Receiver};
 use sa_check_choice::{Built, Typed, View, chosen, first_iter, kind_of, type_of, widened};
 use sa_check_program::BOOL;
 use sa_core::{CalledCore, ExprCore, Target};
-use sa_overload::ArgIn;
+use sa_signatures::ArgIn;
 use sa_tree::{FrontFault, Kind, Mode, NoMemory, Pos, Rule, held};
 use sqlite_items::Boxed;
 use std::alloc::Global;

@@ -5,7 +5,7 @@ use crate::lists::is_set;
 use crate::shape::{Side, has_writer, hash_of, signature};
 use indexmap::IndexMap;
 use sa_graph::{entry, put};
-use sa_sig::conflict;
+use sa_signatures::conflict;
 use sa_tree::NoMemory;
 use sa_types::Sig;
 use std::alloc::Global;

@@ -1,4 +1,0 @@
-pub mod Candidates
-pub mod Choice
-pub mod Fit
-pub mod Order
