@@ -66,7 +66,8 @@ named call None two pair fit found none e = inr (none refl, subst (λ (p : ℕ �
 named call (Some p) two pair fit found none e = inl (subst (λ (q : ℕ × ℕ). FirstTied call q.0 q.1) (sym e) found)
 
 -- the same said of another spelling of the call and of the pair
-pub named_as : (call given : Call) (pair : ℕ × ℕ) (i j : ℕ) → call ≡ given → Several pair.0 pair.1 ≡ Several i j → NamesPair call pair.0 pair.1 → NamesPair given i j
+pub named_as : (call given : Call) (pair : ℕ × ℕ) (i j : ℕ) → call ≡ given → Several pair.0 pair.1 ≡ Several i j
+    → NamesPair call pair.0 pair.1 → NamesPair given i j
 named_as call given pair i j same several names =
     let left : pair.0 ≡ i = cc in
     let right : pair.1 ≡ j = cc in

@@ -24,7 +24,8 @@ fits_at call k = option_map_or (is_fit call.edges call.args call.wants) (slice_g
 
 -- whether the first candidate is at least as specific as the second, by their numbers
 abbrev pub is_before : Call → ℕ → ℕ → Bool
-is_before call k j = option_map_or (λ one. option_map_or (is_as_specific call.edges one) (slice_get call.cands j) false) (slice_get call.cands k) false
+is_before call k j =
+    option_map_or (λ one. option_map_or (is_as_specific call.edges one) (slice_get call.cands j) false) (slice_get call.cands k) false
 
 -- no candidate fits
 abbrev pub NoneFit : Call → Type 0

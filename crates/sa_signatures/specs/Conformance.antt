@@ -32,4 +32,5 @@ result_conforms edges _ _ = false
 
 -- whether f conforms to g: the names are equal, there are as many arguments and each conforms, and the result conforms
 abbrev pub does_conform : Edges → Sig → Sig → Bool
-does_conform edges f g = pointwise nat_eq f.name g.name && pointwise (arg_conforms edges) f.args g.args && result_conforms edges f.result g.result
+does_conform edges f g =
+    pointwise nat_eq f.name g.name && pointwise (arg_conforms edges) f.args g.args && result_conforms edges f.result g.result
