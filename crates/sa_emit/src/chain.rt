@@ -11,7 +11,7 @@ use wa_syntax::{Instr, NoMemory, opcode};
 
 /// A place in the code of a head.
 #[derive(Clone, Copy, Debug)]
-pub struct Spot {
+pub(crate) struct Spot {
     /// The label of the dispatch's loop.
     inside: u32,
     /// The loop around the code of this head alone, where there is one.
@@ -27,7 +27,7 @@ struct OwnLoop {
 }
 
 /// Adds the code of a head whose code jumps to it: in a loop of its own, so that these jumps need no dispatch.
-pub fn add_repeating(
+pub(crate) fn add_repeating(
     alloc: Global,
     code: &mut Items<Instr>,
     around: &Around<'_>,
@@ -45,7 +45,7 @@ pub fn add_repeating(
 }
 
 /// Adds the code of a head whose code doesn't jump to it.
-pub fn add_head(
+pub(crate) fn add_head(
     alloc: Global,
     code: &mut Items<Instr>,
     around: &Around<'_>,

@@ -16,7 +16,7 @@ const BITS: u32 = 3;
 
 /// The body whose heads are placed.
 #[derive(Clone, Copy)]
-pub struct Dispatch<'a> {
+pub(crate) struct Dispatch<'a> {
     pub around: &'a Around<'a>,
     /// The block of each head.
     pub heads: &'a [u32],
@@ -25,7 +25,7 @@ pub struct Dispatch<'a> {
 }
 
 /// Adds the code of a body whose heads are jumped to: a loop around the choice between them.
-pub fn add_loop(
+pub(crate) fn add_loop(
     alloc: Global,
     code: &mut Items<Instr>,
     dispatch: &Dispatch<'_>,

@@ -8,7 +8,7 @@ use wa_syntax::NoMemory;
 
 /// What leads to a block.
 #[derive(Clone, Copy, Debug, PartialEq, Eq)]
-pub enum Entrance {
+pub(crate) enum Entrance {
     /// Nothing does.
     Never,
     /// The body begins in it, and nothing else leads to it.
@@ -28,7 +28,7 @@ struct Found {
 }
 
 /// What leads to each block.
-pub fn entrances(alloc: Global, body: &FlatBody) -> Result<Items<Entrance>, NoMemory> {
+pub(crate) fn entrances(alloc: Global, body: &FlatBody) -> Result<Items<Entrance>, NoMemory> {
     let mut found = begun(alloc, body)?;
     for _ in 0..body.blocks.len() {
         let Some(number) = found.waiting.pop() else {

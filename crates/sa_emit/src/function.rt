@@ -16,7 +16,7 @@ use wa_syntax::{Func, Instr, NoMemory};
 
 /// What the bodies of a program have in common.
 #[derive(Clone, Copy)]
-pub struct Common<'a> {
+pub(crate) struct Common<'a> {
     pub flat: &'a FlatProgram,
     pub rows: &'a Rows,
     /// The address of each text.
@@ -29,7 +29,7 @@ pub struct Common<'a> {
 }
 
 /// The function of each body, in order.
-pub fn add_bodies(
+pub(crate) fn add_bodies(
     alloc: Global,
     funcs: &mut Items<Func>,
     common: &Common<'_>,

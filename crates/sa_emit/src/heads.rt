@@ -10,11 +10,11 @@ use std::alloc::Global;
 use wa_syntax::NoMemory;
 
 /// How many branches may stand one inside the other in the code of a head.
-pub const DEEPEST: u32 = 64;
+pub(crate) const DEEPEST: u32 = 64;
 
 /// The heads of a body.
 #[derive(Drop)]
-pub struct Heads {
+pub(crate) struct Heads {
     /// For each block its number among the heads, or `NOT_A_HEAD`.
     pub numbers: Items<u32>,
     /// The block of each head. The first is block 0.
@@ -41,7 +41,11 @@ struct Walk<'a> {
 }
 
 /// The heads of a body: its first block, the blocks that jumps lead to, and those whose code would stand too deep.
-pub fn heads_of(alloc: Global, body: &FlatBody, entrances: &[Entrance]) -> Result<Heads, NoMemory> {
+pub(crate) fn heads_of(
+    alloc: Global,
+    body: &FlatBody,
+    entrances: &[Entrance],
+) -> Result<Heads, NoMemory> {
     let mut walk = begun(alloc, entrances)?;
     for _ in 0..body.blocks.len() {
         let Some(place) = walk.waiting.pop() else {

@@ -20,7 +20,7 @@ use wa_syntax::{
 };
 
 /// The module of a program whose objects have so many KiB.
-pub fn module(
+pub(crate) fn module(
     alloc: Global,
     common: &Common<'_>,
     memory: &Memory,

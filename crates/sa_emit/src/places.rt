@@ -11,7 +11,7 @@ use wa_syntax::NoMemory;
 
 /// The places of bodies that bound values call.
 #[derive(Drop)]
-pub struct Places {
+pub(crate) struct Places {
     /// The place of the first such body.
     pub first: u32,
     /// For each body of the program its place, or `NOT_PLACED`.
@@ -24,7 +24,11 @@ pub struct Places {
 
 /// The places of a program's bodies: of those that binds name, and of the implementations of signatures that binds name and that
 /// have no place by their signature.
-pub fn places_of(alloc: Global, flat: &FlatProgram, rows: &Rows) -> Result<Places, NoMemory> {
+pub(crate) fn places_of(
+    alloc: Global,
+    flat: &FlatProgram,
+    rows: &Rows,
+) -> Result<Places, NoMemory> {
     let mut places = no_places(alloc, flat, rows)?;
     for bind in flat.binds.as_slice() {
         match bind.callee {

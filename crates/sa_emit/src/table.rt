@@ -13,7 +13,7 @@ use std::mem;
 use wa_syntax::{Elem, Init, Limits, NoMemory};
 
 /// The table. Each module has one, since the runtime calls bound values through it.
-pub fn tables(alloc: Global, places: &Places) -> Result<Items<Limits>, NoMemory> {
+pub(crate) fn tables(alloc: Global, places: &Places) -> Result<Items<Limits>, NoMemory> {
     let size = sum(places.first, number(places.bodies.len())?)?;
     let table = Limits {
         min: size,
@@ -31,7 +31,7 @@ struct Filled {
 }
 
 /// The segments of the table: one for each run of neighbouring places.
-pub fn elements(
+pub(crate) fn elements(
     alloc: Global,
     flat: &FlatProgram,
     rows: &Rows,

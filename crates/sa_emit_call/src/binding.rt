@@ -12,7 +12,9 @@ use sa_emit_value::{
 };
 use sa_flat::{BindEntry, CallPlan, Callee, Fail, FlatArg};
 use sa_runtime::fault_numbers::NO_ROOM;
-use sa_runtime::layout::{ALLOCATE, BOUND, BOUND_CALL, RESULT, attribute_at, header};
+use sa_runtime::layout::{
+    ALLOCATE, BOUND, BOUND_CALL, HALF_BITS, RESULT, WIDENED_MARK, attribute_at, header,
+};
 use sa_runtime::line::{Op, add_line};
 use sqlite_items::Items;
 use std::alloc::Global;
@@ -21,10 +23,6 @@ use wa_syntax::opcode::{
     UNREACHABLE,
 };
 use wa_syntax::{Instr, NoMemory, ValTy};
-
-/// What marks a value that was widened where its type in the signature is immutable: no value of such a type has this high
-/// half.
-const WIDENED_MARK: u64 = 0x1_0000_0000;
 
 /// A bound value of an entry.
 pub fn add_bind(
@@ -145,7 +143,7 @@ fn add_receiver(
         let line = [
             Op::Get(STATUS),
             Op::Do(I64_EXTEND_I32_U),
-            Op::I64(32),
+            Op::I64(HALF_BITS),
             Op::Do(I64_SHL),
             Op::Do(I64_OR),
         ];
@@ -199,7 +197,7 @@ fn add_entry(
 }
 
 /// A call of a bound value. One of a signature with more arguments than a feature has is of void alone.
-pub fn add_bound_call(
+pub(crate) fn add_bound_call(
     alloc: Global,
     code: &mut Items<Instr>,
     around: &Around<'_>,

@@ -81,7 +81,7 @@ pub fn add_deeper(code: &mut Items<Instr>, frame: Op) -> Result<(), NoMemory> {
 
 /// Adds the depth of this activation and a frame, as operands of a body that was made for an implementation alone, which is
 /// no activation. `frame` reads the frame.
-pub fn add_as_deep(code: &mut Items<Instr>, frame: Op) -> Result<(), NoMemory> {
+pub(crate) fn add_as_deep(code: &mut Items<Instr>, frame: Op) -> Result<(), NoMemory> {
     add_line(code, &[Op::Get(DEPTH), frame])
 }
 
@@ -91,6 +91,6 @@ pub fn function_of(body: u32) -> Result<u32, NoMemory> {
 }
 
 /// Adds a call through the table of the function whose place is the operand.
-pub fn add_indirect_call(code: &mut Items<Instr>) -> Result<(), NoMemory> {
+pub(crate) fn add_indirect_call(code: &mut Items<Instr>) -> Result<(), NoMemory> {
     add_line(code, &[Op::CallIndirect(BODY_TYPE)])
 }

@@ -27,7 +27,7 @@ pub enum Class {
 }
 
 /// A dispatched call.
-pub fn add_dispatch(
+pub(crate) fn add_dispatch(
     alloc: Global,
     code: &mut Items<Instr>,
     around: &Around<'_>,
@@ -93,7 +93,7 @@ fn add_mixed(
 }
 
 /// Adds what follows a body that didn't return, by the status in the local: a fault that it hands on, or a raise.
-pub fn add_unreturned(
+pub(crate) fn add_unreturned(
     alloc: Global,
     code: &mut Items<Instr>,
     around: &Around<'_>,
@@ -189,7 +189,7 @@ fn add_test(
 }
 
 /// The body that does a signature's implementation for a class.
-pub fn target_of(around: &Around<'_>, sig: u32, ty: u32) -> Result<u32, NoMemory> {
+pub(crate) fn target_of(around: &Around<'_>, sig: u32, ty: u32) -> Result<u32, NoMemory> {
     let row = held(around.rows.row(sig, ty))?;
     held(around.flat.targets.get(row as usize).copied())
 }

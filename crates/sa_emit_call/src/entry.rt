@@ -30,7 +30,7 @@ struct Called {
 /// # Errors
 ///
 /// `NoMemory`, also where a number of the entry is out of range.
-pub fn entry_words(
+pub(crate) fn entry_words(
     alloc: Global,
     around: &Around<'_>,
     entry: &BindEntry,
@@ -63,7 +63,7 @@ fn open_word(open: &[bool]) -> u64 {
 }
 
 /// How many arguments aren't open.
-pub fn given(open: &[bool]) -> u32 {
+pub(crate) fn given(open: &[bool]) -> u32 {
     let mut count = 0u32;
     for is_open in open {
         if !*is_open {

@@ -15,7 +15,7 @@ use wa_syntax::opcode::{I32_EQZ, RETURN};
 use wa_syntax::{Instr, NoMemory};
 
 /// Whether the instance has a frame already.
-pub fn add_has_frame(
+pub(crate) fn add_has_frame(
     code: &mut Items<Instr>,
     around: &Around<'_>,
     to: u32,
@@ -24,7 +24,7 @@ pub fn add_has_frame(
 }
 
 /// Takes the frame of the instance at a start, and runs the iter's body on it.
-pub fn add_enter(
+pub(crate) fn add_enter(
     alloc: Global,
     code: &mut Items<Instr>,
     around: &Around<'_>,

@@ -15,7 +15,7 @@ use wa_syntax::{Instr, NoMemory};
 
 /// A site as a start or a resumption names it.
 #[derive(Clone, Copy)]
-pub struct Site<'a> {
+pub(crate) struct Site<'a> {
     pub number: u32,
     /// The local with the frame of its instance.
     pub frame: u32,
@@ -26,7 +26,7 @@ pub struct Site<'a> {
 
 /// What a site calls.
 #[derive(Clone, Copy)]
-pub enum Called {
+pub(crate) enum Called {
     /// The body of a feature.
     Body,
     /// The body of a feature that the class in `ADDRESS` chooses.
@@ -48,7 +48,7 @@ fn keeps_frame(called: Called) -> bool {
 }
 
 /// Adds what follows a start, whose status is the operand.
-pub fn add_started(
+pub(crate) fn add_started(
     alloc: Global,
     code: &mut Items<Instr>,
     around: &Around<'_>,
@@ -63,7 +63,7 @@ pub fn add_started(
 }
 
 /// Adds what follows a resumption, whose status is the operand.
-pub fn add_resumed(
+pub(crate) fn add_resumed(
     alloc: Global,
     code: &mut Items<Instr>,
     around: &Around<'_>,
@@ -93,7 +93,7 @@ fn add_outcome(
 }
 
 /// Adds what keeps the status that is the operand, and whether it is that of a suspension, as an operand.
-pub fn add_is_suspended(code: &mut Items<Instr>) -> Result<(), NoMemory> {
+pub(crate) fn add_is_suspended(code: &mut Items<Instr>) -> Result<(), NoMemory> {
     let line = [Op::Tee(STATUS), Op::I32(SUSPENDED), Op::Do(I32_EQ)];
     add_line(code, &line)
 }
@@ -195,13 +195,13 @@ fn add_raised(
 }
 
 /// Adds the test whether the status in the local is that of a raise, as an operand.
-pub fn add_is_raised(code: &mut Items<Instr>) -> Result<(), NoMemory> {
+pub(crate) fn add_is_raised(code: &mut Items<Instr>) -> Result<(), NoMemory> {
     let line = [Op::Get(STATUS), Op::I32(RAISED), Op::Do(I32_EQ)];
     add_line(code, &line)
 }
 
 /// Adds what tells whether the instance has ended.
-pub fn add_quit(
+pub(crate) fn add_quit(
     code: &mut Items<Instr>,
     around: &Around<'_>,
     quit: u32,

@@ -18,7 +18,7 @@ use wa_syntax::opcode::{I32_LOAD, I32_WRAP_I64, UNREACHABLE};
 use wa_syntax::{Instr, NoMemory};
 
 /// Starts an instance at a site.
-pub fn add_start(
+pub(crate) fn add_start(
     alloc: Global,
     code: &mut Items<Instr>,
     around: &Around<'_>,
@@ -37,7 +37,7 @@ pub fn add_start(
 }
 
 /// Resumes the instance at a site.
-pub fn add_resume(
+pub(crate) fn add_resume(
     alloc: Global,
     code: &mut Items<Instr>,
     around: &Around<'_>,

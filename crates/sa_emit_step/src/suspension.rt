@@ -189,7 +189,7 @@ fn kept_at(place: usize) -> Result<u32, NoMemory> {
 /// A suspension with a value. A body that was made for an implementation alone, which has no block of its own to go on in,
 /// answers its caller at once. `inside` is the number of the label of the dispatch; the label that stands one further out leads
 /// to what all suspensions go to.
-pub fn add_suspend(
+pub(crate) fn add_suspend(
     code: &mut Items<Instr>,
     around: &Around<'_>,
     value: Option<u32>,

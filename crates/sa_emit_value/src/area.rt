@@ -82,7 +82,7 @@ fn add_answer(
 }
 
 /// Adds what takes the result of a call, where it is wanted.
-pub fn add_result(
+pub(crate) fn add_result(
     code: &mut Items<Instr>,
     body: &FlatBody,
     value: Option<u32>,
@@ -151,7 +151,7 @@ fn add_copy_back(
 }
 
 /// Adds what stores a local at an address.
-pub fn add_store(code: &mut Items<Instr>, at: u32, local: u32) -> Result<(), NoMemory> {
+pub(crate) fn add_store(code: &mut Items<Instr>, at: u32, local: u32) -> Result<(), NoMemory> {
     add_line(
         code,
         &[Op::I32(0), Op::Get(local), Op::Memory(I64_STORE, at)],
@@ -159,7 +159,7 @@ pub fn add_store(code: &mut Items<Instr>, at: u32, local: u32) -> Result<(), NoM
 }
 
 /// Adds what loads a local from an address.
-pub fn add_load(code: &mut Items<Instr>, at: u32, local: u32) -> Result<(), NoMemory> {
+pub(crate) fn add_load(code: &mut Items<Instr>, at: u32, local: u32) -> Result<(), NoMemory> {
     add_line(
         code,
         &[Op::I32(0), Op::Memory(I64_LOAD, at), Op::Set(local)],

@@ -6,7 +6,7 @@
 
 use crate::below::Below;
 use sa_dispatch::Rows;
-use sa_flat::{FlatBody, FlatProgram};
+use sa_flat::{FIRST_TEMPORARY, FlatBody, FlatProgram};
 use std::alloc::Global;
 use wa_syntax::{Locals, NoMemory, ValTy};
 
@@ -29,19 +29,16 @@ pub const ADDRESS: u32 = 4;
 pub const ME: u32 = 5;
 
 /// The local for a value that nothing reads.
-pub const WORD: u32 = 6;
+const WORD: u32 = 6;
 
 /// The local with the variable 0. The other variables follow, then the temporaries.
-pub const FIRST_VARIABLE: u32 = 7;
+const FIRST_VARIABLE: u32 = 7;
 
 /// How many of the locals are of 32 bits and no parameters.
 const ADDRESSES: u32 = 3;
 
 /// How many of the locals are words and no variables.
 const WORDS: u32 = 2;
-
-/// The number of the first temporary among the variables of a body.
-const FIRST_TEMPORARY: u32 = 200;
 
 /// What stands in place of a head's number for a block that the dispatch doesn't know.
 pub const NOT_A_HEAD: u32 = u32::MAX;

@@ -19,7 +19,7 @@ use wa_syntax::opcode::{
 use wa_syntax::{Instr, NoMemory};
 
 /// The runtime's function that makes an array.
-pub const CREATE: u32 = FIRST_BUILTIN + BuiltinFeature::ArrayCreate as u32;
+pub(crate) const CREATE: u32 = FIRST_BUILTIN + BuiltinFeature::ArrayCreate as u32;
 
 /// The byte of an object at which its length stands.
 const LENGTH_AT: u32 = 4;
@@ -49,7 +49,11 @@ pub fn add_builtin(
 }
 
 /// The local with an argument of a call.
-pub fn argument(around: &Around<'_>, plan: &CallPlan, place: usize) -> Result<u32, NoMemory> {
+pub(crate) fn argument(
+    around: &Around<'_>,
+    plan: &CallPlan,
+    place: usize,
+) -> Result<u32, NoMemory> {
     let arg = held(plan.args.get(place))?;
     Ok(around.local(held(arg.var)?))
 }

@@ -8,8 +8,8 @@ use crate::failing::{add_fail_if, deeper};
 use sa_flat::Fail;
 use sa_runtime::fault_numbers::NO_ROOM;
 use sa_runtime::layout::{
-    ALLOCATE, BOOL, BOXED, CHAR, INT, OBJECT, UNWRAPPED, WIDENED, attribute_at, first_element_at,
-    header,
+    ALLOCATE, BOOL, BOXED, CHAR, HALF_BITS, INT, LOW_HALF, OBJECT, UNWRAPPED, WIDENED,
+    WIDENED_HALF, attribute_at, first_element_at, header,
 };
 use sa_runtime::line::{Op, add_line};
 use sqlite_items::Items;
@@ -89,7 +89,11 @@ pub fn add_put_item(
 }
 
 /// Adds what gives the address of an element of an object less the offset of the first one, as an operand.
-pub fn add_element(code: &mut Items<Instr>, object: u32, place: u32) -> Result<(), NoMemory> {
+pub(crate) fn add_element(
+    code: &mut Items<Instr>,
+    object: u32,
+    place: u32,
+) -> Result<(), NoMemory> {
     let line = [
         Op::Get(object),
         Op::Get(place),
@@ -119,7 +123,7 @@ pub fn add_widen(
     let mut marked = Items::new(alloc);
     let line = [
         Op::Get(around.local(from)),
-        Op::I64(0xffff_ffff),
+        Op::I64(LOW_HALF),
         Op::Do(I64_AND),
         Op::Set(around.local(to)),
     ];
@@ -137,9 +141,9 @@ pub fn add_widen(
     )?;
     let line = [
         Op::Get(around.local(from)),
-        Op::I64(32),
+        Op::I64(HALF_BITS),
         Op::Do(I64_SHR_U),
-        Op::I64(1),
+        Op::I64(WIDENED_HALF),
         Op::Do(I64_EQ),
     ];
     add_line(code, &line)?;

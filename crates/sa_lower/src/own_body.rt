@@ -3,19 +3,20 @@
 //! entered it, so its steps tell no position.
 
 use crate::arguments::{Arguments, pass_all, widen_back, widened_value};
-use crate::giving::{feature, given};
+use crate::giving::given;
 use crate::own_iter::own_iter;
 use crate::passing::widened_result;
-use crate::signatures::{SignatureTypes, is_immutable};
+use crate::signatures::SignatureTypes;
 use sa_core::{Core, ImplCore, Target};
-use sa_flat::{CallPlan, Callee, Fail, FlatBody, FlatExit, FlatStep};
+use sa_flat::{CallPlan, Fail, FlatBody, FlatExit, FlatStep};
 use sa_lower_draft::{BodyHead, Inside, OpenBody};
+use sa_lower_expr::{callee_of, feature_at, is_immutable};
 use sa_tree::{NoMemory, held};
 use sqlite_items::Items;
 use std::alloc::Global;
 
 /// The body of an implementation of a signature with these types.
-pub fn own_body(
+pub(crate) fn own_body(
     alloc: Global,
     core: &Core,
     implementation: &ImplCore,
@@ -45,7 +46,7 @@ fn head(alloc: Global, iter: Option<u32>, types: &SignatureTypes) -> Result<Body
 }
 
 /// What the steps of a body tell that has no position of its own.
-pub fn no_position() -> Fail {
+pub(crate) fn no_position() -> Fail {
     Fail {
         place: 0,
         line: 0,
@@ -58,7 +59,7 @@ fn iter_number(core: &Core, implementation: &ImplCore) -> Result<Option<u32>, No
     let Target::Feature(number) = implementation.target else {
         return Ok(None);
     };
-    if feature(core, number)?.iter {
+    if feature_at(core, number)?.iter {
         return Ok(Some(number));
     }
     Ok(None)
@@ -83,7 +84,7 @@ fn call(
     let value = value_of(core, implementation, body)?;
     body.step(FlatStep::Call {
         plan: CallPlan {
-            callee: callee(implementation.target),
+            callee: callee_of(implementation.target),
             class: implementation.ty,
             recv,
             args,
@@ -97,7 +98,7 @@ fn call(
 }
 
 /// The variable that holds the receiver as its own class has it.
-pub fn receiver(
+pub(crate) fn receiver(
     core: &Core,
     implementation: &ImplCore,
     body: &mut OpenBody,
@@ -117,7 +118,7 @@ pub fn receiver(
 }
 
 /// A variable for what the implementation gives, if it gives anything.
-pub fn value_of(
+pub(crate) fn value_of(
     core: &Core,
     implementation: &ImplCore,
     body: &mut OpenBody,
@@ -125,17 +126,5 @@ pub fn value_of(
     match given(core, implementation)? {
         Some(_) => Ok(Some(body.temporary()?)),
         None => Ok(None),
-    }
-}
-
-/// What a call of an implementation reaches.
-fn callee(target: Target) -> Callee {
-    match target {
-        Target::Feature(number) => Callee::Body(number),
-        Target::Builtin(number) => Callee::Builtin(number),
-        Target::Get(place) => Callee::Get(place),
-        Target::Set(place) => Callee::Set(place),
-        Target::GetShared(number) => Callee::GetShared(number),
-        Target::SetShared(number) => Callee::SetShared(number),
     }
 }

@@ -22,7 +22,7 @@ struct Begun {
 }
 
 /// The body of an implementation by the iter with this number, which has begun.
-pub fn own_iter(
+pub(crate) fn own_iter(
     alloc: Global,
     core: &Core,
     implementation: &ImplCore,

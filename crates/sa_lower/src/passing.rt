@@ -1,16 +1,16 @@
 //! What is widened between a signature and an implementation of it: an immutable value that goes in where the implementation
 //! has an abstract type, and one that comes out where the signature has one.
 
-use crate::giving::{given, variable_type};
-use crate::signatures::{SignatureTypes, is_abstract, is_immutable};
+use crate::giving::given;
+use crate::signatures::SignatureTypes;
 use sa_core::{Core, ImplCore, Target};
 use sa_flat::FlatFormal;
-use sa_lower_expr::takes_abstract;
+use sa_lower_expr::{is_abstract, is_immutable, takes_abstract, variable_type};
 use sa_tree::{Mode, NoMemory};
 
 /// What is done with an argument between a signature and an implementation.
 #[derive(Clone, Copy, Debug, PartialEq, Eq)]
-pub enum Passing {
+pub(crate) enum Passing {
     /// It is passed as it is.
     Plain,
     /// It is a value of this immutable class and is widened before the call.
@@ -20,7 +20,7 @@ pub enum Passing {
 }
 
 /// What is done with the argument at a place.
-pub fn passing_of(
+pub(crate) fn passing_of(
     core: &Core,
     implementation: &ImplCore,
     place: usize,
@@ -68,7 +68,7 @@ fn passing_out(
 }
 
 /// The immutable class of which an implementation gives a value that has to be widened to the result of the signature.
-pub fn widened_result(
+pub(crate) fn widened_result(
     core: &Core,
     implementation: &ImplCore,
     types: &SignatureTypes,

@@ -4,17 +4,18 @@
 
 use crate::own_body::own_body;
 use crate::passing::{Passing, passing_of, widened_result};
-use crate::signatures::{SignatureTypes, is_immutable, signature_types};
+use crate::signatures::{SignatureTypes, signature_types};
 use sa_core::{Core, ImplCore, SigCore, Target};
 use sa_flat::{FlatBody, FlatFormal};
 use sa_lower_draft::Tables;
+use sa_lower_expr::is_immutable;
 use sa_tree::{NoMemory, held};
 use sqlite_items::Items;
 use std::alloc::Global;
 
 /// The number of the body of each implementation, in the order of the signatures and of their implementations. The bodies
 /// that are made for them stand behind the others.
-pub fn targets(
+pub(crate) fn targets(
     alloc: Global,
     core: &Core,
     tables: &Tables,
