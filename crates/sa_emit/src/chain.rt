@@ -129,13 +129,13 @@ fn add_block(
     spot: Spot,
 ) -> Result<Behind, NoMemory> {
     let block = held(around.body.blocks.get(number as usize))?;
-    let is_paid = is_jumped_to(around, number)?;
+    let turn = first_turn(around, number)?;
     add_steps(
         alloc,
         code,
         around,
         block.steps.as_slice(),
-        is_paid,
+        turn,
         spot.inside,
     )?;
     match &block.exit {
@@ -151,21 +151,30 @@ fn add_block(
     }
 }
 
-/// Adds the code of the steps of a block. A turn has an instruction of its own, so that a run never has more turns than
-/// instructions: the jump to the block where the turn is its first step, and else a `nop`. `is_paid` tells of that jump.
+/// What instruction a turn has, so that a run never has more turns than instructions.
+#[derive(Clone, Copy, Debug, PartialEq, Eq)]
+enum Turn {
+    /// The jump to the block.
+    Jump,
+    /// A `nop` of its own.
+    Nop,
+}
+
+/// Adds the code of the steps of a block. `turn` is what instruction a turn has that is the first of them; each other one has a
+/// `nop`.
 fn add_steps(
     alloc: Global,
     code: &mut Items<Instr>,
     around: &Around<'_>,
     steps: &[FlatStep],
-    mut is_paid: bool,
+    mut turn: Turn,
     inside: u32,
 ) -> Result<(), NoMemory> {
     for step in steps {
-        if is_turn(step) && !is_paid {
+        if is_turn(step) && turn == Turn::Nop {
             code.push(Instr::Plain(opcode::NOP))?;
         }
-        is_paid = false;
+        turn = Turn::Nop;
         add_step(alloc, code, around, step, inside)?;
     }
     Ok(())
@@ -176,9 +185,13 @@ fn is_turn(step: &FlatStep) -> bool {
     matches!(step, FlatStep::Turn)
 }
 
-/// Whether each way into a block is a jump: it is a head, and not the one that the body begins with.
-fn is_jumped_to(around: &Around<'_>, block: u32) -> Result<bool, NoMemory> {
-    Ok(block > 0 && is_head(around, block)?)
+/// What instruction a turn has that a block begins with: the jump where each way into the block is one, which holds of the heads
+/// but for the one that the body begins with.
+fn first_turn(around: &Around<'_>, block: u32) -> Result<Turn, NoMemory> {
+    if block > 0 && is_head(around, block)? {
+        return Ok(Turn::Jump);
+    }
+    Ok(Turn::Nop)
 }
 
 /// Adds a jump to a block that is a head. The code of another one stands here.

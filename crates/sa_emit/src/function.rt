@@ -34,19 +34,18 @@ pub(crate) fn add_bodies(
     funcs: &mut Items<Func>,
     common: &Common<'_>,
 ) -> Result<(), NoMemory> {
-    let bodies = common.flat.bodies.as_slice();
-    for (place, body) in bodies.iter().enumerate() {
-        let role = role_of(body, place + 1 == bodies.len());
-        funcs.push(function(alloc, common, body, role)?)?;
+    let Some((last, others)) = common.flat.bodies.as_slice().split_last() else {
+        return Ok(());
+    };
+    for body in others {
+        funcs.push(function(alloc, common, body, role_of(body))?)?;
     }
+    funcs.push(function(alloc, common, last, Role::Last)?)?;
     Ok(())
 }
 
-/// What a body is for.
-fn role_of(body: &FlatBody, last: bool) -> Role {
-    if last {
-        return Role::Last;
-    }
+/// What a body that isn't the last one is for.
+fn role_of(body: &FlatBody) -> Role {
     match body.feature {
         Some(_) => Role::Feature,
         None => Role::Target,

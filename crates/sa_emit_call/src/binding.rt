@@ -6,9 +6,9 @@ use crate::dispatch::{add_unreturned, target_of};
 use crate::entry::{entry_words, given};
 use sa_dispatch::Span;
 use sa_emit_value::{
-    ADDRESS, ARGUMENTS, Around, DEPTH, STATUS, TypeSpan, add_answers, add_fail_if, add_handed,
-    add_if, add_if_else, add_span_test, add_type_of, add_void_test, add_widened, deeper, held,
-    spans_of,
+    ADDRESS, ARGUMENTS, Around, DEPTH, Handing, STATUS, TypeSpan, add_answers, add_fail_if,
+    add_handed, add_if, add_if_else, add_span_test, add_type_of, add_void_test, add_widened,
+    deeper, held, spans_of,
 };
 use sa_flat::{BindEntry, CallPlan, Callee, Fail, FlatArg};
 use sa_runtime::fault_numbers::NO_ROOM;
@@ -208,7 +208,7 @@ pub(crate) fn add_bound_call(
     if plan.args.len() > ARGUMENTS {
         return add_line(code, &[Op::Do(UNREACHABLE)]);
     }
-    add_handed(code, around.body, plan.args.as_slice(), true)?;
+    add_handed(code, around.body, plan.args.as_slice(), Handing::AtStart)?;
     let line = [
         Op::Get(DEPTH),
         Op::I32(0),

@@ -1,6 +1,6 @@
 //! The words of a bind, which the call of its values reads: what is called, and which arguments the values keep.
 
-use crate::dispatch::is_plain;
+use crate::dispatch::{Implementations, implementations_of};
 use sa_emit_value::{Around, NOT_PLACED, held, is_immutable, shared_at};
 use sa_flat::{BindEntry, Callee};
 use sa_prelude::BuiltinFeature;
@@ -120,7 +120,7 @@ fn chosen_kind(around: &Around<'_>, sig: u32) -> Result<u32, NoMemory> {
     let Some(first) = around.rows.first(sig) else {
         return Ok(CHOSEN_ROUTINE);
     };
-    if !is_plain(around, sig)? {
+    if implementations_of(around, sig)? == Implementations::Made {
         return Ok(CHOSEN_MADE);
     }
     let target = held(around.flat.targets.get(first as usize).copied())?;

@@ -11,4 +11,6 @@ mod entry;
 
 pub use binding::{add_bind, add_widen_for};
 pub use calls::{add_call, add_deeper, add_depth_test, add_too_deep, function_of};
-pub use dispatch::{Class, add_chosen, add_handed_on_fault, is_plain};
+pub use dispatch::{
+    Choice, Class, Implementations, add_chosen, add_handed_on_fault, implementations_of,
+};

@@ -2,9 +2,11 @@
 //! instance at a start, hands it out, and runs the iter's body on it, at the depth of its caller.
 
 use crate::frames::{add_frame_self, add_is_frame};
-use crate::outcome::{add_is_raised, add_is_suspended, add_quit};
+use crate::outcome::{Instance, add_is_raised, add_is_suspended, add_quit};
 use sa_emit_call::{add_deeper, add_too_deep, function_of};
-use sa_emit_value::{Around, FRAME, add_answers, add_handed, add_handed_on, add_if, add_if_else};
+use sa_emit_value::{
+    Around, FRAME, Handing, add_answers, add_handed, add_handed_on, add_if, add_if_else,
+};
 use sa_flat::FlatArg;
 use sa_runtime::fault_numbers::{TOO_DEEP, TOO_MANY_FRAMES};
 use sa_runtime::layout::{END_FRAME, FRAME_OUT, NEW_FRAME, RAISED};
@@ -38,7 +40,7 @@ pub(crate) fn add_enter(
     add_too_deep(code)?;
     add_handed_on_if(alloc, code, TOO_DEEP)?;
     add_frame(alloc, code, around, recv)?;
-    add_handed(code, around.body, args, true)?;
+    add_handed(code, around.body, args, Handing::AtStart)?;
     add_deeper(code, Op::Get(FRAME))?;
     add_line(code, &[Op::Call(func)])?;
     let suspended = suspended(alloc, around, args, value, quit)?;
@@ -81,7 +83,7 @@ fn suspended(
     let mut code = Items::new(alloc);
     add_line(&mut code, &[Op::Get(FRAME), Op::SetGlobal(FRAME_OUT)])?;
     add_answers(&mut code, around.body, value, args)?;
-    add_quit(&mut code, around, quit, false)?;
+    add_quit(&mut code, around, quit, Instance::Suspended)?;
     Ok(code)
 }
 
@@ -93,6 +95,6 @@ fn ended(alloc: Global, around: &Around<'_>, quit: u32) -> Result<Items<Instr>, 
     add_line(&mut raise, &[Op::I32(RAISED), Op::Do(RETURN)])?;
     add_is_raised(&mut code)?;
     add_if(alloc, &mut code, raise)?;
-    add_quit(&mut code, around, quit, true)?;
+    add_quit(&mut code, around, quit, Instance::Ended)?;
     Ok(code)
 }

@@ -30,19 +30,26 @@ pub(crate) enum Called {
     /// The body of a feature.
     Body,
     /// The body of a feature that the class in `ADDRESS` chooses.
-    Plain,
+    Feature,
     /// A body that was made for an implementation alone, which the class in `ADDRESS` chooses.
-    Mixed,
+    Made,
     /// A bound value.
     Bound,
+}
+
+/// What has become of an instance by a start or a resumption.
+#[derive(Clone, Copy, Debug, PartialEq, Eq)]
+pub(crate) enum Instance {
+    Suspended,
+    Ended,
 }
 
 /// Whether the site itself takes the frame of the instance and gives it back.
 fn keeps_frame(called: Called) -> bool {
     match called {
         Called::Body => true,
-        Called::Plain => true,
-        Called::Mixed => false,
+        Called::Feature => true,
+        Called::Made => false,
         Called::Bound => false,
     }
 }
@@ -117,8 +124,8 @@ fn add_begun(
     add_line(code, &line)?;
     match called {
         Called::Body => Ok(()),
-        Called::Plain => add_class_kept(code, site),
-        Called::Mixed => add_class_kept(code, site),
+        Called::Feature => add_class_kept(code, site),
+        Called::Made => add_class_kept(code, site),
         Called::Bound => add_bound_kept(code, around, site),
     }
 }
@@ -156,7 +163,7 @@ fn add_yielded(
 ) -> Result<(), NoMemory> {
     let plan = site.plan;
     add_answers(code, around.body, plan.value, plan.args.as_slice())?;
-    add_quit(code, around, site.quit, false)
+    add_quit(code, around, site.quit, Instance::Suspended)
 }
 
 /// Adds what follows the end of an instance, by the status in the local: a fault that is handed on, a raise, or the quit.
@@ -177,7 +184,7 @@ fn add_ended(
         add_handed_on_fault(alloc, code, around, fail, inside)?;
     }
     add_raised(alloc, code, around, &fail.raised, inside)?;
-    add_quit(code, around, site.quit, true)
+    add_quit(code, around, site.quit, Instance::Ended)
 }
 
 /// Adds the raise that an instance has ended with, where the status in the local says so.
@@ -205,8 +212,11 @@ pub(crate) fn add_quit(
     code: &mut Items<Instr>,
     around: &Around<'_>,
     quit: u32,
-    ended: bool,
+    instance: Instance,
 ) -> Result<(), NoMemory> {
-    let line = [Op::I64(u64::from(ended)), Op::Set(around.local(quit))];
-    add_line(code, &line)
+    let ended = match instance {
+        Instance::Suspended => 0,
+        Instance::Ended => 1,
+    };
+    add_line(code, &[Op::I64(ended), Op::Set(around.local(quit))])
 }

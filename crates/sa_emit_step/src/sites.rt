@@ -5,9 +5,12 @@
 
 use crate::frames::add_new_frame;
 use crate::outcome::{Called, Site, add_resumed, add_started};
-use sa_emit_call::{Class, add_chosen, add_deeper, add_depth_test, function_of, is_plain};
+use sa_emit_call::{
+    Choice, Class, Implementations, add_chosen, add_deeper, add_depth_test, function_of,
+    implementations_of,
+};
 use sa_emit_value::{
-    ADDRESS, ARGUMENTS, Around, DEPTH, add_handed, add_self, add_type_of, add_void_test,
+    ADDRESS, ARGUMENTS, Around, DEPTH, Handing, add_handed, add_self, add_type_of, add_void_test,
 };
 use sa_flat::{CallPlan, Callee};
 use sa_runtime::layout::{BOUND_CALL, CALLED_AT};
@@ -117,45 +120,54 @@ fn add_dispatched_start(
     if around.rows.types(sig).is_empty() {
         return add_line(code, &[Op::Do(UNREACHABLE)]);
     }
-    if is_plain(around, sig)? {
-        add_plain_start(alloc, code, around, site, sig, inside)
-    } else {
-        add_mixed_start(alloc, code, around, site, sig, inside)
+    let choice = choice_of(around, sig)?;
+    match choice.implementations {
+        Implementations::Features => add_feature_start(alloc, code, around, site, choice, inside),
+        Implementations::Made => add_made_start(alloc, code, around, site, choice, inside),
     }
 }
 
+/// The choice among the implementations of a signature by the class in `ADDRESS`.
+fn choice_of(around: &Around<'_>, sig: u32) -> Result<Choice, NoMemory> {
+    Ok(Choice {
+        class: Class::InAddress,
+        sig,
+        implementations: implementations_of(around, sig)?,
+    })
+}
+
 /// A start of one of the bodies of features.
-fn add_plain_start(
+fn add_feature_start(
     alloc: Global,
     code: &mut Items<Instr>,
     around: &Around<'_>,
     site: &Site<'_>,
-    sig: u32,
+    choice: Choice,
     inside: u32,
 ) -> Result<(), NoMemory> {
     let frame = Op::Get(site.frame);
     add_new_frame(alloc, code, around, site, inside)?;
     add_all(code, around, site)?;
     add_class_of(code, around, site)?;
-    add_chosen(alloc, code, around, Class::InAddress, sig, true, frame)?;
-    add_started(alloc, code, around, site, Called::Plain, inside)
+    add_chosen(alloc, code, around, choice, frame)?;
+    add_started(alloc, code, around, site, Called::Feature, inside)
 }
 
 /// A start of one of the bodies that were made for the implementations alone. The body takes the frame.
-fn add_mixed_start(
+fn add_made_start(
     alloc: Global,
     code: &mut Items<Instr>,
     around: &Around<'_>,
     site: &Site<'_>,
-    sig: u32,
+    choice: Choice,
     inside: u32,
 ) -> Result<(), NoMemory> {
     let frame = Op::I32(0);
     add_self(code, around.body, site.plan.recv)?;
     add_all(code, around, site)?;
     add_class_of(code, around, site)?;
-    add_chosen(alloc, code, around, Class::InAddress, sig, false, frame)?;
-    add_started(alloc, code, around, site, Called::Mixed, inside)
+    add_chosen(alloc, code, around, choice, frame)?;
+    add_started(alloc, code, around, site, Called::Made, inside)
 }
 
 /// A resumption of the implementation of a signature. The class that chose it stands in the frame.
@@ -170,20 +182,20 @@ fn add_dispatched_resume(
     if around.rows.types(sig).is_empty() {
         return add_line(code, &[Op::Do(UNREACHABLE)]);
     }
-    if is_plain(around, sig)? {
-        add_plain_resume(alloc, code, around, site, sig, inside)
-    } else {
-        add_mixed_resume(alloc, code, around, site, sig, inside)
+    let choice = choice_of(around, sig)?;
+    match choice.implementations {
+        Implementations::Features => add_feature_resume(alloc, code, around, site, choice, inside),
+        Implementations::Made => add_made_resume(alloc, code, around, site, choice, inside),
     }
 }
 
 /// A resumption of one of the bodies of features.
-fn add_plain_resume(
+fn add_feature_resume(
     alloc: Global,
     code: &mut Items<Instr>,
     around: &Around<'_>,
     site: &Site<'_>,
-    sig: u32,
+    choice: Choice,
     inside: u32,
 ) -> Result<(), NoMemory> {
     let frame = Op::Get(site.frame);
@@ -191,25 +203,25 @@ fn add_plain_resume(
     add_all_but_once(code, around, site)?;
     add_called(code, site)?;
     add_line(code, &[Op::Set(ADDRESS)])?;
-    add_chosen(alloc, code, around, Class::InAddress, sig, true, frame)?;
-    add_resumed(alloc, code, around, site, Called::Plain, inside)
+    add_chosen(alloc, code, around, choice, frame)?;
+    add_resumed(alloc, code, around, site, Called::Feature, inside)
 }
 
 /// A resumption of one of the bodies that were made for the implementations alone.
-fn add_mixed_resume(
+fn add_made_resume(
     alloc: Global,
     code: &mut Items<Instr>,
     around: &Around<'_>,
     site: &Site<'_>,
-    sig: u32,
+    choice: Choice,
     inside: u32,
 ) -> Result<(), NoMemory> {
     let frame = Op::Get(site.frame);
     add_all_but_once(code, around, site)?;
     add_called(code, site)?;
     add_line(code, &[Op::Set(ADDRESS)])?;
-    add_chosen(alloc, code, around, Class::InAddress, sig, false, frame)?;
-    add_resumed(alloc, code, around, site, Called::Mixed, inside)
+    add_chosen(alloc, code, around, choice, frame)?;
+    add_resumed(alloc, code, around, site, Called::Made, inside)
 }
 
 /// A start of a bound value.
@@ -257,7 +269,12 @@ fn add_bound_resume(
 
 /// Adds what stores the arguments of a start.
 fn add_all(code: &mut Items<Instr>, around: &Around<'_>, site: &Site<'_>) -> Result<(), NoMemory> {
-    add_handed(code, around.body, site.plan.args.as_slice(), true)
+    add_handed(
+        code,
+        around.body,
+        site.plan.args.as_slice(),
+        Handing::AtStart,
+    )
 }
 
 /// Adds what stores the arguments of a resumption.
@@ -266,7 +283,12 @@ fn add_all_but_once(
     around: &Around<'_>,
     site: &Site<'_>,
 ) -> Result<(), NoMemory> {
-    add_handed(code, around.body, site.plan.args.as_slice(), false)
+    add_handed(
+        code,
+        around.body,
+        site.plan.args.as_slice(),
+        Handing::AtResumption,
+    )
 }
 
 /// Adds what puts the number of the receiver's class into `ADDRESS`, where it stays over the call.

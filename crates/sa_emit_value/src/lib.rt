@@ -16,7 +16,7 @@ mod objects;
 mod values;
 
 pub use area::{
-    ARGUMENTS, add_answers, add_arguments, add_copies_back, add_formals, add_handed,
+    ARGUMENTS, Handing, add_answers, add_arguments, add_copies_back, add_formals, add_handed,
     add_once_formals, add_prologue, add_self,
 };
 pub use around::{
