@@ -1,19 +1,17 @@
 //! The code of a head: of its block, and of the blocks behind it up to jumps to heads and to exits that leave the body.
 
 use crate::heads::DEEPEST;
-use crate::sums::sum;
 use sa_emit_step::{add_leaving, add_step};
-use sa_emit_value::{Around, NOT_A_HEAD, add_jump, held, local_of};
+use sa_emit_value::{Around, NOT_A_HEAD, Nesting, add_jump, held};
 use sa_flat::{FlatExit, FlatStep};
 use sqlite_items::Items;
 use std::alloc::Global;
 use wa_syntax::{Instr, NoMemory, opcode};
 
 /// A place in the code of a head.
-#[derive(Clone, Copy, Debug)]
-pub(crate) struct Spot {
-    /// The label of the dispatch's loop.
-    inside: u32,
+#[derive(Clone, Copy)]
+struct Spot<'a> {
+    around: Around<'a>,
     /// The loop around the code of this head alone, where there is one.
     own: Option<OwnLoop>,
 }
@@ -23,23 +21,60 @@ pub(crate) struct Spot {
 struct OwnLoop {
     /// The block of the head.
     block: u32,
-    label: u32,
+    /// How deep the place stands in the loop.
+    nesting: Nesting,
+}
+
+impl<'a> Spot<'a> {
+    /// The place one block of code further in.
+    fn further_in(&self) -> Result<Spot<'a>, NoMemory> {
+        Ok(Spot {
+            around: self.around.further_in()?,
+            own: own_further_in(self.own)?,
+        })
+    }
+
+    /// The label of the loop around the code of a head alone, at a place in that code.
+    fn label_of(&self, head: u32) -> Option<u32> {
+        let own = self.own?;
+        if own.block == head {
+            return Some(own.nesting.label());
+        }
+        None
+    }
+
+    /// Whether a block is a head.
+    fn is_head(&self, block: u32) -> Result<bool, NoMemory> {
+        Ok(*held(self.around.heads.get(block as usize))? != NOT_A_HEAD)
+    }
+}
+
+fn own_further_in(own: Option<OwnLoop>) -> Result<Option<OwnLoop>, NoMemory> {
+    match own {
+        Some(OwnLoop { block, nesting }) => {
+            let nesting = nesting.further_in(1)?;
+            Ok(Some(OwnLoop { block, nesting }))
+        }
+        None => Ok(None),
+    }
 }
 
 /// Adds the code of a head whose code jumps to it: in a loop of its own, so that these jumps need no dispatch.
 pub(crate) fn add_repeating(
     alloc: Global,
     code: &mut Items<Instr>,
-    around: &Around<'_>,
+    around: Around<'_>,
     block: u32,
-    inside: u32,
 ) -> Result<(), NoMemory> {
-    let mut body = Items::new(alloc);
     let spot = Spot {
-        inside: sum(inside, 1)?,
-        own: Some(OwnLoop { block, label: 0 }),
+        around: around.further_in()?,
+        own: Some(OwnLoop {
+            block,
+            nesting: Nesting::outermost(),
+        }),
     };
-    add_chain(alloc, &mut body, around, block, spot, DEEPEST)?;
+    let mut body = Items::new(alloc);
+    add_chain(alloc, &mut body, spot, block, DEEPEST)?;
     code.push(Instr::Loop(None, body))?;
     Ok(())
 }
@@ -48,12 +83,11 @@ pub(crate) fn add_repeating(
 pub(crate) fn add_head(
     alloc: Global,
     code: &mut Items<Instr>,
-    around: &Around<'_>,
+    around: Around<'_>,
     block: u32,
-    inside: u32,
 ) -> Result<(), NoMemory> {
-    let spot = Spot { inside, own: None };
-    add_chain(alloc, code, around, block, spot, DEEPEST)
+    let spot = Spot { around, own: None };
+    add_chain(alloc, code, spot, block, DEEPEST)
 }
 
 /// What stands behind the code of a block.
@@ -71,18 +105,17 @@ enum Behind {
 fn add_chain(
     alloc: Global,
     code: &mut Items<Instr>,
-    around: &Around<'_>,
+    spot: Spot<'_>,
     first: u32,
-    spot: Spot,
     depth: u32,
 ) -> Result<(), NoMemory> {
     let mut next = first;
-    for _ in 0..around.body.blocks.len() {
-        match add_block(alloc, code, around, next, spot)? {
+    for _ in 0..spot.around.body.blocks.len() {
+        match add_block(alloc, code, spot, next)? {
             Behind::Nothing => return Ok(()),
             Behind::Block(block) => next = block,
             Behind::Sides { yes, no } => {
-                add_side(alloc, code, around, yes, spot, depth)?;
+                add_side(alloc, code, spot, yes, depth)?;
                 next = no;
             }
         }
@@ -95,16 +128,16 @@ fn add_chain(
 fn add_side(
     alloc: Global,
     code: &mut Items<Instr>,
-    around: &Around<'_>,
+    spot: Spot<'_>,
     yes: u32,
-    spot: Spot,
     depth: u32,
 ) -> Result<(), NoMemory> {
     if depth == 0 {
         return Err(too_deep());
     }
+    let inner = spot.further_in()?;
     let mut side = Items::new(alloc);
-    add_chain(alloc, &mut side, around, yes, further_in(spot)?, depth - 1)?;
+    add_chain(alloc, &mut side, inner, yes, depth - 1)?;
     code.push(Instr::If(None, side, Items::new(alloc)))?;
     Ok(())
 }
@@ -124,28 +157,20 @@ fn too_deep() -> NoMemory {
 fn add_block(
     alloc: Global,
     code: &mut Items<Instr>,
-    around: &Around<'_>,
+    spot: Spot<'_>,
     number: u32,
-    spot: Spot,
 ) -> Result<Behind, NoMemory> {
-    let block = held(around.body.blocks.get(number as usize))?;
-    let turn = first_turn(around, number)?;
-    add_steps(
-        alloc,
-        code,
-        around,
-        block.steps.as_slice(),
-        turn,
-        spot.inside,
-    )?;
+    let block = held(spot.around.body.blocks.get(number as usize))?;
+    let turn = first_turn(spot, number)?;
+    add_steps(alloc, code, &spot.around, block.steps.as_slice(), turn)?;
     match &block.exit {
-        FlatExit::Jump(to) => add_going_on(code, around, *to, spot),
+        FlatExit::Jump(to) => add_going_on(code, spot, *to),
         FlatExit::Branch { test, yes, no } => {
-            add_test(code, around, *test)?;
-            add_branch(alloc, code, around, *yes, *no, spot)
+            add_test(code, &spot.around, *test)?;
+            add_branch(alloc, code, spot, *yes, *no)
         }
         exit => {
-            add_leaving(code, around, exit, spot.inside)?;
+            add_leaving(code, &spot.around, exit)?;
             Ok(Behind::Nothing)
         }
     }
@@ -160,6 +185,15 @@ enum Turn {
     Nop,
 }
 
+/// What instruction a turn has that a block begins with: the jump where each way into the block is one, which holds of the heads
+/// but for the one that the body begins with.
+fn first_turn(spot: Spot<'_>, block: u32) -> Result<Turn, NoMemory> {
+    if block > 0 && spot.is_head(block)? {
+        return Ok(Turn::Jump);
+    }
+    Ok(Turn::Nop)
+}
+
 /// Adds the code of the steps of a block. `turn` is what instruction a turn has that is the first of them; each other one has a
 /// `nop`.
 fn add_steps(
@@ -168,14 +202,13 @@ fn add_steps(
     around: &Around<'_>,
     steps: &[FlatStep],
     mut turn: Turn,
-    inside: u32,
 ) -> Result<(), NoMemory> {
     for step in steps {
         if is_turn(step) && turn == Turn::Nop {
             code.push(Instr::Plain(opcode::NOP))?;
         }
         turn = Turn::Nop;
-        add_step(alloc, code, around, step, inside)?;
+        add_step(alloc, code, around, step)?;
     }
     Ok(())
 }
@@ -185,26 +218,12 @@ fn is_turn(step: &FlatStep) -> bool {
     matches!(step, FlatStep::Turn)
 }
 
-/// What instruction a turn has that a block begins with: the jump where each way into the block is one, which holds of the heads
-/// but for the one that the body begins with.
-fn first_turn(around: &Around<'_>, block: u32) -> Result<Turn, NoMemory> {
-    if block > 0 && is_head(around, block)? {
-        return Ok(Turn::Jump);
-    }
-    Ok(Turn::Nop)
-}
-
 /// Adds a jump to a block that is a head. The code of another one stands here.
-fn add_going_on(
-    code: &mut Items<Instr>,
-    around: &Around<'_>,
-    block: u32,
-    spot: Spot,
-) -> Result<Behind, NoMemory> {
-    if !is_head(around, block)? {
+fn add_going_on(code: &mut Items<Instr>, spot: Spot<'_>, block: u32) -> Result<Behind, NoMemory> {
+    if !spot.is_head(block)? {
         return Ok(Behind::Block(block));
     }
-    add_jump_to(code, around, block, spot)?;
+    add_jump_to(code, spot, block)?;
     Ok(Behind::Nothing)
 }
 
@@ -212,18 +231,17 @@ fn add_going_on(
 fn add_branch(
     alloc: Global,
     code: &mut Items<Instr>,
-    around: &Around<'_>,
+    spot: Spot<'_>,
     yes: u32,
     no: u32,
-    spot: Spot,
 ) -> Result<Behind, NoMemory> {
-    if is_head(around, yes)? {
-        add_jump_where(alloc, code, around, yes, spot)?;
-        return add_going_on(code, around, no, spot);
+    if spot.is_head(yes)? {
+        add_jump_where(alloc, code, spot, yes)?;
+        return add_going_on(code, spot, no);
     }
-    if is_head(around, no)? {
+    if spot.is_head(no)? {
         code.push(Instr::Plain(opcode::I32_EQZ))?;
-        add_jump_where(alloc, code, around, no, spot)?;
+        add_jump_where(alloc, code, spot, no)?;
         return Ok(Behind::Block(yes));
     }
     Ok(Behind::Sides { yes, no })
@@ -231,7 +249,7 @@ fn add_branch(
 
 /// Adds the value of a variable as an operand of a test.
 fn add_test(code: &mut Items<Instr>, around: &Around<'_>, test: u32) -> Result<(), NoMemory> {
-    code.push(Instr::LocalGet(local_of(around.body, test)))?;
+    code.push(Instr::LocalGet(around.local(test)))?;
     code.push(Instr::Plain(opcode::I32_WRAP_I64))?;
     Ok(())
 }
@@ -240,59 +258,23 @@ fn add_test(code: &mut Items<Instr>, around: &Around<'_>, test: u32) -> Result<(
 fn add_jump_where(
     alloc: Global,
     code: &mut Items<Instr>,
-    around: &Around<'_>,
+    spot: Spot<'_>,
     head: u32,
-    spot: Spot,
 ) -> Result<(), NoMemory> {
-    if let Some(label) = label_of(spot, head) {
+    if let Some(label) = spot.label_of(head) {
         return Ok(code.push(Instr::BrIf(label))?);
     }
+    let inner = spot.around.further_in()?;
     let mut jump = Items::new(alloc);
-    add_jump(&mut jump, around, head, sum(spot.inside, 1)?)?;
+    add_jump(&mut jump, &inner, head)?;
     code.push(Instr::If(None, jump, Items::new(alloc)))?;
     Ok(())
 }
 
 /// Adds a jump to a head: back to its own loop, or to the dispatch.
-fn add_jump_to(
-    code: &mut Items<Instr>,
-    around: &Around<'_>,
-    head: u32,
-    spot: Spot,
-) -> Result<(), NoMemory> {
-    match label_of(spot, head) {
+fn add_jump_to(code: &mut Items<Instr>, spot: Spot<'_>, head: u32) -> Result<(), NoMemory> {
+    match spot.label_of(head) {
         Some(label) => Ok(code.push(Instr::Br(label))?),
-        None => add_jump(code, around, head, spot.inside),
+        None => add_jump(code, &spot.around, head),
     }
-}
-
-/// The label of the loop around the code of a head alone, at a place in that code.
-fn label_of(spot: Spot, head: u32) -> Option<u32> {
-    let own = spot.own?;
-    if own.block == head {
-        return Some(own.label);
-    }
-    None
-}
-
-/// The place one branch further in.
-fn further_in(spot: Spot) -> Result<Spot, NoMemory> {
-    Ok(Spot {
-        inside: sum(spot.inside, 1)?,
-        own: own_further_in(spot.own)?,
-    })
-}
-
-fn own_further_in(own: Option<OwnLoop>) -> Result<Option<OwnLoop>, NoMemory> {
-    match own {
-        Some(OwnLoop { block, label }) => {
-            let label = sum(label, 1)?;
-            Ok(Some(OwnLoop { block, label }))
-        }
-        None => Ok(None),
-    }
-}
-
-fn is_head(around: &Around<'_>, block: u32) -> Result<bool, NoMemory> {
-    Ok(*held(around.heads.get(block as usize))? != NOT_A_HEAD)
 }

@@ -14,14 +14,26 @@ const FAN_OUT: u32 = 8;
 /// How many bits of a head's number a choice looks at.
 const BITS: u32 = 3;
 
-/// The body whose heads are placed.
+/// The body whose heads are placed, and what is around a place of it.
 #[derive(Clone, Copy)]
 pub(crate) struct Dispatch<'a> {
-    pub around: &'a Around<'a>,
+    pub around: Around<'a>,
     /// The block of each head.
     pub heads: &'a [u32],
     /// For each head whether its own code jumps to it.
     pub repeats: &'a [bool],
+}
+
+impl<'a> Dispatch<'a> {
+    /// So many blocks further in.
+    fn further_in(&self, blocks: u32) -> Result<Dispatch<'a>, NoMemory> {
+        let nesting = self.around.nesting.further_in(blocks)?;
+        let around = Around {
+            nesting,
+            ..self.around
+        };
+        Ok(Dispatch { around, ..*self })
+    }
 }
 
 /// Adds the code of a body whose heads are jumped to: a loop around the choice between them.
@@ -37,7 +49,6 @@ pub(crate) fn add_loop(
         dispatch,
         0,
         level_of(dispatch.heads.len()),
-        0,
     )?;
     code.push(Instr::Loop(None, body))?;
     code.push(Instr::Plain(opcode::UNREACHABLE))?;
@@ -52,7 +63,7 @@ fn level_of(heads: usize) -> u32 {
     }
 }
 
-/// Adds the code of the heads from `first` on that a choice of this level is between. `inside` is the label of the loop there.
+/// Adds the code of the heads from `first` on that a choice of this level is between.
 #[cycle(choice)]
 fn add_heads(
     alloc: Global,
@@ -60,30 +71,23 @@ fn add_heads(
     dispatch: &Dispatch<'_>,
     first: u32,
     level: u32,
-    inside: u32,
 ) -> Result<(), NoMemory> {
     let last = last_part(dispatch.heads.len(), first, level)?;
     if last == 0 {
-        return add_part(alloc, code, dispatch, first, level, inside);
+        return add_part(alloc, code, dispatch, first, level);
     }
     let mut before = choosing(alloc, last, level, level_of(dispatch.heads.len()))?;
     for part in 0..last {
+        let inner = dispatch.further_in(last - part)?;
+        let head = first_of(first, part, level)?;
         let mut behind = Items::new(alloc);
         behind.push(Instr::Block(None, before))?;
-        let label = sum(inside, last - part)?;
-        let head = first_of(first, part, level)?;
-        add_part(alloc, &mut behind, dispatch, head, level, label)?;
+        add_part(alloc, &mut behind, &inner, head, level)?;
         before = behind;
     }
     code.push(Instr::Block(None, before))?;
-    add_part(
-        alloc,
-        code,
-        dispatch,
-        first_of(first, last, level)?,
-        level,
-        inside,
-    )
+    let head = first_of(first, last, level)?;
+    add_part(alloc, code, dispatch, head, level)
 }
 
 /// Adds the code of the part of a choice that begins with this head.
@@ -94,12 +98,11 @@ fn add_part(
     dispatch: &Dispatch<'_>,
     head: u32,
     level: u32,
-    inside: u32,
 ) -> Result<(), NoMemory> {
     if level == 0 {
-        return add_one(alloc, code, dispatch, head, inside);
+        return add_one(alloc, code, dispatch, head);
     }
-    add_heads(alloc, code, dispatch, head, level - 1, inside)
+    add_heads(alloc, code, dispatch, head, level - 1)
 }
 
 /// Adds the code of a head.
@@ -108,13 +111,12 @@ fn add_one(
     code: &mut Items<Instr>,
     dispatch: &Dispatch<'_>,
     head: u32,
-    inside: u32,
 ) -> Result<(), NoMemory> {
     let block = *held(dispatch.heads.get(head as usize))?;
     if *held(dispatch.repeats.get(head as usize))? {
-        return add_repeating(alloc, code, dispatch.around, block, inside);
+        return add_repeating(alloc, code, dispatch.around, block);
     }
-    add_head(alloc, code, dispatch.around, block, inside)
+    add_head(alloc, code, dispatch.around, block)
 }
 
 /// The number of the last part of the choice between the heads from `first` on.

@@ -5,42 +5,27 @@ use crate::dispatch::{Dispatch, add_loop};
 use crate::entrances::{Entrance, entrances};
 use crate::heads::{Heads, heads_of};
 use crate::pool::has_frames;
-use sa_dispatch::Rows;
 use sa_emit_step::{add_iter_prologue, add_suspension};
-use sa_emit_value::{Around, Below, Role, add_prologue, locals_of};
-use sa_flat::{FlatBody, FlatProgram};
+use sa_emit_value::{Around, Nesting, Program, Role, add_prologue, locals_of};
+use sa_flat::FlatBody;
 use sa_runtime::layout::BODY_TYPE;
 use sqlite_items::Items;
 use std::alloc::Global;
 use wa_syntax::{Func, Instr, NoMemory};
 
-/// What the bodies of a program have in common.
-#[derive(Clone, Copy)]
-pub(crate) struct Common<'a> {
-    pub flat: &'a FlatProgram,
-    pub rows: &'a Rows,
-    /// The address of each text.
-    pub texts: &'a [u32],
-    pub below: &'a Below,
-    /// The address of each bind.
-    pub entries: &'a [u32],
-    /// For each body its place in the table behind those of the implementations, or `NOT_PLACED`.
-    pub places: &'a [u32],
-}
-
 /// The function of each body, in order.
 pub(crate) fn add_bodies(
     alloc: Global,
     funcs: &mut Items<Func>,
-    common: &Common<'_>,
+    program: Program<'_>,
 ) -> Result<(), NoMemory> {
-    let Some((last, others)) = common.flat.bodies.as_slice().split_last() else {
+    let Some((last, others)) = program.flat.bodies.as_slice().split_last() else {
         return Ok(());
     };
     for body in others {
-        funcs.push(function(alloc, common, body, role_of(body))?)?;
+        funcs.push(function(alloc, program, body, role_of(body))?)?;
     }
-    funcs.push(function(alloc, common, last, Role::Last)?)?;
+    funcs.push(function(alloc, program, last, Role::Last)?)?;
     Ok(())
 }
 
@@ -55,22 +40,18 @@ fn role_of(body: &FlatBody) -> Role {
 /// The function of a body.
 fn function(
     alloc: Global,
-    common: &Common<'_>,
+    program: Program<'_>,
     body: &FlatBody,
     role: Role,
 ) -> Result<Func, NoMemory> {
     let entrances = entrances(alloc, body)?;
     let heads = heads_of(alloc, body, entrances.as_slice())?;
     let around = Around {
-        flat: common.flat,
-        rows: common.rows,
+        program,
         body,
         role,
-        texts: common.texts,
-        below: common.below,
         heads: heads.numbers.as_slice(),
-        entries: common.entries,
-        places: common.places,
+        nesting: Nesting::outermost(),
     };
     let code = if has_frames(body) {
         resumed(alloc, &around, &heads)?
@@ -106,7 +87,7 @@ fn run_once(
     let mut code = Items::new(alloc);
     add_prologue(&mut code, around.body)?;
     if is_chain(entrances, heads.blocks.as_slice()) {
-        add_head(alloc, &mut code, around, 0, 0)?;
+        add_head(alloc, &mut code, *around, 0)?;
     } else {
         add_dispatched(alloc, &mut code, around, heads)?;
     }
@@ -121,7 +102,7 @@ fn add_dispatched(
     heads: &Heads,
 ) -> Result<(), NoMemory> {
     let dispatch = Dispatch {
-        around,
+        around: *around,
         heads: heads.blocks.as_slice(),
         repeats: heads.repeats.as_slice(),
     };

@@ -1,12 +1,11 @@
 //! A flat program as a module, with what its reader has to know of it.
 
-use crate::function::Common;
 use crate::memory::memory_of;
 use crate::module::module;
 use crate::places::places_of;
 use crate::pool::{slot_bytes, slot_words};
 use sa_dispatch::Rows;
-use sa_emit_value::Below;
+use sa_emit_value::{Below, Program};
 use sa_flat::FlatProgram;
 use sa_tree::Pos;
 use sqlite_items::Items;
@@ -37,7 +36,7 @@ pub fn emit(
     let memory = memory_of(alloc, flat, slot_bytes(slot_words)?, room)?;
     let below = Below::of(alloc, flat)?;
     let places = places_of(alloc, flat, rows)?;
-    let common = Common {
+    let program = Program {
         flat,
         rows,
         texts: memory.texts.as_slice(),
@@ -46,7 +45,7 @@ pub fn emit(
         places: places.of.as_slice(),
     };
     Ok(Emitted {
-        module: module(alloc, &common, &memory, &places, room)?,
+        module: module(alloc, program, &memory, &places, room)?,
         sites: Items::from_slice(alloc, flat.sites.as_slice())?,
     })
 }

@@ -3,11 +3,11 @@
 //! The implementations of a signature are bodies of features, or each is a body that was made for it alone: that one is no
 //! activation, so no depth is tested before it, and it hands its faults on.
 
-use crate::calls::{add_as_deep, add_deeper, add_depth_test, add_indirect_call, function_of};
+use crate::calls::{add_as_deep, add_deeper, add_depth_test, add_indirect_call};
 use sa_dispatch::Span;
 use sa_emit_value::{
     ADDRESS, Around, STATUS, add_answers, add_arguments, add_fail_if, add_if, add_raise,
-    add_type_of, add_void_test, deeper, held,
+    add_type_of, add_void_test, function_of, held,
 };
 use sa_flat::{CallPlan, Fail};
 use sa_runtime::layout::{FAULT_KIND, HANDED_ON};
@@ -50,10 +50,9 @@ pub(crate) fn add_dispatch(
     around: &Around<'_>,
     plan: &CallPlan,
     sig: u32,
-    inside: u32,
 ) -> Result<(), NoMemory> {
-    add_void_test(alloc, code, around, plan.recv, &plan.fail, inside)?;
-    if around.rows.types(sig).is_empty() {
+    add_void_test(alloc, code, around, plan.recv, &plan.fail)?;
+    if around.program.rows.types(sig).is_empty() {
         return add_line(code, &[Op::Do(UNREACHABLE)]);
     }
     let choice = Choice {
@@ -62,16 +61,16 @@ pub(crate) fn add_dispatch(
         implementations: implementations_of(around, sig)?,
     };
     match choice.implementations {
-        Implementations::Features => add_of_feature(alloc, code, around, plan, choice, inside),
-        Implementations::Made => add_of_made(alloc, code, around, plan, choice, inside),
+        Implementations::Features => add_of_feature(alloc, code, around, plan, choice),
+        Implementations::Made => add_of_made(alloc, code, around, plan, choice),
     }
 }
 
 /// What the implementations of a signature are: the first one tells.
 pub fn implementations_of(around: &Around<'_>, sig: u32) -> Result<Implementations, NoMemory> {
-    let first = held(around.rows.first(sig))?;
-    let target = held(around.flat.targets.get(first as usize).copied())?;
-    let body = held(around.flat.bodies.get(target as usize))?;
+    let first = held(around.program.rows.first(sig))?;
+    let target = held(around.program.flat.targets.get(first as usize).copied())?;
+    let body = held(around.program.flat.bodies.get(target as usize))?;
     match body.feature {
         Some(_) => Ok(Implementations::Features),
         None => Ok(Implementations::Made),
@@ -85,13 +84,13 @@ fn add_of_feature(
     around: &Around<'_>,
     plan: &CallPlan,
     choice: Choice,
-    inside: u32,
 ) -> Result<(), NoMemory> {
-    add_depth_test(alloc, code, around, &plan.fail, inside)?;
+    add_depth_test(alloc, code, around, &plan.fail)?;
     add_arguments(code, around.body, plan)?;
     add_chosen(alloc, code, around, choice, Op::I32(0))?;
+    let inner = around.further_in()?;
     let mut raised = Items::new(alloc);
-    add_raise(&mut raised, around, &plan.fail.raised, deeper(inside)?)?;
+    add_raise(&mut raised, &inner, &plan.fail.raised)?;
     add_if(alloc, code, raised)?;
     add_answers(code, around.body, plan.value, plan.args.as_slice())
 }
@@ -103,13 +102,13 @@ fn add_of_made(
     around: &Around<'_>,
     plan: &CallPlan,
     choice: Choice,
-    inside: u32,
 ) -> Result<(), NoMemory> {
     add_arguments(code, around.body, plan)?;
     add_chosen(alloc, code, around, choice, Op::I32(0))?;
     add_line(code, &[Op::Tee(STATUS)])?;
+    let inner = around.further_in()?;
     let mut unreturned = Items::new(alloc);
-    add_unreturned(alloc, &mut unreturned, around, &plan.fail, deeper(inside)?)?;
+    add_unreturned(alloc, &mut unreturned, &inner, &plan.fail)?;
     add_if(alloc, code, unreturned)?;
     add_answers(code, around.body, plan.value, plan.args.as_slice())
 }
@@ -120,10 +119,9 @@ pub(crate) fn add_unreturned(
     code: &mut Items<Instr>,
     around: &Around<'_>,
     fail: &Fail,
-    inside: u32,
 ) -> Result<(), NoMemory> {
-    add_handed_on_fault(alloc, code, around, fail, inside)?;
-    add_raise(code, around, &fail.raised, inside)
+    add_handed_on_fault(alloc, code, around, fail)?;
+    add_raise(code, around, &fail.raised)
 }
 
 /// Adds the fault that a body hands on, where the status in the local says so.
@@ -132,11 +130,10 @@ pub fn add_handed_on_fault(
     code: &mut Items<Instr>,
     around: &Around<'_>,
     fail: &Fail,
-    inside: u32,
 ) -> Result<(), NoMemory> {
     let line = [Op::Get(STATUS), Op::I32(HANDED_ON), Op::Do(I32_EQ)];
     add_line(code, &line)?;
-    add_fail_if(alloc, code, around, Op::GetGlobal(FAULT_KIND), fail, inside)
+    add_fail_if(alloc, code, around, Op::GetGlobal(FAULT_KIND), fail)
 }
 
 /// Adds the call of the implementation that is chosen, which leaves its status as an operand. `frame` reads the frame that it is
@@ -148,7 +145,7 @@ pub fn add_chosen(
     choice: Choice,
     frame: Op,
 ) -> Result<(), NoMemory> {
-    match around.rows.span(choice.sig) {
+    match around.program.rows.span(choice.sig) {
         Some(span) => add_by_table(code, around, choice, &span, frame),
         None => add_by_tests(alloc, code, around, choice, frame),
     }
@@ -179,7 +176,7 @@ fn add_by_tests(
 ) -> Result<(), NoMemory> {
     add_class_in_address(code, around, choice.class)?;
     let mut tests = Items::new(alloc);
-    for ty in around.rows.types(choice.sig) {
+    for ty in around.program.rows.types(choice.sig) {
         add_test(alloc, &mut tests, around, choice, *ty, frame)?;
     }
     add_line(&mut tests, &[Op::Do(UNREACHABLE)])?;
@@ -196,7 +193,7 @@ fn add_test(
     ty: u32,
     frame: Op,
 ) -> Result<(), NoMemory> {
-    let func = function_of(target_of(around, choice.sig, ty)?)?;
+    let func = function_of(chosen_body(around, choice.sig, ty)?)?;
     let mut call = Items::new(alloc);
     add_depth_and_frame(&mut call, choice.implementations, frame)?;
     add_line(&mut call, &[Op::Call(func), Op::Br(1)])?;
@@ -205,9 +202,9 @@ fn add_test(
 }
 
 /// The body that does a signature's implementation for a class.
-pub(crate) fn target_of(around: &Around<'_>, sig: u32, ty: u32) -> Result<u32, NoMemory> {
-    let row = held(around.rows.row(sig, ty))?;
-    held(around.flat.targets.get(row as usize).copied())
+pub(crate) fn chosen_body(around: &Around<'_>, sig: u32, ty: u32) -> Result<u32, NoMemory> {
+    let row = held(around.program.rows.row(sig, ty))?;
+    held(around.program.flat.targets.get(row as usize).copied())
 }
 
 /// Adds the number of the class, as an operand.

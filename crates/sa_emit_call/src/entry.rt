@@ -102,7 +102,7 @@ fn of_kind(kind: u32, number: u32) -> Called {
 
 /// The body of a feature, by its place in the table.
 fn body_called(around: &Around<'_>, body: u32) -> Result<Called, NoMemory> {
-    let place = held(around.places.get(body as usize).copied())?;
+    let place = held(around.program.places.get(body as usize).copied())?;
     if place == NOT_PLACED {
         return held(None);
     }
@@ -117,13 +117,13 @@ fn body_called(around: &Around<'_>, body: u32) -> Result<Called, NoMemory> {
 /// The form of what the receiver's class chooses. The implementations of a signature are alike in it, so the first one tells.
 /// Where there is none, no value is made.
 fn chosen_kind(around: &Around<'_>, sig: u32) -> Result<u32, NoMemory> {
-    let Some(first) = around.rows.first(sig) else {
+    let Some(first) = around.program.rows.first(sig) else {
         return Ok(CHOSEN_ROUTINE);
     };
     if implementations_of(around, sig)? == Implementations::Made {
         return Ok(CHOSEN_MADE);
     }
-    let target = held(around.flat.targets.get(first as usize).copied())?;
+    let target = held(around.program.flat.targets.get(first as usize).copied())?;
     if is_iter(around, target)? {
         return Ok(CHOSEN_ITER);
     }
@@ -131,7 +131,7 @@ fn chosen_kind(around: &Around<'_>, sig: u32) -> Result<u32, NoMemory> {
 }
 
 fn is_iter(around: &Around<'_>, body: u32) -> Result<bool, NoMemory> {
-    Ok(held(around.flat.bodies.get(body as usize))?.iter)
+    Ok(held(around.program.flat.bodies.get(body as usize))?.iter)
 }
 
 /// One form for objects, and another for immutable values.

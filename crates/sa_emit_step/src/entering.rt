@@ -3,9 +3,10 @@
 
 use crate::frames::{add_frame_self, add_is_frame};
 use crate::outcome::{Instance, add_is_raised, add_is_suspended, add_quit};
-use sa_emit_call::{add_deeper, add_too_deep, function_of};
+use sa_emit_call::{add_deeper, add_too_deep};
 use sa_emit_value::{
     Around, FRAME, Handing, add_answers, add_handed, add_handed_on, add_if, add_if_else,
+    function_of,
 };
 use sa_flat::FlatArg;
 use sa_runtime::fault_numbers::{TOO_DEEP, TOO_MANY_FRAMES};
@@ -25,26 +26,35 @@ pub(crate) fn add_has_frame(
     add_is_frame(code, around, to, FRAME)
 }
 
+/// The step that takes the frame of the instance at a start, and runs the iter's body on it.
+#[derive(Clone, Copy)]
+pub(crate) struct Entering<'a> {
+    pub body: u32,
+    /// The variable with the instance's own object.
+    pub recv: u32,
+    pub args: &'a [FlatArg],
+    /// The variable that gets what is yielded.
+    pub value: Option<u32>,
+    /// The variable that tells afterwards whether the instance has ended.
+    pub quit: u32,
+}
+
 /// Takes the frame of the instance at a start, and runs the iter's body on it.
 pub(crate) fn add_enter(
     alloc: Global,
     code: &mut Items<Instr>,
     around: &Around<'_>,
-    body: u32,
-    recv: u32,
-    args: &[FlatArg],
-    value: Option<u32>,
-    quit: u32,
+    entering: &Entering<'_>,
 ) -> Result<(), NoMemory> {
-    let func = function_of(body)?;
+    let func = function_of(entering.body)?;
     add_too_deep(code)?;
     add_handed_on_if(alloc, code, TOO_DEEP)?;
-    add_frame(alloc, code, around, recv)?;
-    add_handed(code, around.body, args, Handing::AtStart)?;
+    add_frame(alloc, code, around, entering.recv)?;
+    add_handed(code, around.body, entering.args, Handing::AtStart)?;
     add_deeper(code, Op::Get(FRAME))?;
     add_line(code, &[Op::Call(func)])?;
-    let suspended = suspended(alloc, around, args, value, quit)?;
-    let ended = ended(alloc, around, quit)?;
+    let suspended = suspended(alloc, around, entering)?;
+    let ended = ended(alloc, around, entering.quit)?;
     add_is_suspended(code)?;
     add_if_else(code, suspended, ended)
 }
@@ -76,14 +86,12 @@ fn add_frame(
 fn suspended(
     alloc: Global,
     around: &Around<'_>,
-    args: &[FlatArg],
-    value: Option<u32>,
-    quit: u32,
+    entering: &Entering<'_>,
 ) -> Result<Items<Instr>, NoMemory> {
     let mut code = Items::new(alloc);
     add_line(&mut code, &[Op::Get(FRAME), Op::SetGlobal(FRAME_OUT)])?;
-    add_answers(&mut code, around.body, value, args)?;
-    add_quit(&mut code, around, quit, Instance::Suspended)?;
+    add_answers(&mut code, around.body, entering.value, entering.args)?;
+    add_quit(&mut code, around, entering.quit, Instance::Suspended)?;
     Ok(code)
 }
 

@@ -70,13 +70,12 @@ pub(crate) fn add_new_frame(
     code: &mut Items<Instr>,
     around: &Around<'_>,
     site: &Site<'_>,
-    inside: u32,
 ) -> Result<(), NoMemory> {
     let fail = &site.plan.fail;
-    add_depth_test(alloc, code, around, fail, inside)?;
+    add_depth_test(alloc, code, around, fail)?;
     let line = [Op::Call(NEW_FRAME), Op::Tee(site.frame), Op::Do(I32_EQZ)];
     add_line(code, &line)?;
-    add_fail_if(alloc, code, around, Op::I32(TOO_MANY_FRAMES), fail, inside)?;
+    add_fail_if(alloc, code, around, Op::I32(TOO_MANY_FRAMES), fail)?;
     add_frame_self(code, around, site.frame, site.plan.recv)
 }
 

@@ -4,7 +4,7 @@
 //! calls. The local of the site is cleared before a raise goes on, so that what ends the instances of the loop finds none there.
 
 use sa_emit_call::add_handed_on_fault;
-use sa_emit_value::{ADDRESS, Around, STATUS, add_answers, add_if, add_if_else, add_raise, deeper};
+use sa_emit_value::{ADDRESS, Around, STATUS, add_answers, add_if, add_if_else, add_raise};
 use sa_flat::{CallPlan, Raised};
 use sa_runtime::layout::{CALLED_AT, END_FRAME, FRAME_OUT, RAISED, SITE_AT, SUSPENDED};
 use sa_runtime::line::{Op, add_line};
@@ -61,12 +61,11 @@ pub(crate) fn add_started(
     around: &Around<'_>,
     site: &Site<'_>,
     called: Called,
-    inside: u32,
 ) -> Result<(), NoMemory> {
     let mut suspended = Items::new(alloc);
     add_begun(&mut suspended, around, site, called)?;
     add_yielded(&mut suspended, around, site)?;
-    add_outcome(alloc, code, around, site, called, suspended, inside)
+    add_outcome(alloc, code, around, site, called, suspended)
 }
 
 /// Adds what follows a resumption, whose status is the operand.
@@ -76,11 +75,10 @@ pub(crate) fn add_resumed(
     around: &Around<'_>,
     site: &Site<'_>,
     called: Called,
-    inside: u32,
 ) -> Result<(), NoMemory> {
     let mut suspended = Items::new(alloc);
     add_yielded(&mut suspended, around, site)?;
-    add_outcome(alloc, code, around, site, called, suspended, inside)
+    add_outcome(alloc, code, around, site, called, suspended)
 }
 
 /// Adds the choice by the status that is the operand: what is done where the instance is suspended, and else its end.
@@ -91,10 +89,10 @@ fn add_outcome(
     site: &Site<'_>,
     called: Called,
     suspended: Items<Instr>,
-    inside: u32,
 ) -> Result<(), NoMemory> {
+    let inner = around.further_in()?;
     let mut ended = Items::new(alloc);
-    add_ended(alloc, &mut ended, around, site, called, deeper(inside)?)?;
+    add_ended(alloc, &mut ended, &inner, site, called)?;
     add_is_suspended(code)?;
     add_if_else(code, suspended, ended)
 }
@@ -173,7 +171,6 @@ fn add_ended(
     around: &Around<'_>,
     site: &Site<'_>,
     called: Called,
-    inside: u32,
 ) -> Result<(), NoMemory> {
     let fail = &site.plan.fail;
     if keeps_frame(called) {
@@ -181,9 +178,9 @@ fn add_ended(
     }
     add_line(code, &[Op::I32(0), Op::Set(site.frame)])?;
     if !keeps_frame(called) {
-        add_handed_on_fault(alloc, code, around, fail, inside)?;
+        add_handed_on_fault(alloc, code, around, fail)?;
     }
-    add_raised(alloc, code, around, &fail.raised, inside)?;
+    add_raised(alloc, code, around, &fail.raised)?;
     add_quit(code, around, site.quit, Instance::Ended)
 }
 
@@ -193,10 +190,10 @@ fn add_raised(
     code: &mut Items<Instr>,
     around: &Around<'_>,
     raised: &Raised,
-    inside: u32,
 ) -> Result<(), NoMemory> {
+    let inner = around.further_in()?;
     let mut raise = Items::new(alloc);
-    add_raise(&mut raise, around, raised, deeper(inside)?)?;
+    add_raise(&mut raise, &inner, raised)?;
     add_is_raised(code)?;
     add_if(alloc, code, raise)
 }

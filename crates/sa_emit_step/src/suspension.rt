@@ -5,7 +5,7 @@
 
 use sa_emit_value::{
     ADDRESS, Around, BLOCK, FRAME, ME, add_copies_back, add_formals, add_if, add_if_else,
-    add_once_formals, deeper, head_of, held, local_of, site_local,
+    add_once_formals, head_of, held, local_of, site_local,
 };
 use sa_flat::FlatBody;
 use sa_runtime::layout::{
@@ -187,17 +187,15 @@ fn kept_at(place: usize) -> Result<u32, NoMemory> {
 }
 
 /// A suspension with a value. A body that was made for an implementation alone, which has no block of its own to go on in,
-/// answers its caller at once. `inside` is the number of the label of the dispatch; the label that stands one further out leads
-/// to what all suspensions go to.
+/// answers its caller at once. The label around that of the dispatch leads to what all suspensions go to.
 pub(crate) fn add_suspend(
     code: &mut Items<Instr>,
     around: &Around<'_>,
     value: Option<u32>,
     resume: Option<u32>,
-    inside: u32,
 ) -> Result<(), NoMemory> {
     match resume {
-        Some(block) => add_own_suspend(code, around, value, block, inside),
+        Some(block) => add_own_suspend(code, around, value, block),
         None => add_made_suspend(code, around, value),
     }
 }
@@ -208,11 +206,14 @@ fn add_own_suspend(
     around: &Around<'_>,
     value: Option<u32>,
     resume: u32,
-    inside: u32,
 ) -> Result<(), NoMemory> {
     let head = head_of(around, resume)?;
     add_value(code, around, value)?;
-    let line = [Op::I32(head), Op::Set(BLOCK), Op::Br(deeper(inside)?)];
+    let line = [
+        Op::I32(head),
+        Op::Set(BLOCK),
+        Op::Br(around.nesting.label_around()?),
+    ];
     add_line(code, &line)
 }
 

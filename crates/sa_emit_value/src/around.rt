@@ -1,12 +1,15 @@
-//! What stands around a step: the program, the body, and the locals of the body's function.
+//! What stands around a step: the program, the body, how deep the step stands in the dispatch, and the locals of the body's
+//! function.
 //!
 //! A body's function takes the depth of its activation and its frame, and answers a status. Its other locals are three of 32
 //! bits, its own object, a word for values that are not kept, the variables of the body, and for each site of the body the
 //! frame of its instance.
 
 use crate::below::Below;
+use crate::nesting::Nesting;
 use sa_dispatch::Rows;
 use sa_flat::{FIRST_TEMPORARY, FlatBody, FlatProgram};
+use sa_runtime::layout::FIRST_BODY;
 use std::alloc::Global;
 use wa_syntax::{Locals, NoMemory, ValTy};
 
@@ -57,30 +60,44 @@ pub enum Role {
     Last,
 }
 
-/// What stands around a step.
+/// What is the same at each place of the program that is emitted: the flat program, and what was found out about it before the
+/// first instruction.
 #[derive(Clone, Copy)]
-pub struct Around<'a> {
-    /// The program that the step stands in.
+pub struct Program<'a> {
     pub flat: &'a FlatProgram,
     /// The implementations of its signatures.
     pub rows: &'a Rows,
-    /// The body that the step stands in.
-    pub body: &'a FlatBody,
-    /// What this body was made for.
-    pub role: Role,
     /// The address of each text.
     pub texts: &'a [u32],
     /// For each type the concrete types at or below it.
     pub below: &'a Below,
-    /// For each block of the body its number in the dispatch, or `NOT_A_HEAD`.
-    pub heads: &'a [u32],
     /// The address of each bind's entry.
     pub entries: &'a [u32],
-    /// For each body of the program its place in the table behind those of the rows, or `NOT_PLACED`.
+    /// For each body its place in the table behind those of the rows, or `NOT_PLACED`.
     pub places: &'a [u32],
 }
 
-impl Around<'_> {
+/// What stands around a step.
+#[derive(Clone, Copy)]
+pub struct Around<'a> {
+    pub program: Program<'a>,
+    /// The body that the step stands in.
+    pub body: &'a FlatBody,
+    /// What this body was made for.
+    pub role: Role,
+    /// For each block of the body its number in the dispatch, or `NOT_A_HEAD`.
+    pub heads: &'a [u32],
+    /// How deep the step stands inside the dispatch.
+    pub nesting: Nesting,
+}
+
+impl<'a> Around<'a> {
+    /// Around a place in a block of code that is opened here.
+    pub fn further_in(&self) -> Result<Around<'a>, NoMemory> {
+        let nesting = self.nesting.further_in(1)?;
+        Ok(Around { nesting, ..*self })
+    }
+
     /// The local with a variable of the body.
     pub fn local(&self, var: u32) -> u32 {
         local_of(self.body, var)
@@ -101,7 +118,7 @@ impl Around<'_> {
 
     /// The number of attributes of a type.
     pub fn attributes(&self, ty: u32) -> Result<u32, NoMemory> {
-        held(self.flat.types.get(ty as usize).copied())
+        held(self.program.flat.types.get(ty as usize).copied())
     }
 }
 
@@ -119,6 +136,11 @@ pub fn local_of(body: &FlatBody, var: u32) -> u32 {
 pub fn site_local(body: &FlatBody, site: u32) -> u32 {
     let behind = body.temporaries.max(FIRST_TEMPORARY);
     local_of(body, behind).saturating_add(site)
+}
+
+/// The function of a body, by the body's number. The answer is `NoMemory` where 32 bits don't hold it.
+pub fn function_of(body: u32) -> Result<u32, NoMemory> {
+    held(body.checked_add(FIRST_BODY))
 }
 
 /// The locals of the function of the body.

@@ -20,12 +20,11 @@ pub fn add_get(
     around: &Around<'_>,
     plan: &CallPlan,
     place: u32,
-    inside: u32,
 ) -> Result<(), NoMemory> {
     if is_immutable(around, plan.class)? {
         return add_get_of_value(alloc, code, around, plan, place);
     }
-    add_void_test(alloc, code, around, plan.recv, &plan.fail, inside)?;
+    add_void_test(alloc, code, around, plan.recv, &plan.fail)?;
     add_read(code, around, plan, place)?;
     add_line(code, &[Op::Set(around.receiving(plan.value))])
 }
@@ -69,13 +68,12 @@ pub fn add_set(
     around: &Around<'_>,
     plan: &CallPlan,
     place: u32,
-    inside: u32,
 ) -> Result<(), NoMemory> {
     if is_immutable(around, plan.class)? {
-        return add_set_of_value(alloc, code, around, plan, place, inside);
+        return add_set_of_value(alloc, code, around, plan, place);
     }
     let value = argument(around, plan, 0)?;
-    add_void_test(alloc, code, around, plan.recv, &plan.fail, inside)?;
+    add_void_test(alloc, code, around, plan.recv, &plan.fail)?;
     let line = [
         Op::Get(around.local(plan.recv)),
         Op::Do(I32_WRAP_I64),
@@ -92,7 +90,6 @@ fn add_set_of_value(
     around: &Around<'_>,
     plan: &CallPlan,
     place: u32,
-    inside: u32,
 ) -> Result<(), NoMemory> {
     let attributes = around.attributes(plan.class)?;
     let value = argument(around, plan, 0)?;
@@ -106,7 +103,7 @@ fn add_set_of_value(
         Op::Tee(STATUS),
     ];
     add_line(code, &line)?;
-    add_fail_if(alloc, code, around, Op::Get(STATUS), &plan.fail, inside)?;
+    add_fail_if(alloc, code, around, Op::Get(STATUS), &plan.fail)?;
     add_result(code, around.body, plan.value)
 }
 
@@ -148,6 +145,6 @@ pub fn shared_at(shared: u32) -> Result<u32, NoMemory> {
 
 /// Whether a type is of an immutable class.
 pub fn is_immutable(around: &Around<'_>, ty: u32) -> Result<bool, NoMemory> {
-    let layout = held(around.flat.layouts.get(ty as usize))?;
+    let layout = held(around.program.flat.layouts.get(ty as usize))?;
     Ok(matches!(layout.kind, Kind::Immutable))
 }
