@@ -3,7 +3,7 @@
 
 use crate::own_body::no_position;
 use crate::passing::{Passing, passing_of};
-use sa_core::{Core, ImplCore};
+use crate::signatures::Implemented;
 use sa_flat::{FlatArg, FlatFormal, FlatStep};
 use sa_lower_draft::OpenBody;
 use sa_tree::{NoMemory, held};
@@ -38,28 +38,25 @@ impl Arguments {
 /// The arguments as the implementation takes them.
 pub(crate) fn pass_all(
     alloc: Global,
-    core: &Core,
-    implementation: &ImplCore,
-    formals: &[FlatFormal],
+    implemented: Implemented<'_>,
     body: &mut OpenBody,
 ) -> Result<Arguments, NoMemory> {
     let mut passed = Arguments::none(alloc);
-    for (place, formal) in formals.iter().enumerate() {
-        pass(core, implementation, place, *formal, body, &mut passed)?;
+    for (place, formal) in implemented.formals().iter().enumerate() {
+        pass(implemented, place, *formal, body, &mut passed)?;
     }
     Ok(passed)
 }
 
 /// One more argument, the one at this place.
 pub(crate) fn pass(
-    core: &Core,
-    implementation: &ImplCore,
+    implemented: Implemented<'_>,
     place: usize,
     formal: FlatFormal,
     body: &mut OpenBody,
     passed: &mut Arguments,
 ) -> Result<(), NoMemory> {
-    let how = passing_of(core, implementation, place, formal)?;
+    let how = passing_of(implemented, place, formal)?;
     let to = held(u32::try_from(place).ok())?;
     let var = variable(how, to, body, &mut passed.backs)?;
     passed.args.push(FlatArg {

@@ -1,7 +1,7 @@
-//! The types of signatures, by their numbers.
+//! The types of signatures, by their numbers, and an implementation of one.
 
 use indexmap::IndexMap;
-use sa_core::{SigCore, TypeInfo};
+use sa_core::{Core, ImplCore, SigCore, TypeInfo};
 use sa_flat::FlatFormal;
 use sa_lower_draft::Tables;
 use sa_tree::{ModeTy, NoMemory, Ty, held};
@@ -13,6 +13,21 @@ use std::alloc::Global;
 pub(crate) struct SignatureTypes {
     pub formals: Items<FlatFormal>,
     pub result: Option<u32>,
+}
+
+/// A signature of a program as it is implemented: by what, and with which arguments and which result.
+#[derive(Clone, Copy)]
+pub(crate) struct Implemented<'a> {
+    pub core: &'a Core,
+    pub implementation: &'a ImplCore,
+    pub types: &'a SignatureTypes,
+}
+
+impl<'a> Implemented<'a> {
+    /// The arguments of the signature.
+    pub fn formals(&self) -> &'a [FlatFormal] {
+        self.types.formals.as_slice()
+    }
 }
 
 /// The types of a program with their numbers.
