@@ -3,7 +3,7 @@
 //! table stands in the high half of the receiver's word, since the receiver is an address then.
 
 use crate::dispatch::{add_unreturned, chosen_body};
-use crate::entry::{entry_words, given};
+use crate::entry::{entry_words, given, placed};
 use sa_dispatch::Span;
 use sa_emit_value::{
     ADDRESS, ARGUMENTS, Around, DEPTH, Handing, STATUS, TypeSpan, Widening, add_answers,
@@ -100,8 +100,7 @@ fn add_place_test(
     sig: u32,
     ty: u32,
 ) -> Result<(), NoMemory> {
-    let target = chosen_body(around, sig, ty)?;
-    let place = held(around.program.places.get(target as usize).copied())?;
+    let place = placed(around, chosen_body(around, sig, ty)?)?;
     let mut found = Items::new(alloc);
     add_line(&mut found, &[Op::I32(place), Op::Br(1)])?;
     add_line(code, &[Op::Get(ADDRESS), Op::I32(ty), Op::Do(I32_EQ)])?;

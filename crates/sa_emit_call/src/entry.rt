@@ -1,7 +1,7 @@
 //! The words of a bind, which the call of its values reads: what is called, and which arguments the values keep.
 
 use crate::dispatch::{Implementations, implementations_of};
-use sa_emit_value::{Around, NOT_PLACED, held, is_immutable, shared_at};
+use sa_emit_value::{Around, held, is_immutable, shared_at};
 use sa_flat::{BindEntry, Callee};
 use sa_prelude::BuiltinFeature;
 use sa_runtime::layout::{
@@ -102,16 +102,19 @@ fn of_kind(kind: u32, number: u32) -> Called {
 
 /// The body of a feature, by its place in the table.
 fn body_called(around: &Around<'_>, body: u32) -> Result<Called, NoMemory> {
-    let place = held(around.program.places.get(body as usize).copied())?;
-    if place == NOT_PLACED {
-        return held(None);
-    }
+    let place = placed(around, body)?;
     let kind = if is_iter(around, body)? {
         ITER
     } else {
         ROUTINE
     };
     Ok(of_kind(kind, place))
+}
+
+/// The place of a body in the table. The answer is `NoMemory` where no bind calls it through the table.
+pub(crate) fn placed(around: &Around<'_>, body: u32) -> Result<u32, NoMemory> {
+    let place = held(around.program.places.get(body as usize).copied())?;
+    held(place)
 }
 
 /// The form of what the receiver's class chooses. The implementations of a signature are alike in it, so the first one tells.

@@ -63,7 +63,7 @@ fn add_returned(
     match around.role {
         Role::Last => add_line(code, &[Op::I64(0), Op::SetGlobal(RESULT)]),
         Role::Feature => Ok(()),
-        Role::Target => Ok(()),
+        Role::Made => Ok(()),
     }
 }
 

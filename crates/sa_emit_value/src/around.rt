@@ -19,7 +19,7 @@ pub const DEPTH: u32 = 0;
 /// The parameter with the address of the instance's frame, which is 0 where it has none.
 pub const FRAME: u32 = 1;
 
-/// The local with the number of the head that comes next.
+/// The local with the number of the dispatch target that comes next.
 pub const BLOCK: u32 = 2;
 
 /// The local with the status that a call answered.
@@ -43,19 +43,13 @@ const ADDRESSES: u32 = 3;
 /// How many of the locals are words and no variables.
 const WORDS: u32 = 2;
 
-/// What stands in place of a head's number for a block that the dispatch doesn't know.
-pub const NOT_A_HEAD: u32 = u32::MAX;
-
-/// What stands in place of a place in the table for a body that no bind calls through it.
-pub const NOT_PLACED: u32 = u32::MAX;
-
 /// What a body was made for.
 #[derive(Clone, Copy)]
 pub enum Role {
     /// A feature.
     Feature,
     /// An implementation of a signature alone. It hands its faults on to its caller.
-    Target,
+    Made,
     /// The initialisers of the shareds and the call of `main`.
     Last,
 }
@@ -73,8 +67,8 @@ pub struct Program<'a> {
     pub below: &'a Below,
     /// The address of each bind's entry.
     pub entries: &'a [u32],
-    /// For each body its place in the table behind those of the rows, or `NOT_PLACED`.
-    pub places: &'a [u32],
+    /// For each body its place in the table behind those of the rows, if a bind calls it through the table.
+    pub places: &'a [Option<u32>],
 }
 
 /// What stands around a step.
@@ -85,8 +79,8 @@ pub struct Around<'a> {
     pub body: &'a FlatBody,
     /// What this body was made for.
     pub role: Role,
-    /// For each block of the body its number in the dispatch, or `NOT_A_HEAD`.
-    pub heads: &'a [u32],
+    /// For each block of the body its number among the dispatch targets, if it is one.
+    pub targets: &'a [Option<u32>],
     /// How deep the step stands inside the dispatch.
     pub nesting: Nesting,
 }

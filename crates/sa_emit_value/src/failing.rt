@@ -1,6 +1,6 @@
 //! Faults and raises of steps, and jumps to blocks.
 
-use crate::around::{Around, BLOCK, NOT_A_HEAD, Role, held};
+use crate::around::{Around, BLOCK, Role, held};
 use crate::choice::add_if;
 use sa_flat::{Fail, FlatBody, FlatExit, Raised};
 use sa_runtime::fault_numbers::VOID;
@@ -47,7 +47,7 @@ pub fn add_fail(
     fail: &Fail,
 ) -> Result<(), NoMemory> {
     match around.role {
-        Role::Target => add_handed_on(code, kind),
+        Role::Made => add_handed_on(code, kind),
         Role::Feature => add_fault(code, around, kind, fail),
         Role::Last => add_fault(code, around, kind, fail),
     }
@@ -104,37 +104,28 @@ pub fn add_raise(
     add_jump(code, around, raised.block)
 }
 
-/// Adds a jump to a block that the dispatch knows.
+/// Adds a jump to a dispatch target.
 ///
 /// # Errors
 ///
-/// `NoMemory`, also where the dispatch doesn't know the block.
+/// `NoMemory`, also where the block is no dispatch target.
 pub fn add_jump(code: &mut Items<Instr>, around: &Around<'_>, block: u32) -> Result<(), NoMemory> {
-    let head = head_of(around, block)?;
     let line = [
-        Op::I32(head),
+        Op::I32(target_number(around, block)?),
         Op::Set(BLOCK),
         Op::Br(around.nesting.label()),
     ];
     add_line(code, &line)
 }
 
-/// The number of a block in the dispatch.
+/// The number of a block among the dispatch targets.
 ///
 /// # Errors
 ///
-/// `NoMemory` where the dispatch doesn't know the block.
-pub fn head_of(around: &Around<'_>, block: u32) -> Result<u32, NoMemory> {
-    let head = held(around.heads.get(block as usize).copied())?;
-    if head == NOT_A_HEAD {
-        return Err(not_a_head());
-    }
-    Ok(head)
-}
-
-/// The answer for a jump to a block that the dispatch doesn't know.
-fn not_a_head() -> NoMemory {
-    NoMemory
+/// `NoMemory` where the block is no dispatch target.
+pub fn target_number(around: &Around<'_>, block: u32) -> Result<u32, NoMemory> {
+    let number = held(around.targets.get(block as usize).copied())?;
+    held(number)
 }
 
 /// Whether the block that a raise goes to does nothing but leave the body with this raise. Steps don't jump to such a block.

@@ -21,8 +21,8 @@ pub use area::{
     add_once_formals, add_prologue, add_self,
 };
 pub use around::{
-    ADDRESS, Around, BLOCK, DEPTH, FRAME, ME, NOT_A_HEAD, NOT_PLACED, Program, Role, STATUS,
-    function_of, held, local_of, locals_of, site_local,
+    ADDRESS, Around, BLOCK, DEPTH, FRAME, ME, Program, Role, STATUS, function_of, held, local_of,
+    locals_of, site_local,
 };
 pub use attributes::{
     add_get, add_get_shared, add_init_shared, add_set, add_set_shared, is_immutable, shared_at,
@@ -31,7 +31,7 @@ pub use below::{Below, TypeSpan, spans_of};
 pub use builtins::add_builtin;
 pub use choice::{add_if, add_if_else};
 pub use failing::{
-    add_fail, add_fail_if, add_handed_on, add_jump, add_raise, add_void_test, head_of, leaves,
+    add_fail, add_fail_if, add_handed_on, add_jump, add_raise, add_void_test, leaves, target_number,
 };
 pub use nesting::Nesting;
 pub use objects::{

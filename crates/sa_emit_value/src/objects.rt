@@ -168,7 +168,7 @@ fn add_unmarked(
 /// Whether a variable may hold a value that a bind has widened.
 fn may_be_marked(around: &Around<'_>, var: u32) -> bool {
     match around.role {
-        Role::Target => (var as usize) < around.body.formals.len(),
+        Role::Made => (var as usize) < around.body.formals.len(),
         Role::Feature => false,
         Role::Last => false,
     }

@@ -108,7 +108,7 @@ pub const SIBLING_AT: u32 = 0;
 /// The word of a frame, of 32 bits, with the number of the site in the activation that the instance belongs to.
 pub const SITE_AT: u32 = 4;
 
-/// The word of a frame, of 32 bits, with the number of the head that a resumption goes on in. It is 0 at a start.
+/// The word of a frame, of 32 bits, with the number of the dispatch target that a resumption goes on in. It is 0 at a start.
 pub const BLOCK_AT: u32 = 8;
 
 /// The word of a frame, of 32 bits, with the first of the instances that the suspended body has, or 0.

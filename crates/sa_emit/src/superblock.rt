@@ -1,25 +1,26 @@
-//! The code of a head: of its block, and of the blocks behind it up to jumps to heads and to exits that leave the body.
+//! The code of a superblock: of the block of a dispatch target, and of the blocks behind it, each of which has one predecessor, up
+//! to jumps to dispatch targets and to exits that leave the body.
 
-use crate::heads::DEEPEST;
+use crate::targets::DEEPEST;
 use sa_emit_step::{add_leaving, add_step};
-use sa_emit_value::{Around, NOT_A_HEAD, Nesting, add_jump, held};
+use sa_emit_value::{Around, Nesting, add_jump, held};
 use sa_flat::{FlatExit, FlatStep};
 use sqlite_items::Items;
 use std::alloc::Global;
 use wa_syntax::{Instr, NoMemory, opcode};
 
-/// A place in the code of a head.
+/// A place in the code of a superblock.
 #[derive(Clone, Copy)]
 struct Spot<'a> {
     around: Around<'a>,
-    /// The loop around the code of this head alone, where there is one.
+    /// The loop around this superblock alone, where there is one.
     own: Option<OwnLoop>,
 }
 
-/// A loop around the code of a head alone.
+/// A loop around a superblock alone.
 #[derive(Clone, Copy, Debug)]
 struct OwnLoop {
-    /// The block of the head.
+    /// The block that the superblock begins with.
     block: u32,
     /// How deep the place stands in the loop.
     nesting: Nesting,
@@ -34,18 +35,18 @@ impl<'a> Spot<'a> {
         })
     }
 
-    /// The label of the loop around the code of a head alone, at a place in that code.
-    fn label_of(&self, head: u32) -> Option<u32> {
+    /// The label that begins the superblock of a dispatch target anew, where it stands in a loop of its own.
+    fn label_of(&self, target: u32) -> Option<u32> {
         let own = self.own?;
-        if own.block == head {
+        if own.block == target {
             return Some(own.nesting.label());
         }
         None
     }
 
-    /// Whether a block is a head.
-    fn is_head(&self, block: u32) -> Result<bool, NoMemory> {
-        Ok(*held(self.around.heads.get(block as usize))? != NOT_A_HEAD)
+    /// Whether a block is a dispatch target.
+    fn is_target(&self, block: u32) -> Result<bool, NoMemory> {
+        Ok(held(self.around.targets.get(block as usize))?.is_some())
     }
 }
 
@@ -59,8 +60,8 @@ fn own_further_in(own: Option<OwnLoop>) -> Result<Option<OwnLoop>, NoMemory> {
     }
 }
 
-/// Adds the code of a head whose code jumps to it: in a loop of its own, so that these jumps need no dispatch.
-pub(crate) fn add_repeating(
+/// Adds the superblock of a dispatch target that it jumps to itself: in a loop of its own, so that these jumps need no dispatch.
+pub(crate) fn add_repeated_target(
     alloc: Global,
     code: &mut Items<Instr>,
     around: Around<'_>,
@@ -74,20 +75,20 @@ pub(crate) fn add_repeating(
         }),
     };
     let mut body = Items::new(alloc);
-    add_chain(alloc, &mut body, spot, block, DEEPEST)?;
+    add_superblock(alloc, &mut body, spot, block, DEEPEST)?;
     code.push(Instr::Loop(None, body))?;
     Ok(())
 }
 
-/// Adds the code of a head whose code doesn't jump to it.
-pub(crate) fn add_head(
+/// Adds the superblock of a dispatch target that it doesn't jump to itself.
+pub(crate) fn add_target(
     alloc: Global,
     code: &mut Items<Instr>,
     around: Around<'_>,
     block: u32,
 ) -> Result<(), NoMemory> {
     let spot = Spot { around, own: None };
-    add_chain(alloc, code, spot, block, DEEPEST)
+    add_superblock(alloc, code, spot, block, DEEPEST)
 }
 
 /// What stands behind the code of a block.
@@ -101,8 +102,8 @@ enum Behind {
 }
 
 /// Adds the code that begins with this block. `depth` is the number of branches that may stand one inside the other there.
-#[cycle(chain)]
-fn add_chain(
+#[cycle(superblock)]
+fn add_superblock(
     alloc: Global,
     code: &mut Items<Instr>,
     spot: Spot<'_>,
@@ -124,7 +125,7 @@ fn add_chain(
 }
 
 /// Adds the code that begins with the block `yes` of a branch, for where the test holds.
-#[cycle(chain)]
+#[cycle(superblock)]
 fn add_side(
     alloc: Global,
     code: &mut Items<Instr>,
@@ -137,18 +138,18 @@ fn add_side(
     }
     let inner = spot.further_in()?;
     let mut side = Items::new(alloc);
-    add_chain(alloc, &mut side, inner, yes, depth - 1)?;
+    add_superblock(alloc, &mut side, inner, yes, depth - 1)?;
     code.push(Instr::If(None, side, Items::new(alloc)))?;
     Ok(())
 }
 
-/// The answer where more blocks stand behind a head than the body has, which can't be: a block that two exits lead to is a
-/// head.
+/// The answer where a superblock has more blocks than the body, which can't be: a block that two exits lead to is a dispatch
+/// target.
 fn endless() -> NoMemory {
     NoMemory
 }
 
-/// The answer where branches stand too deep, which can't be: the block that would stand there is a head.
+/// The answer where branches stand too deep, which can't be: the block that would stand there is a dispatch target.
 fn too_deep() -> NoMemory {
     NoMemory
 }
@@ -185,10 +186,10 @@ enum Turn {
     Nop,
 }
 
-/// What instruction a turn has that a block begins with: the jump where each way into the block is one, which holds of the heads
-/// but for the one that the body begins with.
+/// What instruction a turn has that a block begins with: the jump where each way into the block is one, which holds of the
+/// dispatch targets but for the one that the body begins with.
 fn first_turn(spot: Spot<'_>, block: u32) -> Result<Turn, NoMemory> {
-    if block > 0 && spot.is_head(block)? {
+    if block > 0 && spot.is_target(block)? {
         return Ok(Turn::Jump);
     }
     Ok(Turn::Nop)
@@ -218,16 +219,16 @@ fn is_turn(step: &FlatStep) -> bool {
     matches!(step, FlatStep::Turn)
 }
 
-/// Adds a jump to a block that is a head. The code of another one stands here.
+/// Adds a jump to a block that is a dispatch target. The code of another one stands here.
 fn add_going_on(code: &mut Items<Instr>, spot: Spot<'_>, block: u32) -> Result<Behind, NoMemory> {
-    if !spot.is_head(block)? {
+    if !spot.is_target(block)? {
         return Ok(Behind::Block(block));
     }
     add_jump_to(code, spot, block)?;
     Ok(Behind::Nothing)
 }
 
-/// Adds what follows the test of a branch: a jump for a side that is a head, so that the other side goes on here.
+/// Adds what follows the test of a branch: a jump for a side that is a dispatch target, so that the other side goes on here.
 fn add_branch(
     alloc: Global,
     code: &mut Items<Instr>,
@@ -235,11 +236,11 @@ fn add_branch(
     yes: u32,
     no: u32,
 ) -> Result<Behind, NoMemory> {
-    if spot.is_head(yes)? {
+    if spot.is_target(yes)? {
         add_jump_where(alloc, code, spot, yes)?;
         return add_going_on(code, spot, no);
     }
-    if spot.is_head(no)? {
+    if spot.is_target(no)? {
         code.push(Instr::Plain(opcode::I32_EQZ))?;
         add_jump_where(alloc, code, spot, no)?;
         return Ok(Behind::Block(yes));
@@ -254,27 +255,27 @@ fn add_test(code: &mut Items<Instr>, around: &Around<'_>, test: u32) -> Result<(
     Ok(())
 }
 
-/// Adds a jump to a head, for where the test holds.
+/// Adds a jump to a dispatch target, for where the test holds.
 fn add_jump_where(
     alloc: Global,
     code: &mut Items<Instr>,
     spot: Spot<'_>,
-    head: u32,
+    target: u32,
 ) -> Result<(), NoMemory> {
-    if let Some(label) = spot.label_of(head) {
+    if let Some(label) = spot.label_of(target) {
         return Ok(code.push(Instr::BrIf(label))?);
     }
     let inner = spot.around.further_in()?;
     let mut jump = Items::new(alloc);
-    add_jump(&mut jump, &inner, head)?;
+    add_jump(&mut jump, &inner, target)?;
     code.push(Instr::If(None, jump, Items::new(alloc)))?;
     Ok(())
 }
 
-/// Adds a jump to a head: back to its own loop, or to the dispatch.
-fn add_jump_to(code: &mut Items<Instr>, spot: Spot<'_>, head: u32) -> Result<(), NoMemory> {
-    match spot.label_of(head) {
+/// Adds a jump to a dispatch target: back to its own loop, or to the dispatch.
+fn add_jump_to(code: &mut Items<Instr>, spot: Spot<'_>, target: u32) -> Result<(), NoMemory> {
+    match spot.label_of(target) {
         Some(label) => Ok(code.push(Instr::Br(label))?),
-        None => add_jump(code, &spot.around, head),
+        None => add_jump(code, &spot.around, target),
     }
 }
