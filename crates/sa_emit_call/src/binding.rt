@@ -83,9 +83,10 @@ fn add_place_by_tests(
     around: &Around<'_>,
     sig: u32,
 ) -> Result<(), NoMemory> {
+    let inner = around.further_in()?;
     let mut tests = Items::new(alloc);
     for ty in around.program.rows.types(sig) {
-        add_place_test(alloc, &mut tests, around, sig, *ty)?;
+        add_place_test(alloc, &mut tests, &inner, sig, *ty)?;
     }
     add_line(&mut tests, &[Op::Do(UNREACHABLE)])?;
     code.push(Instr::Block(Some(ValTy::I32), tests))?;

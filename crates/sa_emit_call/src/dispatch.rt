@@ -175,9 +175,10 @@ fn add_by_tests(
     frame: Op,
 ) -> Result<(), NoMemory> {
     add_class_in_address(code, around, choice.class)?;
+    let inner = around.further_in()?;
     let mut tests = Items::new(alloc);
     for ty in around.program.rows.types(choice.sig) {
-        add_test(alloc, &mut tests, around, choice, *ty, frame)?;
+        add_test(alloc, &mut tests, &inner, choice, *ty, frame)?;
     }
     add_line(&mut tests, &[Op::Do(UNREACHABLE)])?;
     code.push(Instr::Block(Some(ValTy::I32), tests))?;

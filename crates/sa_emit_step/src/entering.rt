@@ -53,8 +53,11 @@ pub(crate) fn add_enter(
     add_handed(code, around.body, entering.args, Handing::AtStart)?;
     add_deeper(code, Op::Get(FRAME))?;
     add_line(code, &[Op::Call(func)])?;
-    let suspended = suspended(alloc, around, entering)?;
-    let ended = ended(alloc, around, entering.quit)?;
+    let inner = around.further_in()?;
+    let mut suspended = Items::new(alloc);
+    add_suspended(&mut suspended, &inner, entering)?;
+    let mut ended = Items::new(alloc);
+    add_ended(alloc, &mut ended, &inner, entering.quit)?;
     add_is_suspended(code)?;
     add_if_else(code, suspended, ended)
 }
@@ -73,36 +76,38 @@ fn add_frame(
     around: &Around<'_>,
     recv: u32,
 ) -> Result<(), NoMemory> {
+    let inner = around.further_in()?;
     let mut start = Items::new(alloc);
     let line = [Op::Call(NEW_FRAME), Op::Tee(FRAME), Op::Do(I32_EQZ)];
     add_line(&mut start, &line)?;
     add_handed_on_if(alloc, &mut start, TOO_MANY_FRAMES)?;
-    add_frame_self(&mut start, around, FRAME, recv)?;
+    add_frame_self(&mut start, &inner, FRAME, recv)?;
     add_line(code, &[Op::Get(FRAME), Op::Do(I32_EQZ)])?;
     add_if(alloc, code, start)
 }
 
-/// What follows a suspension: the frame goes to the site.
-fn suspended(
-    alloc: Global,
+/// Adds what follows a suspension: the frame goes to the site.
+fn add_suspended(
+    code: &mut Items<Instr>,
     around: &Around<'_>,
     entering: &Entering<'_>,
-) -> Result<Items<Instr>, NoMemory> {
-    let mut code = Items::new(alloc);
-    add_line(&mut code, &[Op::Get(FRAME), Op::SetGlobal(FRAME_OUT)])?;
-    add_answers(&mut code, around.body, entering.value, entering.args)?;
-    add_quit(&mut code, around, entering.quit, Instance::Suspended)?;
-    Ok(code)
+) -> Result<(), NoMemory> {
+    add_line(code, &[Op::Get(FRAME), Op::SetGlobal(FRAME_OUT)])?;
+    add_answers(code, around.body, entering.value, entering.args)?;
+    add_quit(code, around, entering.quit, Instance::Suspended)
 }
 
-/// What follows the end of the instance: a raise goes to the caller.
-fn ended(alloc: Global, around: &Around<'_>, quit: u32) -> Result<Items<Instr>, NoMemory> {
-    let mut code = Items::new(alloc);
-    add_line(&mut code, &[Op::Get(FRAME), Op::Call(END_FRAME)])?;
+/// Adds what follows the end of the instance: a raise goes to the caller.
+fn add_ended(
+    alloc: Global,
+    code: &mut Items<Instr>,
+    around: &Around<'_>,
+    quit: u32,
+) -> Result<(), NoMemory> {
+    add_line(code, &[Op::Get(FRAME), Op::Call(END_FRAME)])?;
     let mut raise = Items::new(alloc);
     add_line(&mut raise, &[Op::I32(RAISED), Op::Do(RETURN)])?;
-    add_is_raised(&mut code)?;
-    add_if(alloc, &mut code, raise)?;
-    add_quit(&mut code, around, quit, Instance::Ended)?;
-    Ok(code)
+    add_is_raised(code)?;
+    add_if(alloc, code, raise)?;
+    add_quit(code, around, quit, Instance::Ended)
 }

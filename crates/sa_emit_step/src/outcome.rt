@@ -62,9 +62,10 @@ pub(crate) fn add_started(
     site: &Site<'_>,
     called: Called,
 ) -> Result<(), NoMemory> {
+    let inner = around.further_in()?;
     let mut suspended = Items::new(alloc);
-    add_begun(&mut suspended, around, site, called)?;
-    add_yielded(&mut suspended, around, site)?;
+    add_begun(&mut suspended, &inner, site, called)?;
+    add_yielded(&mut suspended, &inner, site)?;
     add_outcome(alloc, code, around, site, called, suspended)
 }
 
@@ -76,8 +77,9 @@ pub(crate) fn add_resumed(
     site: &Site<'_>,
     called: Called,
 ) -> Result<(), NoMemory> {
+    let inner = around.further_in()?;
     let mut suspended = Items::new(alloc);
-    add_yielded(&mut suspended, around, site)?;
+    add_yielded(&mut suspended, &inner, site)?;
     add_outcome(alloc, code, around, site, called, suspended)
 }
 

@@ -37,10 +37,11 @@ fn add_get_of_value(
     plan: &CallPlan,
     place: u32,
 ) -> Result<(), NoMemory> {
+    let inner = around.further_in()?;
     let mut void = Items::new(alloc);
     add_line(&mut void, &[Op::I64(0)])?;
     let mut read = Items::new(alloc);
-    add_read(&mut read, around, plan, place)?;
+    add_read(&mut read, &inner, plan, place)?;
     add_line(code, &[Op::Get(around.local(plan.recv)), Op::Do(I64_EQZ)])?;
     code.push(Instr::If(Some(ValTy::I64), void, read))?;
     add_line(code, &[Op::Set(around.receiving(plan.value))])
