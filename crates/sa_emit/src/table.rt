@@ -61,7 +61,7 @@ fn add_signature(
     for ty in program.rows.types(sig) {
         if let Some(place) = program.rows.place(sig, *ty) {
             let row = held(program.rows.row(sig, *ty))?;
-            let body = *held(program.flat.targets.get(row as usize))?;
+            let body = program.body_of_row(row)?;
             filled.add(alloc, place, function_of(body)?)?;
         }
     }

@@ -69,8 +69,8 @@ pub(crate) fn add_dispatch(
 /// What the implementations of a signature are: the first one tells.
 pub fn implementations_of(around: &Around<'_>, sig: u32) -> Result<Implementations, NoMemory> {
     let first = held(around.program.rows.first(sig))?;
-    let target = held(around.program.flat.targets.get(first as usize).copied())?;
-    let body = held(around.program.flat.bodies.get(target as usize))?;
+    let number = around.program.body_of_row(first)?;
+    let body = around.program.body(number)?;
     match body.feature {
         Some(_) => Ok(Implementations::Features),
         None => Ok(Implementations::Made),
@@ -205,7 +205,7 @@ fn add_test(
 /// The body that does a signature's implementation for a class.
 pub(crate) fn chosen_body(around: &Around<'_>, sig: u32, ty: u32) -> Result<u32, NoMemory> {
     let row = held(around.program.rows.row(sig, ty))?;
-    held(around.program.flat.targets.get(row as usize).copied())
+    around.program.body_of_row(row)
 }
 
 /// Adds the number of the class, as an operand.

@@ -126,15 +126,16 @@ fn chosen_kind(around: &Around<'_>, sig: u32) -> Result<u32, NoMemory> {
     if implementations_of(around, sig)? == Implementations::Made {
         return Ok(CHOSEN_MADE);
     }
-    let target = held(around.program.flat.targets.get(first as usize).copied())?;
-    if is_iter(around, target)? {
+    let number = around.program.body_of_row(first)?;
+    if is_iter(around, number)? {
         return Ok(CHOSEN_ITER);
     }
     Ok(CHOSEN_ROUTINE)
 }
 
-fn is_iter(around: &Around<'_>, body: u32) -> Result<bool, NoMemory> {
-    Ok(held(around.program.flat.bodies.get(body as usize))?.iter)
+fn is_iter(around: &Around<'_>, number: u32) -> Result<bool, NoMemory> {
+    let body = around.program.body(number)?;
+    Ok(body.iter)
 }
 
 /// One form for objects, and another for immutable values.

@@ -71,6 +71,18 @@ pub struct Program<'a> {
     pub places: &'a [Option<u32>],
 }
 
+impl<'a> Program<'a> {
+    /// A body by its number. The answer is `NoMemory` where there is none.
+    pub fn body(&self, number: u32) -> Result<&'a FlatBody, NoMemory> {
+        held(self.flat.bodies.get(number as usize))
+    }
+
+    /// The number of the body that does the implementation in this row. The answer is `NoMemory` where there is no such row.
+    pub fn body_of_row(&self, row: u32) -> Result<u32, NoMemory> {
+        held(self.flat.targets.get(row as usize).copied())
+    }
+}
+
 /// What stands around a step.
 #[derive(Clone, Copy)]
 pub struct Around<'a> {
