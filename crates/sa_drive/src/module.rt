@@ -32,8 +32,8 @@ pub fn module_of(
     let positions = positions(alloc, &core)?;
     let lines = line_numbers(alloc, texts, positions.as_slice())?;
     let core = Core { lines, ..core };
+    let flat = lower(alloc, &core, positions)?;
     let rows = rows(alloc, &core)?;
-    let flat = lower(alloc, &core)?;
     drop(core);
     let Ok(emitted) = emit(alloc, &flat, &rows, room) else {
         return Err(NoMemory);

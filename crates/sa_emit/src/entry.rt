@@ -7,7 +7,7 @@ use std::alloc::Global;
 use wa_syntax::{Func, Instr, Locals, NoMemory, opcode};
 
 /// The function that runs the body whose function has this number. It answers the low half of the body's result.
-pub fn main_function(alloc: Global, body: u32) -> Result<Func, NoMemory> {
+pub(crate) fn main_function(alloc: Global, body: u32) -> Result<Func, NoMemory> {
     let mut code = Items::new(alloc);
     code.push(Instr::I32Const(0))?;
     code.push(Instr::I32Const(0))?;

@@ -1,82 +1,62 @@
 //! The function of a body.
 
-use crate::chain::add_head;
 use crate::dispatch::{Dispatch, add_loop};
-use crate::entrances::{Entrance, entrances};
-use crate::heads::{Heads, heads_of};
 use crate::pool::has_frames;
-use sa_dispatch::Rows;
+use crate::predecessors::{Predecessors, predecessors_of};
+use crate::superblock::add_target;
+use crate::targets::{DispatchTargets, targets_of};
 use sa_emit_step::{add_iter_prologue, add_suspension};
-use sa_emit_value::{Around, Below, Role, add_prologue, locals_of};
-use sa_flat::{FlatBody, FlatProgram};
+use sa_emit_value::{Around, Nesting, Program, Role, add_prologue, locals_of};
+use sa_flat::FlatBody;
 use sa_runtime::layout::BODY_TYPE;
 use sqlite_items::Items;
 use std::alloc::Global;
 use wa_syntax::{Func, Instr, NoMemory};
 
-/// What the bodies of a program have in common.
-#[derive(Clone, Copy)]
-pub struct Common<'a> {
-    pub flat: &'a FlatProgram,
-    pub rows: &'a Rows,
-    /// The address of each text.
-    pub texts: &'a [u32],
-    pub below: &'a Below,
-    /// The address of each bind.
-    pub entries: &'a [u32],
-    /// For each body its place in the table behind those of the implementations, or `NOT_PLACED`.
-    pub places: &'a [u32],
-}
-
 /// The function of each body, in order.
-pub fn add_bodies(
+pub(crate) fn add_bodies(
     alloc: Global,
     funcs: &mut Items<Func>,
-    common: &Common<'_>,
+    program: Program<'_>,
 ) -> Result<(), NoMemory> {
-    let bodies = common.flat.bodies.as_slice();
-    for (place, body) in bodies.iter().enumerate() {
-        let role = role_of(body, place + 1 == bodies.len());
-        funcs.push(function(alloc, common, body, role)?)?;
+    let Some((last, others)) = program.flat.bodies.as_slice().split_last() else {
+        return Ok(());
+    };
+    for body in others {
+        funcs.push(function(alloc, program, body, role_of(body))?)?;
     }
+    funcs.push(function(alloc, program, last, Role::Last)?)?;
     Ok(())
 }
 
-/// What a body is for.
-fn role_of(body: &FlatBody, last: bool) -> Role {
-    if last {
-        return Role::Last;
-    }
+/// What a body that isn't the last one is for.
+fn role_of(body: &FlatBody) -> Role {
     match body.feature {
         Some(_) => Role::Feature,
-        None => Role::Target,
+        None => Role::Made,
     }
 }
 
 /// The function of a body.
 fn function(
     alloc: Global,
-    common: &Common<'_>,
+    program: Program<'_>,
     body: &FlatBody,
     role: Role,
 ) -> Result<Func, NoMemory> {
-    let entrances = entrances(alloc, body)?;
-    let heads = heads_of(alloc, body, entrances.as_slice())?;
+    let predecessors = predecessors_of(alloc, body)?;
+    let targets = targets_of(alloc, body, predecessors.as_slice())?;
     let around = Around {
-        flat: common.flat,
-        rows: common.rows,
+        program,
         body,
         role,
-        texts: common.texts,
-        below: common.below,
-        heads: heads.numbers.as_slice(),
-        entries: common.entries,
-        places: common.places,
+        targets: targets.numbers.as_slice(),
+        nesting: Nesting::outermost(),
     };
     let code = if has_frames(body) {
-        resumed(alloc, &around, &heads)?
+        resumed(alloc, &around, &targets)?
     } else {
-        run_once(alloc, &around, entrances.as_slice(), &heads)?
+        run_once(alloc, &around, predecessors.as_slice(), &targets)?
     };
     Ok(Func {
         ty: BODY_TYPE,
@@ -86,12 +66,17 @@ fn function(
 }
 
 /// The code of a body whose instances are suspended and resumed. A suspension leaves the block around the dispatch, and a
-/// resumption goes through the dispatch to the head that it goes on in, so there is one also where nothing else jumps to a head.
-fn resumed(alloc: Global, around: &Around<'_>, heads: &Heads) -> Result<Items<Instr>, NoMemory> {
+/// resumption goes through the dispatch to the target that it goes on in, so there is one also where nothing else jumps to a
+/// dispatch target.
+fn resumed(
+    alloc: Global,
+    around: &Around<'_>,
+    targets: &DispatchTargets,
+) -> Result<Items<Instr>, NoMemory> {
     let mut code = Items::new(alloc);
     add_iter_prologue(alloc, &mut code, around.body)?;
     let mut inside = Items::new(alloc);
-    add_dispatched(alloc, &mut inside, around, heads)?;
+    add_dispatched(alloc, &mut inside, around, targets)?;
     code.push(Instr::Block(None, inside))?;
     add_suspension(alloc, &mut code, around.body)?;
     Ok(code)
@@ -101,35 +86,35 @@ fn resumed(alloc: Global, around: &Around<'_>, heads: &Heads) -> Result<Items<In
 fn run_once(
     alloc: Global,
     around: &Around<'_>,
-    entrances: &[Entrance],
-    heads: &Heads,
+    predecessors: &[Predecessors],
+    targets: &DispatchTargets,
 ) -> Result<Items<Instr>, NoMemory> {
     let mut code = Items::new(alloc);
     add_prologue(&mut code, around.body)?;
-    if is_chain(entrances, heads.blocks.as_slice()) {
-        add_head(alloc, &mut code, around, 0, 0)?;
+    if is_one_superblock(predecessors, targets.blocks.as_slice()) {
+        add_target(alloc, &mut code, *around, 0)?;
     } else {
-        add_dispatched(alloc, &mut code, around, heads)?;
+        add_dispatched(alloc, &mut code, around, targets)?;
     }
     Ok(code)
 }
 
-/// Adds the code of heads that are jumped to.
+/// Adds the code of dispatch targets that are jumped to.
 fn add_dispatched(
     alloc: Global,
     code: &mut Items<Instr>,
     around: &Around<'_>,
-    heads: &Heads,
+    targets: &DispatchTargets,
 ) -> Result<(), NoMemory> {
     let dispatch = Dispatch {
-        around,
-        heads: heads.blocks.as_slice(),
-        repeats: heads.repeats.as_slice(),
+        around: *around,
+        targets: targets.blocks.as_slice(),
+        repeats: targets.repeats.as_slice(),
     };
     add_loop(alloc, code, &dispatch)
 }
 
-/// Whether nothing jumps to a head, so that the body needs no loop.
-fn is_chain(entrances: &[Entrance], heads: &[u32]) -> bool {
-    heads.len() == 1 && entrances.first() == Some(&Entrance::First)
+/// Whether nothing jumps to a dispatch target, so that the body needs no loop.
+fn is_one_superblock(predecessors: &[Predecessors], targets: &[u32]) -> bool {
+    targets.len() == 1 && predecessors.first() == Some(&Predecessors::Entry)
 }

@@ -6,7 +6,7 @@ use wa_syntax::{GlobalDef, GlobalTy, Init, NoMemory, ValTy};
 
 /// The result of a call; the value, the kind and the place of a raise; the kind of a fault that is handed on; the address of the
 /// next object, which is `base` at first; the frame of an iter that was entered.
-pub fn globals(alloc: Global, base: u32) -> Result<Items<GlobalDef>, NoMemory> {
+pub(crate) fn globals(alloc: Global, base: u32) -> Result<Items<GlobalDef>, NoMemory> {
     let word = global(ValTy::I64, Init::Const64(0));
     let number = global(ValTy::I32, Init::Const32(0));
     let next_object = global(ValTy::I32, Init::Const32(base));

@@ -23,7 +23,7 @@ const KIB: u64 = 1024;
 
 /// What lies where. All addresses are multiples of 8.
 #[derive(Drop)]
-pub struct Memory {
+pub(crate) struct Memory {
     /// The address of each bind.
     pub entries: Items<u32>,
     /// The address of the pool of frames.
@@ -42,7 +42,7 @@ pub struct Memory {
 
 /// The memory of a program: the shareds behind the arguments, then the binds, the pool of frames of so many bytes each, the
 /// texts, and the objects, which have so many KiB.
-pub fn memory_of(
+pub(crate) fn memory_of(
     alloc: Global,
     flat: &FlatProgram,
     slot_bytes: u32,

@@ -1,7 +1,7 @@
 //! The module: imports, the runtime's functions, those of the bodies, `main`, and what they work on.
 
 use crate::entry::main_function;
-use crate::function::{Common, add_bodies};
+use crate::function::add_bodies;
 use crate::globals::globals;
 use crate::memory::Memory;
 use crate::places::Places;
@@ -10,8 +10,7 @@ use crate::sums::{number, sum};
 use crate::table::{elements, tables};
 use crate::texts::segments;
 use crate::types::{GET_TYPE, PUT_TYPE, STOP_TYPE, own_types};
-use sa_emit_value::held;
-use sa_runtime::layout::FIRST_BODY;
+use sa_emit_value::{Program, function_of, held};
 use sa_runtime::{RuntimeCode, code, frames, support};
 use sqlite_items::Items;
 use std::alloc::Global;
@@ -20,9 +19,9 @@ use wa_syntax::{
 };
 
 /// The module of a program whose objects have so many KiB.
-pub fn module(
+pub(crate) fn module(
     alloc: Global,
-    common: &Common<'_>,
+    program: Program<'_>,
     memory: &Memory,
     places: &Places,
     room: u32,
@@ -32,8 +31,8 @@ pub fn module(
     add_runtime(&mut types, &mut funcs, code(alloc, memory.base, room)?)?;
     add_runtime(&mut types, &mut funcs, support(alloc)?)?;
     add_frames(alloc, &mut types, &mut funcs, memory)?;
-    add_bodies(alloc, &mut funcs, common)?;
-    let main = sum(FIRST_BODY, number(common.flat.bodies.len())?)?;
+    add_bodies(alloc, &mut funcs, program)?;
+    let main = function_of(number(program.flat.bodies.len())?)?;
     funcs.push(main_function(alloc, held(main.checked_sub(1))?)?)?;
     Ok(Module {
         types,
@@ -44,8 +43,8 @@ pub fn module(
         globals: globals(alloc, memory.base)?,
         exports: exports(alloc, main)?,
         start: None,
-        elems: elements(alloc, common.flat, common.rows, places)?,
-        segments: segments(alloc, common.flat, memory.texts_at)?,
+        elems: elements(alloc, program, places)?,
+        segments: segments(alloc, program.flat, memory.texts_at)?,
     })
 }
 

@@ -3,7 +3,7 @@
 
 use crate::sums::{number, sum};
 use sa_dispatch::Rows;
-use sa_emit_value::{NOT_PLACED, held};
+use sa_emit_value::held;
 use sa_flat::{Callee, FlatProgram};
 use sqlite_items::Items;
 use std::alloc::Global;
@@ -11,11 +11,11 @@ use wa_syntax::NoMemory;
 
 /// The places of bodies that bound values call.
 #[derive(Drop)]
-pub struct Places {
+pub(crate) struct Places {
     /// The place of the first such body.
     pub first: u32,
-    /// For each body of the program its place, or `NOT_PLACED`.
-    pub of: Items<u32>,
+    /// For each body of the program its place, if it has one.
+    pub of: Items<Option<u32>>,
     /// The bodies in the order of their places.
     pub bodies: Items<u32>,
     /// For each signature whether its implementations have been seen to.
@@ -24,7 +24,11 @@ pub struct Places {
 
 /// The places of a program's bodies: of those that binds name, and of the implementations of signatures that binds name and that
 /// have no place by their signature.
-pub fn places_of(alloc: Global, flat: &FlatProgram, rows: &Rows) -> Result<Places, NoMemory> {
+pub(crate) fn places_of(
+    alloc: Global,
+    flat: &FlatProgram,
+    rows: &Rows,
+) -> Result<Places, NoMemory> {
     let mut places = no_places(alloc, flat, rows)?;
     for bind in flat.binds.as_slice() {
         match bind.callee {
@@ -45,7 +49,7 @@ fn no_places(alloc: Global, flat: &FlatProgram, rows: &Rows) -> Result<Places, N
         seen: Items::new(alloc),
     };
     for _ in 0..flat.bodies.len() {
-        places.of.push(NOT_PLACED)?;
+        places.of.push(None)?;
     }
     for _ in 0..rows.signatures() {
         places.seen.push(false)?;
@@ -60,11 +64,11 @@ impl Places {
         if at >= self.of.len() {
             return Err(NoMemory);
         }
-        if self.of.get(at) != Some(&NOT_PLACED) {
+        if held(self.of.get(at).copied())?.is_some() {
             return Ok(());
         }
         let place = sum(self.first, number(self.bodies.len())?)?;
-        self.of.set(at, place);
+        self.of.set(at, Some(place));
         self.bodies.push(body)?;
         Ok(())
     }

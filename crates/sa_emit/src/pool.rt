@@ -22,12 +22,12 @@ const WORD: u32 = 8;
 
 /// Whether instances of a body have a frame while they are suspended: the body is that of an iter of a class. A body that was
 /// made for an implementation alone has the frame of the one that it enters.
-pub fn has_frames(body: &FlatBody) -> bool {
+pub(crate) fn has_frames(body: &FlatBody) -> bool {
     body.iter && body.feature.is_some()
 }
 
 /// How many words a frame takes, so that it holds what any iter of the program keeps.
-pub fn slot_words(flat: &FlatProgram) -> Result<u32, NoMemory> {
+pub(crate) fn slot_words(flat: &FlatProgram) -> Result<u32, NoMemory> {
     let mut most = 0;
     for body in flat.bodies.as_slice() {
         most = kept(body).max(most);
@@ -44,22 +44,22 @@ fn kept(body: &FlatBody) -> usize {
 }
 
 /// How many bytes a frame of so many words takes.
-pub fn slot_bytes(words: u32) -> Result<u32, NoMemory> {
+pub(crate) fn slot_bytes(words: u32) -> Result<u32, NoMemory> {
     held(words.checked_mul(WORD))
 }
 
 /// How many bytes the pool takes with frames of so many bytes.
-pub fn pool_bytes(slot_bytes: u32) -> u64 {
+pub(crate) fn pool_bytes(slot_bytes: u32) -> u64 {
     u64::from(HEAD) + FRAMES * u64::from(slot_bytes)
 }
 
 /// The address of the first frame of the pool at this address.
-pub fn first_frame(pool: u32) -> Result<u32, NoMemory> {
+pub(crate) fn first_frame(pool: u32) -> Result<u32, NoMemory> {
     sum(pool, HEAD)
 }
 
 /// Adds `TAKE` and `GIVE`, for the pool at this address with frames of so many bytes.
-pub fn add_pool(
+pub(crate) fn add_pool(
     alloc: Global,
     funcs: &mut Items<Func>,
     pool: u32,

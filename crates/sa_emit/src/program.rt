@@ -1,15 +1,12 @@
 //! A flat program as a module, with what its reader has to know of it.
 
-use crate::function::Common;
 use crate::memory::memory_of;
 use crate::module::module;
 use crate::places::places_of;
 use crate::pool::{slot_bytes, slot_words};
-use crate::sums::{number, sum};
 use sa_dispatch::Rows;
-use sa_emit_value::Below;
+use sa_emit_value::{Below, Program};
 use sa_flat::FlatProgram;
-use sa_runtime::layout::FIRST_BODY;
 use sa_tree::Pos;
 use sqlite_items::Items;
 use std::alloc::Global;
@@ -19,12 +16,8 @@ use wa_syntax::{Module, NoMemory};
 #[derive(Drop)]
 pub struct Emitted {
     pub module: Module,
-    /// The number of the function of each body.
-    pub func_of: Items<u32>,
     /// The positions that places of faults and raises stand for.
     pub sites: Items<Pos>,
-    /// How many words the frame of a suspended iter takes.
-    pub slot_words: u32,
 }
 
 /// The module of a program, whose objects have so many KiB.
@@ -43,7 +36,7 @@ pub fn emit(
     let memory = memory_of(alloc, flat, slot_bytes(slot_words)?, room)?;
     let below = Below::of(alloc, flat)?;
     let places = places_of(alloc, flat, rows)?;
-    let common = Common {
+    let program = Program {
         flat,
         rows,
         texts: memory.texts.as_slice(),
@@ -52,18 +45,7 @@ pub fn emit(
         places: places.of.as_slice(),
     };
     Ok(Emitted {
-        module: module(alloc, &common, &memory, &places, room)?,
-        func_of: functions(alloc, flat.bodies.len())?,
+        module: module(alloc, program, &memory, &places, room)?,
         sites: Items::from_slice(alloc, flat.sites.as_slice())?,
-        slot_words,
     })
-}
-
-/// The numbers of the functions of so many bodies.
-fn functions(alloc: Global, bodies: usize) -> Result<Items<u32>, NoMemory> {
-    let mut functions = Items::new(alloc);
-    for body in 0..number(bodies)? {
-        functions.push(sum(FIRST_BODY, body)?)?;
-    }
-    Ok(functions)
 }

@@ -4,11 +4,11 @@ use sa_emit_value::held;
 use wa_syntax::NoMemory;
 
 /// The sum of two numbers.
-pub fn sum(number: u32, more: u32) -> Result<u32, NoMemory> {
+pub(crate) fn sum(number: u32, more: u32) -> Result<u32, NoMemory> {
     held(number.checked_add(more))
 }
 
 /// The length of a list, or a place in it, as a number of the module.
-pub fn number(length: usize) -> Result<u32, NoMemory> {
+pub(crate) fn number(length: usize) -> Result<u32, NoMemory> {
     held(u32::try_from(length).ok())
 }

@@ -3,17 +3,14 @@
 
 use crate::places::Places;
 use crate::sums::{number, sum};
-use sa_dispatch::Rows;
-use sa_emit_value::held;
-use sa_flat::FlatProgram;
-use sa_runtime::layout::FIRST_BODY;
+use sa_emit_value::{Program, function_of, held};
 use sqlite_items::Items;
 use std::alloc::Global;
 use std::mem;
 use wa_syntax::{Elem, Init, Limits, NoMemory};
 
 /// The table. Each module has one, since the runtime calls bound values through it.
-pub fn tables(alloc: Global, places: &Places) -> Result<Items<Limits>, NoMemory> {
+pub(crate) fn tables(alloc: Global, places: &Places) -> Result<Items<Limits>, NoMemory> {
     let size = sum(places.first, number(places.bodies.len())?)?;
     let table = Limits {
         min: size,
@@ -31,10 +28,9 @@ struct Filled {
 }
 
 /// The segments of the table: one for each run of neighbouring places.
-pub fn elements(
+pub(crate) fn elements(
     alloc: Global,
-    flat: &FlatProgram,
-    rows: &Rows,
+    program: Program<'_>,
     places: &Places,
 ) -> Result<Items<Elem>, NoMemory> {
     let mut filled = Filled {
@@ -42,8 +38,8 @@ pub fn elements(
         first: 0,
         funcs: Items::new(alloc),
     };
-    for sig in 0..rows.signatures() {
-        add_signature(alloc, &mut filled, flat, rows, sig)?;
+    for sig in 0..program.rows.signatures() {
+        add_signature(alloc, &mut filled, program, sig)?;
     }
     add_placed(alloc, &mut filled, places)?;
     filled.close(alloc)?;
@@ -59,15 +55,14 @@ pub fn elements(
 fn add_signature(
     alloc: Global,
     filled: &mut Filled,
-    flat: &FlatProgram,
-    rows: &Rows,
+    program: Program<'_>,
     sig: u32,
 ) -> Result<(), NoMemory> {
-    for ty in rows.types(sig) {
-        if let Some(place) = rows.place(sig, *ty) {
-            let row = held(rows.row(sig, *ty))?;
-            let body = *held(flat.targets.get(row as usize))?;
-            filled.add(alloc, place, sum(FIRST_BODY, body)?)?;
+    for ty in program.rows.types(sig) {
+        if let Some(place) = program.rows.place(sig, *ty) {
+            let row = held(program.rows.row(sig, *ty))?;
+            let body = program.body_of_row(row)?;
+            filled.add(alloc, place, function_of(body)?)?;
         }
     }
     Ok(())
@@ -77,7 +72,7 @@ fn add_signature(
 fn add_placed(alloc: Global, filled: &mut Filled, places: &Places) -> Result<(), NoMemory> {
     for (behind, body) in places.bodies.as_slice().iter().enumerate() {
         let place = sum(places.first, number(behind)?)?;
-        filled.add(alloc, place, sum(FIRST_BODY, *body)?)?;
+        filled.add(alloc, place, function_of(*body)?)?;
     }
     Ok(())
 }

@@ -12,7 +12,7 @@ use wa_syntax::{Init, NoMemory, Segment};
 const WORD: usize = 8;
 
 /// The segment of the texts, from this address on: none where there are no texts.
-pub fn segments(
+pub(crate) fn segments(
     alloc: Global,
     flat: &FlatProgram,
     texts_at: u32,

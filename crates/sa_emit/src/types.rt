@@ -5,19 +5,19 @@ use std::alloc::Global;
 use wa_syntax::{FuncTy, NoMemory, ValTy};
 
 /// The type of `put`.
-pub const PUT_TYPE: u32 = 0;
+pub(crate) const PUT_TYPE: u32 = 0;
 
 /// The type of `get`.
-pub const GET_TYPE: u32 = 1;
+pub(crate) const GET_TYPE: u32 = 1;
 
 /// The type of `stop`.
-pub const STOP_TYPE: u32 = 2;
+pub(crate) const STOP_TYPE: u32 = 2;
 
 /// The type of `main`. That of a body's function stands before it.
-pub const MAIN_TYPE: u32 = 4;
+pub(crate) const MAIN_TYPE: u32 = 4;
 
 /// The types up to that of `main`.
-pub fn own_types(alloc: Global) -> Result<Items<FuncTy>, NoMemory> {
+pub(crate) fn own_types(alloc: Global) -> Result<Items<FuncTy>, NoMemory> {
     let mut types = Items::new(alloc);
     types.push(func_type(alloc, &[ValTy::I32], &[])?)?;
     types.push(func_type(alloc, &[], &[ValTy::I32])?)?;

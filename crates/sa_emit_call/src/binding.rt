@@ -2,17 +2,19 @@
 //! receiver follows, and then the arguments that are kept. Where the receiver's class chooses what is called, its place in the
 //! table stands in the high half of the receiver's word, since the receiver is an address then.
 
-use crate::dispatch::{add_unreturned, target_of};
-use crate::entry::{entry_words, given};
+use crate::dispatch::{add_unreturned, chosen_body};
+use crate::entry::{entry_words, given, placed};
 use sa_dispatch::Span;
 use sa_emit_value::{
-    ADDRESS, ARGUMENTS, Around, DEPTH, STATUS, TypeSpan, add_answers, add_fail_if, add_handed,
-    add_if, add_if_else, add_span_test, add_type_of, add_void_test, add_widened, deeper, held,
-    spans_of,
+    ADDRESS, ARGUMENTS, Around, DEPTH, Handing, STATUS, TypeSpan, Widening, add_answers,
+    add_fail_if, add_handed, add_if, add_if_else, add_move, add_span_test, add_type_of,
+    add_void_test, add_widened, held, spans_of,
 };
 use sa_flat::{BindEntry, CallPlan, Callee, Fail, FlatArg};
 use sa_runtime::fault_numbers::NO_ROOM;
-use sa_runtime::layout::{ALLOCATE, BOUND, BOUND_CALL, RESULT, attribute_at, header};
+use sa_runtime::layout::{
+    ALLOCATE, BOUND, BOUND_CALL, HALF_BITS, RESULT, WIDENED_MARK, attribute_at, header,
+};
 use sa_runtime::line::{Op, add_line};
 use sqlite_items::Items;
 use std::alloc::Global;
@@ -22,10 +24,6 @@ use wa_syntax::opcode::{
 };
 use wa_syntax::{Instr, NoMemory, ValTy};
 
-/// What marks a value that was widened where its type in the signature is immutable: no value of such a type has this high
-/// half.
-const WIDENED_MARK: u64 = 0x1_0000_0000;
-
 /// A bound value of an entry.
 pub fn add_bind(
     alloc: Global,
@@ -33,18 +31,17 @@ pub fn add_bind(
     around: &Around<'_>,
     plan: &CallPlan,
     entry: u32,
-    inside: u32,
 ) -> Result<(), NoMemory> {
-    let at = held(around.entries.get(entry as usize).copied())?;
-    let entry = held(around.flat.binds.get(entry as usize))?;
+    let at = held(around.program.entries.get(entry as usize).copied())?;
+    let entry = held(around.program.flat.binds.get(entry as usize))?;
     if let Callee::Dispatch(sig) = entry.callee {
-        add_void_test(alloc, code, around, plan.recv, &plan.fail, inside)?;
-        if around.rows.types(sig).is_empty() {
+        add_void_test(alloc, code, around, plan.recv, &plan.fail)?;
+        if around.program.rows.types(sig).is_empty() {
             return add_line(code, &[Op::Do(UNREACHABLE)]);
         }
         add_choice(alloc, code, around, plan.recv, sig)?;
     }
-    add_object(alloc, code, around, plan, entry, at, inside)?;
+    add_object(alloc, code, around, plan, entry, at)?;
     add_receiver(code, around, plan.recv, entry)?;
     add_kept(code, around, plan.args.as_slice())?;
     add_entry(alloc, code, around, entry, at)?;
@@ -66,7 +63,7 @@ fn add_choice(
 ) -> Result<(), NoMemory> {
     add_type_of(code, around, recv)?;
     add_line(code, &[Op::Set(ADDRESS)])?;
-    match around.rows.span(sig) {
+    match around.program.rows.span(sig) {
         Some(span) => add_place_by_span(code, &span)?,
         None => add_place_by_tests(alloc, code, around, sig)?,
     }
@@ -86,9 +83,10 @@ fn add_place_by_tests(
     around: &Around<'_>,
     sig: u32,
 ) -> Result<(), NoMemory> {
+    let inner = around.further_in()?;
     let mut tests = Items::new(alloc);
-    for ty in around.rows.types(sig) {
-        add_place_test(alloc, &mut tests, around, sig, *ty)?;
+    for ty in around.program.rows.types(sig) {
+        add_place_test(alloc, &mut tests, &inner, sig, *ty)?;
     }
     add_line(&mut tests, &[Op::Do(UNREACHABLE)])?;
     code.push(Instr::Block(Some(ValTy::I32), tests))?;
@@ -103,8 +101,7 @@ fn add_place_test(
     sig: u32,
     ty: u32,
 ) -> Result<(), NoMemory> {
-    let target = target_of(around, sig, ty)?;
-    let place = held(around.places.get(target as usize).copied())?;
+    let place = placed(around, chosen_body(around, sig, ty)?)?;
     let mut found = Items::new(alloc);
     add_line(&mut found, &[Op::I32(place), Op::Br(1)])?;
     add_line(code, &[Op::Get(ADDRESS), Op::I32(ty), Op::Do(I32_EQ)])?;
@@ -119,7 +116,6 @@ fn add_object(
     plan: &CallPlan,
     entry: &BindEntry,
     at: u32,
-    inside: u32,
 ) -> Result<(), NoMemory> {
     let size = attribute_at(given(entry.open.as_slice()).saturating_add(1));
     let line = [
@@ -130,7 +126,7 @@ fn add_object(
         Op::Do(I32_EQZ),
     ];
     add_line(code, &line)?;
-    add_fail_if(alloc, code, around, Op::I32(NO_ROOM), &plan.fail, inside)
+    add_fail_if(alloc, code, around, Op::I32(NO_ROOM), &plan.fail)
 }
 
 /// Adds what keeps the receiver, with the place of what its class chose.
@@ -145,7 +141,7 @@ fn add_receiver(
         let line = [
             Op::Get(STATUS),
             Op::Do(I64_EXTEND_I32_U),
-            Op::I64(32),
+            Op::I64(HALF_BITS),
             Op::Do(I64_SHL),
             Op::Do(I64_OR),
         ];
@@ -199,18 +195,17 @@ fn add_entry(
 }
 
 /// A call of a bound value. One of a signature with more arguments than a feature has is of void alone.
-pub fn add_bound_call(
+pub(crate) fn add_bound_call(
     alloc: Global,
     code: &mut Items<Instr>,
     around: &Around<'_>,
     plan: &CallPlan,
-    inside: u32,
 ) -> Result<(), NoMemory> {
-    add_void_test(alloc, code, around, plan.recv, &plan.fail, inside)?;
+    add_void_test(alloc, code, around, plan.recv, &plan.fail)?;
     if plan.args.len() > ARGUMENTS {
         return add_line(code, &[Op::Do(UNREACHABLE)]);
     }
-    add_handed(code, around.body, plan.args.as_slice(), true)?;
+    add_handed(code, around.body, plan.args.as_slice(), Handing::AtStart)?;
     let line = [
         Op::Get(DEPTH),
         Op::I32(0),
@@ -220,42 +215,37 @@ pub fn add_bound_call(
         Op::Tee(STATUS),
     ];
     add_line(code, &line)?;
+    let inner = around.further_in()?;
     let mut unreturned = Items::new(alloc);
-    add_unreturned(alloc, &mut unreturned, around, &plan.fail, deeper(inside)?)?;
+    add_unreturned(alloc, &mut unreturned, &inner, &plan.fail)?;
     add_if(alloc, code, unreturned)?;
     add_answers(code, around.body, plan.value, plan.args.as_slice())
 }
 
-/// The value that a bind keeps for an argument: widened where the class of `recv` is one of `types`, which rise.
+/// The receiver of a bind, and the types of its class, rising, with which a given value is widened.
+#[derive(Clone, Copy)]
+pub struct Takers<'a> {
+    pub recv: u32,
+    pub types: &'a [u32],
+}
+
+/// The value that a bind keeps for an argument: widened where the class of the receiver takes it so, else as it is.
 pub fn add_widen_for(
     alloc: Global,
     code: &mut Items<Instr>,
     around: &Around<'_>,
-    to: u32,
-    from: u32,
-    ty: u32,
-    recv: u32,
-    types: &[u32],
+    widening: Widening,
+    takers: Takers<'_>,
     fail: &Fail,
-    inside: u32,
 ) -> Result<(), NoMemory> {
-    add_type_of(code, around, recv)?;
+    add_type_of(code, around, takers.recv)?;
     add_line(code, &[Op::Set(ADDRESS), Op::I32(0)])?;
-    add_any_span(code, spans_of(alloc, types)?.as_slice())?;
+    add_any_span(code, spans_of(alloc, takers.types)?.as_slice())?;
+    let inner = around.further_in()?;
     let mut widened = Items::new(alloc);
-    add_marked(
-        alloc,
-        &mut widened,
-        around,
-        to,
-        from,
-        ty,
-        fail,
-        deeper(inside)?,
-    )?;
+    add_marked(alloc, &mut widened, &inner, widening, fail)?;
     let mut same = Items::new(alloc);
-    let line = [Op::Get(around.local(from)), Op::Set(around.local(to))];
-    add_line(&mut same, &line)?;
+    add_move(&mut same, &inner, widening.to, widening.from)?;
     add_if_else(code, widened, same)
 }
 
@@ -273,19 +263,16 @@ fn add_marked(
     alloc: Global,
     code: &mut Items<Instr>,
     around: &Around<'_>,
-    to: u32,
-    from: u32,
-    ty: u32,
+    widening: Widening,
     fail: &Fail,
-    inside: u32,
 ) -> Result<(), NoMemory> {
-    add_widened(code, around, from, ty)?;
-    add_fail_if(alloc, code, around, Op::Get(STATUS), fail, inside)?;
+    add_widened(code, around, widening.from, widening.ty)?;
+    add_fail_if(alloc, code, around, Op::Get(STATUS), fail)?;
     let line = [
         Op::GetGlobal(RESULT),
         Op::I64(WIDENED_MARK),
         Op::Do(I64_OR),
-        Op::Set(around.local(to)),
+        Op::Set(around.local(widening.to)),
     ];
     add_line(code, &line)
 }

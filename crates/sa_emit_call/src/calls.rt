@@ -4,11 +4,11 @@ use crate::binding::add_bound_call;
 use crate::dispatch::add_dispatch;
 use sa_emit_value::{
     Around, DEPTH, add_answers, add_arguments, add_builtin, add_fail_if, add_get, add_get_shared,
-    add_if, add_raise, add_set, add_set_shared, deeper, held,
+    add_if, add_raise, add_set, add_set_shared, function_of,
 };
 use sa_flat::{CallPlan, Callee, Fail};
 use sa_runtime::fault_numbers::TOO_DEEP;
-use sa_runtime::layout::{BODY_TYPE, FIRST_BODY, GREATEST_DEPTH};
+use sa_runtime::layout::{BODY_TYPE, GREATEST_DEPTH};
 use sa_runtime::line::{Op, add_line};
 use sqlite_items::Items;
 use std::alloc::Global;
@@ -21,17 +21,16 @@ pub fn add_call(
     code: &mut Items<Instr>,
     around: &Around<'_>,
     plan: &CallPlan,
-    inside: u32,
 ) -> Result<(), NoMemory> {
     match plan.callee {
-        Callee::Body(body) => add_body_call(alloc, code, around, plan, body, inside),
-        Callee::Builtin(number) => add_builtin(alloc, code, around, plan, number, inside),
-        Callee::Get(place) => add_get(alloc, code, around, plan, place, inside),
-        Callee::Set(place) => add_set(alloc, code, around, plan, place, inside),
+        Callee::Body(body) => add_body_call(alloc, code, around, plan, body),
+        Callee::Builtin(number) => add_builtin(alloc, code, around, plan, number),
+        Callee::Get(place) => add_get(alloc, code, around, plan, place),
+        Callee::Set(place) => add_set(alloc, code, around, plan, place),
         Callee::GetShared(shared) => add_get_shared(code, around, plan, shared),
         Callee::SetShared(shared) => add_set_shared(code, around, plan, shared),
-        Callee::Dispatch(sig) => add_dispatch(alloc, code, around, plan, sig, inside),
-        Callee::Bound => add_bound_call(alloc, code, around, plan, inside),
+        Callee::Dispatch(sig) => add_dispatch(alloc, code, around, plan, sig),
+        Callee::Bound => add_bound_call(alloc, code, around, plan),
     }
 }
 
@@ -42,15 +41,15 @@ fn add_body_call(
     around: &Around<'_>,
     plan: &CallPlan,
     body: u32,
-    inside: u32,
 ) -> Result<(), NoMemory> {
     let func = function_of(body)?;
-    add_depth_test(alloc, code, around, &plan.fail, inside)?;
+    add_depth_test(alloc, code, around, &plan.fail)?;
     add_arguments(code, around.body, plan)?;
     add_deeper(code, Op::I32(0))?;
     add_line(code, &[Op::Call(func)])?;
+    let inner = around.further_in()?;
     let mut raised = Items::new(alloc);
-    add_raise(&mut raised, around, &plan.fail.raised, deeper(inside)?)?;
+    add_raise(&mut raised, &inner, &plan.fail.raised)?;
     add_if(alloc, code, raised)?;
     add_answers(code, around.body, plan.value, plan.args.as_slice())
 }
@@ -61,10 +60,9 @@ pub fn add_depth_test(
     code: &mut Items<Instr>,
     around: &Around<'_>,
     fail: &Fail,
-    inside: u32,
 ) -> Result<(), NoMemory> {
     add_too_deep(code)?;
-    add_fail_if(alloc, code, around, Op::I32(TOO_DEEP), fail, inside)
+    add_fail_if(alloc, code, around, Op::I32(TOO_DEEP), fail)
 }
 
 /// Adds the test whether an activation would nest too deep, as an operand.
@@ -81,16 +79,11 @@ pub fn add_deeper(code: &mut Items<Instr>, frame: Op) -> Result<(), NoMemory> {
 
 /// Adds the depth of this activation and a frame, as operands of a body that was made for an implementation alone, which is
 /// no activation. `frame` reads the frame.
-pub fn add_as_deep(code: &mut Items<Instr>, frame: Op) -> Result<(), NoMemory> {
+pub(crate) fn add_as_deep(code: &mut Items<Instr>, frame: Op) -> Result<(), NoMemory> {
     add_line(code, &[Op::Get(DEPTH), frame])
 }
 
-/// The function of a body.
-pub fn function_of(body: u32) -> Result<u32, NoMemory> {
-    held(body.checked_add(FIRST_BODY))
-}
-
 /// Adds a call through the table of the function whose place is the operand.
-pub fn add_indirect_call(code: &mut Items<Instr>) -> Result<(), NoMemory> {
+pub(crate) fn add_indirect_call(code: &mut Items<Instr>) -> Result<(), NoMemory> {
     add_line(code, &[Op::CallIndirect(BODY_TYPE)])
 }

@@ -1,13 +1,13 @@
 //! Calls of the implementation of a signature by the receiver's class.
 //!
-//! A signature is plain where its implementations are bodies of features. Else each is a body that was made for it alone:
-//! that one is no activation, so no depth is tested before it, and it hands its faults on.
+//! The implementations of a signature are bodies of features, or each is a body that was made for it alone: that one is no
+//! activation, so no depth is tested before it, and it hands its faults on.
 
-use crate::calls::{add_as_deep, add_deeper, add_depth_test, add_indirect_call, function_of};
+use crate::calls::{add_as_deep, add_deeper, add_depth_test, add_indirect_call};
 use sa_dispatch::Span;
 use sa_emit_value::{
     ADDRESS, Around, STATUS, add_answers, add_arguments, add_fail_if, add_if, add_raise,
-    add_type_of, add_void_test, deeper, held,
+    add_type_of, add_void_test, function_of, held,
 };
 use sa_flat::{CallPlan, Fail};
 use sa_runtime::layout::{FAULT_KIND, HANDED_ON};
@@ -26,82 +26,102 @@ pub enum Class {
     InAddress,
 }
 
+/// What the implementations of a signature are. They are alike in this.
+#[derive(Clone, Copy, Debug, PartialEq, Eq)]
+pub enum Implementations {
+    /// Bodies of features: a call of one is an activation.
+    Features,
+    /// Bodies that were made for the implementations alone: a call of one is no activation, and hands its faults on.
+    Made,
+}
+
+/// A choice among the implementations of a signature by a class.
+#[derive(Clone, Copy)]
+pub struct Choice {
+    pub class: Class,
+    pub sig: u32,
+    pub implementations: Implementations,
+}
+
 /// A dispatched call.
-pub fn add_dispatch(
+pub(crate) fn add_dispatch(
     alloc: Global,
     code: &mut Items<Instr>,
     around: &Around<'_>,
     plan: &CallPlan,
     sig: u32,
-    inside: u32,
 ) -> Result<(), NoMemory> {
-    add_void_test(alloc, code, around, plan.recv, &plan.fail, inside)?;
-    if around.rows.types(sig).is_empty() {
+    add_void_test(alloc, code, around, plan.recv, &plan.fail)?;
+    if around.program.rows.types(sig).is_empty() {
         return add_line(code, &[Op::Do(UNREACHABLE)]);
     }
-    if is_plain(around, sig)? {
-        add_plain(alloc, code, around, plan, sig, inside)
-    } else {
-        add_mixed(alloc, code, around, plan, sig, inside)
+    let choice = Choice {
+        class: Class::Of(plan.recv),
+        sig,
+        implementations: implementations_of(around, sig)?,
+    };
+    match choice.implementations {
+        Implementations::Features => add_of_feature(alloc, code, around, plan, choice),
+        Implementations::Made => add_of_made(alloc, code, around, plan, choice),
     }
 }
 
-/// Whether the implementations of a signature are bodies of features. They are alike in this, so the first one tells.
-pub fn is_plain(around: &Around<'_>, sig: u32) -> Result<bool, NoMemory> {
-    let first = held(around.rows.first(sig))?;
-    let target = held(around.flat.targets.get(first as usize).copied())?;
-    let body = held(around.flat.bodies.get(target as usize))?;
-    Ok(body.feature.is_some())
+/// What the implementations of a signature are: the first one tells.
+pub fn implementations_of(around: &Around<'_>, sig: u32) -> Result<Implementations, NoMemory> {
+    let first = held(around.program.rows.first(sig))?;
+    let number = around.program.body_of_row(first)?;
+    let body = around.program.body(number)?;
+    match body.feature {
+        Some(_) => Ok(Implementations::Features),
+        None => Ok(Implementations::Made),
+    }
 }
 
 /// A call of one of the bodies of features.
-fn add_plain(
+fn add_of_feature(
     alloc: Global,
     code: &mut Items<Instr>,
     around: &Around<'_>,
     plan: &CallPlan,
-    sig: u32,
-    inside: u32,
+    choice: Choice,
 ) -> Result<(), NoMemory> {
-    let class = Class::Of(plan.recv);
-    add_depth_test(alloc, code, around, &plan.fail, inside)?;
+    add_depth_test(alloc, code, around, &plan.fail)?;
     add_arguments(code, around.body, plan)?;
-    add_chosen(alloc, code, around, class, sig, true, Op::I32(0))?;
+    add_chosen(alloc, code, around, choice, Op::I32(0))?;
+    let inner = around.further_in()?;
     let mut raised = Items::new(alloc);
-    add_raise(&mut raised, around, &plan.fail.raised, deeper(inside)?)?;
+    add_raise(&mut raised, &inner, &plan.fail.raised)?;
     add_if(alloc, code, raised)?;
     add_answers(code, around.body, plan.value, plan.args.as_slice())
 }
 
 /// A call of one of the bodies that were made for the implementations alone.
-fn add_mixed(
+fn add_of_made(
     alloc: Global,
     code: &mut Items<Instr>,
     around: &Around<'_>,
     plan: &CallPlan,
-    sig: u32,
-    inside: u32,
+    choice: Choice,
 ) -> Result<(), NoMemory> {
-    let class = Class::Of(plan.recv);
     add_arguments(code, around.body, plan)?;
-    add_chosen(alloc, code, around, class, sig, false, Op::I32(0))?;
+    add_chosen(alloc, code, around, choice, Op::I32(0))?;
     add_line(code, &[Op::Tee(STATUS)])?;
+    let inner = around.further_in()?;
     let mut unreturned = Items::new(alloc);
-    add_unreturned(alloc, &mut unreturned, around, &plan.fail, deeper(inside)?)?;
+    add_unreturned(alloc, &mut unreturned, &inner, &plan.fail)?;
     add_if(alloc, code, unreturned)?;
     add_answers(code, around.body, plan.value, plan.args.as_slice())
 }
 
 /// Adds what follows a body that didn't return, by the status in the local: a fault that it hands on, or a raise.
-pub fn add_unreturned(
+pub(crate) fn add_unreturned(
     alloc: Global,
     code: &mut Items<Instr>,
     around: &Around<'_>,
     fail: &Fail,
-    inside: u32,
 ) -> Result<(), NoMemory> {
-    add_handed_on_fault(alloc, code, around, fail, inside)?;
-    add_raise(code, around, &fail.raised, inside)
+    add_handed_on_fault(alloc, code, around, fail)?;
+    add_raise(code, around, &fail.raised)
 }
 
 /// Adds the fault that a body hands on, where the status in the local says so.
@@ -110,27 +130,24 @@ pub fn add_handed_on_fault(
     code: &mut Items<Instr>,
     around: &Around<'_>,
     fail: &Fail,
-    inside: u32,
 ) -> Result<(), NoMemory> {
     let line = [Op::Get(STATUS), Op::I32(HANDED_ON), Op::Do(I32_EQ)];
     add_line(code, &line)?;
-    add_fail_if(alloc, code, around, Op::GetGlobal(FAULT_KIND), fail, inside)
+    add_fail_if(alloc, code, around, Op::GetGlobal(FAULT_KIND), fail)
 }
 
-/// Adds the call of the implementation for a class, which leaves its status as an operand. `frame` reads the frame that it is
+/// Adds the call of the implementation that is chosen, which leaves its status as an operand. `frame` reads the frame that it is
 /// handed.
 pub fn add_chosen(
     alloc: Global,
     code: &mut Items<Instr>,
     around: &Around<'_>,
-    class: Class,
-    sig: u32,
-    plain: bool,
+    choice: Choice,
     frame: Op,
 ) -> Result<(), NoMemory> {
-    match around.rows.span(sig) {
-        Some(span) => add_by_table(code, around, class, &span, plain, frame),
-        None => add_by_tests(alloc, code, around, class, sig, plain, frame),
+    match around.program.rows.span(choice.sig) {
+        Some(span) => add_by_table(code, around, choice, &span, frame),
+        None => add_by_tests(alloc, code, around, choice, frame),
     }
 }
 
@@ -138,13 +155,12 @@ pub fn add_chosen(
 fn add_by_table(
     code: &mut Items<Instr>,
     around: &Around<'_>,
-    class: Class,
+    choice: Choice,
     span: &Span,
-    plain: bool,
     frame: Op,
 ) -> Result<(), NoMemory> {
-    add_depth_and_frame(code, plain, frame)?;
-    add_class(code, around, class)?;
+    add_depth_and_frame(code, choice.implementations, frame)?;
+    add_class(code, around, choice.class)?;
     let before = span.first.wrapping_sub(span.least);
     add_line(code, &[Op::I32(before), Op::Do(I32_ADD)])?;
     add_indirect_call(code)
@@ -155,15 +171,14 @@ fn add_by_tests(
     alloc: Global,
     code: &mut Items<Instr>,
     around: &Around<'_>,
-    class: Class,
-    sig: u32,
-    plain: bool,
+    choice: Choice,
     frame: Op,
 ) -> Result<(), NoMemory> {
-    add_class_in_address(code, around, class)?;
+    add_class_in_address(code, around, choice.class)?;
+    let inner = around.further_in()?;
     let mut tests = Items::new(alloc);
-    for ty in around.rows.types(sig) {
-        add_test(alloc, &mut tests, around, sig, *ty, plain, frame)?;
+    for ty in around.program.rows.types(choice.sig) {
+        add_test(alloc, &mut tests, &inner, choice, *ty, frame)?;
     }
     add_line(&mut tests, &[Op::Do(UNREACHABLE)])?;
     code.push(Instr::Block(Some(ValTy::I32), tests))?;
@@ -175,23 +190,22 @@ fn add_test(
     alloc: Global,
     code: &mut Items<Instr>,
     around: &Around<'_>,
-    sig: u32,
+    choice: Choice,
     ty: u32,
-    plain: bool,
     frame: Op,
 ) -> Result<(), NoMemory> {
-    let func = function_of(target_of(around, sig, ty)?)?;
+    let func = function_of(chosen_body(around, choice.sig, ty)?)?;
     let mut call = Items::new(alloc);
-    add_depth_and_frame(&mut call, plain, frame)?;
+    add_depth_and_frame(&mut call, choice.implementations, frame)?;
     add_line(&mut call, &[Op::Call(func), Op::Br(1)])?;
     add_line(code, &[Op::Get(ADDRESS), Op::I32(ty), Op::Do(I32_EQ)])?;
     add_if(alloc, code, call)
 }
 
 /// The body that does a signature's implementation for a class.
-pub fn target_of(around: &Around<'_>, sig: u32, ty: u32) -> Result<u32, NoMemory> {
-    let row = held(around.rows.row(sig, ty))?;
-    held(around.flat.targets.get(row as usize).copied())
+pub(crate) fn chosen_body(around: &Around<'_>, sig: u32, ty: u32) -> Result<u32, NoMemory> {
+    let row = held(around.program.rows.row(sig, ty))?;
+    around.program.body_of_row(row)
 }
 
 /// Adds the number of the class, as an operand.
@@ -218,10 +232,13 @@ fn add_class_in_address(
 }
 
 /// Adds the depth and the frame that an implementation gets, as operands.
-fn add_depth_and_frame(code: &mut Items<Instr>, plain: bool, frame: Op) -> Result<(), NoMemory> {
-    if plain {
-        add_deeper(code, frame)
-    } else {
-        add_as_deep(code, frame)
+fn add_depth_and_frame(
+    code: &mut Items<Instr>,
+    implementations: Implementations,
+    frame: Op,
+) -> Result<(), NoMemory> {
+    match implementations {
+        Implementations::Features => add_deeper(code, frame),
+        Implementations::Made => add_as_deep(code, frame),
     }
 }

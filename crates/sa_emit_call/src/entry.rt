@@ -1,7 +1,7 @@
 //! The words of a bind, which the call of its values reads: what is called, and which arguments the values keep.
 
-use crate::dispatch::is_plain;
-use sa_emit_value::{Around, NOT_PLACED, held, is_immutable, shared_at};
+use crate::dispatch::{Implementations, implementations_of};
+use sa_emit_value::{Around, held, is_immutable, shared_at};
 use sa_flat::{BindEntry, Callee};
 use sa_prelude::BuiltinFeature;
 use sa_runtime::layout::{
@@ -30,7 +30,7 @@ struct Called {
 /// # Errors
 ///
 /// `NoMemory`, also where a number of the entry is out of range.
-pub fn entry_words(
+pub(crate) fn entry_words(
     alloc: Global,
     around: &Around<'_>,
     entry: &BindEntry,
@@ -63,7 +63,7 @@ fn open_word(open: &[bool]) -> u64 {
 }
 
 /// How many arguments aren't open.
-pub fn given(open: &[bool]) -> u32 {
+pub(crate) fn given(open: &[bool]) -> u32 {
     let mut count = 0u32;
     for is_open in open {
         if !*is_open {
@@ -102,10 +102,7 @@ fn of_kind(kind: u32, number: u32) -> Called {
 
 /// The body of a feature, by its place in the table.
 fn body_called(around: &Around<'_>, body: u32) -> Result<Called, NoMemory> {
-    let place = held(around.places.get(body as usize).copied())?;
-    if place == NOT_PLACED {
-        return held(None);
-    }
+    let place = placed(around, body)?;
     let kind = if is_iter(around, body)? {
         ITER
     } else {
@@ -114,24 +111,31 @@ fn body_called(around: &Around<'_>, body: u32) -> Result<Called, NoMemory> {
     Ok(of_kind(kind, place))
 }
 
+/// The place of a body in the table. The answer is `NoMemory` where no bind calls it through the table.
+pub(crate) fn placed(around: &Around<'_>, body: u32) -> Result<u32, NoMemory> {
+    let place = held(around.program.places.get(body as usize).copied())?;
+    held(place)
+}
+
 /// The form of what the receiver's class chooses. The implementations of a signature are alike in it, so the first one tells.
 /// Where there is none, no value is made.
 fn chosen_kind(around: &Around<'_>, sig: u32) -> Result<u32, NoMemory> {
-    let Some(first) = around.rows.first(sig) else {
+    let Some(first) = around.program.rows.first(sig) else {
         return Ok(CHOSEN_ROUTINE);
     };
-    if !is_plain(around, sig)? {
+    if implementations_of(around, sig)? == Implementations::Made {
         return Ok(CHOSEN_MADE);
     }
-    let target = held(around.flat.targets.get(first as usize).copied())?;
-    if is_iter(around, target)? {
+    let number = around.program.body_of_row(first)?;
+    if is_iter(around, number)? {
         return Ok(CHOSEN_ITER);
     }
     Ok(CHOSEN_ROUTINE)
 }
 
-fn is_iter(around: &Around<'_>, body: u32) -> Result<bool, NoMemory> {
-    Ok(held(around.flat.bodies.get(body as usize))?.iter)
+fn is_iter(around: &Around<'_>, number: u32) -> Result<bool, NoMemory> {
+    let body = around.program.body(number)?;
+    Ok(body.iter)
 }
 
 /// One form for objects, and another for immutable values.

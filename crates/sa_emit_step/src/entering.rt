@@ -2,9 +2,12 @@
 //! instance at a start, hands it out, and runs the iter's body on it, at the depth of its caller.
 
 use crate::frames::{add_frame_self, add_is_frame};
-use crate::outcome::{add_is_raised, add_is_suspended, add_quit};
-use sa_emit_call::{add_deeper, add_too_deep, function_of};
-use sa_emit_value::{Around, FRAME, add_answers, add_handed, add_handed_on, add_if, add_if_else};
+use crate::outcome::{Instance, add_is_raised, add_is_suspended, add_quit};
+use sa_emit_call::{add_deeper, add_too_deep};
+use sa_emit_value::{
+    Around, FRAME, Handing, add_answers, add_handed, add_handed_on, add_if, add_if_else,
+    function_of,
+};
 use sa_flat::FlatArg;
 use sa_runtime::fault_numbers::{TOO_DEEP, TOO_MANY_FRAMES};
 use sa_runtime::layout::{END_FRAME, FRAME_OUT, NEW_FRAME, RAISED};
@@ -15,7 +18,7 @@ use wa_syntax::opcode::{I32_EQZ, RETURN};
 use wa_syntax::{Instr, NoMemory};
 
 /// Whether the instance has a frame already.
-pub fn add_has_frame(
+pub(crate) fn add_has_frame(
     code: &mut Items<Instr>,
     around: &Around<'_>,
     to: u32,
@@ -23,26 +26,38 @@ pub fn add_has_frame(
     add_is_frame(code, around, to, FRAME)
 }
 
+/// The step that takes the frame of the instance at a start, and runs the iter's body on it.
+#[derive(Clone, Copy)]
+pub(crate) struct Entering<'a> {
+    pub body: u32,
+    /// The variable with the instance's own object.
+    pub recv: u32,
+    pub args: &'a [FlatArg],
+    /// The variable that gets what is yielded.
+    pub value: Option<u32>,
+    /// The variable that tells afterwards whether the instance has ended.
+    pub quit: u32,
+}
+
 /// Takes the frame of the instance at a start, and runs the iter's body on it.
-pub fn add_enter(
+pub(crate) fn add_enter(
     alloc: Global,
     code: &mut Items<Instr>,
     around: &Around<'_>,
-    body: u32,
-    recv: u32,
-    args: &[FlatArg],
-    value: Option<u32>,
-    quit: u32,
+    entering: &Entering<'_>,
 ) -> Result<(), NoMemory> {
-    let func = function_of(body)?;
+    let func = function_of(entering.body)?;
     add_too_deep(code)?;
     add_handed_on_if(alloc, code, TOO_DEEP)?;
-    add_frame(alloc, code, around, recv)?;
-    add_handed(code, around.body, args, true)?;
+    add_frame(alloc, code, around, entering.recv)?;
+    add_handed(code, around.body, entering.args, Handing::AtStart)?;
     add_deeper(code, Op::Get(FRAME))?;
     add_line(code, &[Op::Call(func)])?;
-    let suspended = suspended(alloc, around, args, value, quit)?;
-    let ended = ended(alloc, around, quit)?;
+    let inner = around.further_in()?;
+    let mut suspended = Items::new(alloc);
+    add_suspended(&mut suspended, &inner, entering)?;
+    let mut ended = Items::new(alloc);
+    add_ended(alloc, &mut ended, &inner, entering.quit)?;
     add_is_suspended(code)?;
     add_if_else(code, suspended, ended)
 }
@@ -61,38 +76,38 @@ fn add_frame(
     around: &Around<'_>,
     recv: u32,
 ) -> Result<(), NoMemory> {
+    let inner = around.further_in()?;
     let mut start = Items::new(alloc);
     let line = [Op::Call(NEW_FRAME), Op::Tee(FRAME), Op::Do(I32_EQZ)];
     add_line(&mut start, &line)?;
     add_handed_on_if(alloc, &mut start, TOO_MANY_FRAMES)?;
-    add_frame_self(&mut start, around, FRAME, recv)?;
+    add_frame_self(&mut start, &inner, FRAME, recv)?;
     add_line(code, &[Op::Get(FRAME), Op::Do(I32_EQZ)])?;
     add_if(alloc, code, start)
 }
 
-/// What follows a suspension: the frame goes to the site.
-fn suspended(
-    alloc: Global,
+/// Adds what follows a suspension: the frame goes to the site.
+fn add_suspended(
+    code: &mut Items<Instr>,
     around: &Around<'_>,
-    args: &[FlatArg],
-    value: Option<u32>,
-    quit: u32,
-) -> Result<Items<Instr>, NoMemory> {
-    let mut code = Items::new(alloc);
-    add_line(&mut code, &[Op::Get(FRAME), Op::SetGlobal(FRAME_OUT)])?;
-    add_answers(&mut code, around.body, value, args)?;
-    add_quit(&mut code, around, quit, false)?;
-    Ok(code)
+    entering: &Entering<'_>,
+) -> Result<(), NoMemory> {
+    add_line(code, &[Op::Get(FRAME), Op::SetGlobal(FRAME_OUT)])?;
+    add_answers(code, around.body, entering.value, entering.args)?;
+    add_quit(code, around, entering.quit, Instance::Suspended)
 }
 
-/// What follows the end of the instance: a raise goes to the caller.
-fn ended(alloc: Global, around: &Around<'_>, quit: u32) -> Result<Items<Instr>, NoMemory> {
-    let mut code = Items::new(alloc);
-    add_line(&mut code, &[Op::Get(FRAME), Op::Call(END_FRAME)])?;
+/// Adds what follows the end of the instance: a raise goes to the caller.
+fn add_ended(
+    alloc: Global,
+    code: &mut Items<Instr>,
+    around: &Around<'_>,
+    quit: u32,
+) -> Result<(), NoMemory> {
+    add_line(code, &[Op::Get(FRAME), Op::Call(END_FRAME)])?;
     let mut raise = Items::new(alloc);
     add_line(&mut raise, &[Op::I32(RAISED), Op::Do(RETURN)])?;
-    add_is_raised(&mut code)?;
-    add_if(alloc, &mut code, raise)?;
-    add_quit(&mut code, around, quit, true)?;
-    Ok(code)
+    add_is_raised(code)?;
+    add_if(alloc, code, raise)?;
+    add_quit(code, around, quit, Instance::Ended)
 }

@@ -12,7 +12,7 @@ use wa_syntax::opcode::{I32_EQZ, I32_NE, I64_EXTEND_I32_U, I64_STORE};
 use wa_syntax::{Instr, NoMemory};
 
 /// Whether a site has an instance.
-pub fn add_has_entry(
+pub(crate) fn add_has_entry(
     code: &mut Items<Instr>,
     around: &Around<'_>,
     to: u32,
@@ -22,7 +22,7 @@ pub fn add_has_entry(
 }
 
 /// Adds what tells whether a local holds the address of a frame.
-pub fn add_is_frame(
+pub(crate) fn add_is_frame(
     code: &mut Items<Instr>,
     around: &Around<'_>,
     to: u32,
@@ -39,7 +39,7 @@ pub fn add_is_frame(
 }
 
 /// Ends the instances of sites in this order, with those inside them.
-pub fn add_release(
+pub(crate) fn add_release(
     alloc: Global,
     code: &mut Items<Instr>,
     around: &Around<'_>,
@@ -65,23 +65,22 @@ fn add_release_of(alloc: Global, code: &mut Items<Instr>, frame: u32) -> Result<
 }
 
 /// Adds the faults of a start of the body of a feature, and what takes the frame of the instance and puts its own object there.
-pub fn add_new_frame(
+pub(crate) fn add_new_frame(
     alloc: Global,
     code: &mut Items<Instr>,
     around: &Around<'_>,
     site: &Site<'_>,
-    inside: u32,
 ) -> Result<(), NoMemory> {
     let fail = &site.plan.fail;
-    add_depth_test(alloc, code, around, fail, inside)?;
+    add_depth_test(alloc, code, around, fail)?;
     let line = [Op::Call(NEW_FRAME), Op::Tee(site.frame), Op::Do(I32_EQZ)];
     add_line(code, &line)?;
-    add_fail_if(alloc, code, around, Op::I32(TOO_MANY_FRAMES), fail, inside)?;
+    add_fail_if(alloc, code, around, Op::I32(TOO_MANY_FRAMES), fail)?;
     add_frame_self(code, around, site.frame, site.plan.recv)
 }
 
 /// Adds what puts the own object of an instance into its frame.
-pub fn add_frame_self(
+pub(crate) fn add_frame_self(
     code: &mut Items<Instr>,
     around: &Around<'_>,
     frame: u32,

@@ -11,7 +11,7 @@ use sqlite_items::Items;
 use wa_syntax::opcode::{I32_WRAP_I64, RETURN};
 use wa_syntax::{Instr, NoMemory};
 
-/// Adds an exit that leaves the body, or a fault. `inside` is the number of the label of the dispatch.
+/// Adds an exit that leaves the body, or a fault.
 ///
 /// # Errors
 ///
@@ -20,7 +20,6 @@ pub fn add_leaving(
     code: &mut Items<Instr>,
     around: &Around<'_>,
     exit: &FlatExit,
-    inside: u32,
 ) -> Result<(), NoMemory> {
     match exit {
         FlatExit::Return { value } => add_return(code, around, *value),
@@ -28,10 +27,8 @@ pub fn add_leaving(
         FlatExit::Raise { value, place, kind } => {
             add_raise_out(code, around, *value, *place, *kind)
         }
-        FlatExit::Stop { kind, fail } => {
-            add_fail(code, around, Op::I32(u32::from(*kind)), fail, inside)
-        }
-        FlatExit::Suspend { value, resume } => add_suspend(code, around, *value, *resume, inside),
+        FlatExit::Stop { kind, fail } => { add_fail(code, around, Op::I32(u32::from(*kind)), fail) }
+        FlatExit::Suspend { value, resume } => add_suspend(code, around, *value, *resume),
         FlatExit::Jump(_) => Err(stays()),
         FlatExit::Branch { .. } => Err(stays()),
     }
@@ -66,7 +63,7 @@ fn add_returned(
     match around.role {
         Role::Last => add_line(code, &[Op::I64(0), Op::SetGlobal(RESULT)]),
         Role::Feature => Ok(()),
-        Role::Target => Ok(()),
+        Role::Made => Ok(()),
     }
 }
 

@@ -4,7 +4,7 @@
 //! calls. The local of the site is cleared before a raise goes on, so that what ends the instances of the loop finds none there.
 
 use sa_emit_call::add_handed_on_fault;
-use sa_emit_value::{ADDRESS, Around, STATUS, add_answers, add_if, add_if_else, add_raise, deeper};
+use sa_emit_value::{ADDRESS, Around, STATUS, add_answers, add_if, add_if_else, add_raise};
 use sa_flat::{CallPlan, Raised};
 use sa_runtime::layout::{CALLED_AT, END_FRAME, FRAME_OUT, RAISED, SITE_AT, SUSPENDED};
 use sa_runtime::line::{Op, add_line};
@@ -15,7 +15,7 @@ use wa_syntax::{Instr, NoMemory};
 
 /// A site as a start or a resumption names it.
 #[derive(Clone, Copy)]
-pub struct Site<'a> {
+pub(crate) struct Site<'a> {
     pub number: u32,
     /// The local with the frame of its instance.
     pub frame: u32,
@@ -26,54 +26,61 @@ pub struct Site<'a> {
 
 /// What a site calls.
 #[derive(Clone, Copy)]
-pub enum Called {
+pub(crate) enum Called {
     /// The body of a feature.
     Body,
     /// The body of a feature that the class in `ADDRESS` chooses.
-    Plain,
+    Feature,
     /// A body that was made for an implementation alone, which the class in `ADDRESS` chooses.
-    Mixed,
+    Made,
     /// A bound value.
     Bound,
+}
+
+/// What has become of an instance by a start or a resumption.
+#[derive(Clone, Copy, Debug, PartialEq, Eq)]
+pub(crate) enum Instance {
+    Suspended,
+    Ended,
 }
 
 /// Whether the site itself takes the frame of the instance and gives it back.
 fn keeps_frame(called: Called) -> bool {
     match called {
         Called::Body => true,
-        Called::Plain => true,
-        Called::Mixed => false,
+        Called::Feature => true,
+        Called::Made => false,
         Called::Bound => false,
     }
 }
 
 /// Adds what follows a start, whose status is the operand.
-pub fn add_started(
+pub(crate) fn add_started(
     alloc: Global,
     code: &mut Items<Instr>,
     around: &Around<'_>,
     site: &Site<'_>,
     called: Called,
-    inside: u32,
 ) -> Result<(), NoMemory> {
+    let inner = around.further_in()?;
     let mut suspended = Items::new(alloc);
-    add_begun(&mut suspended, around, site, called)?;
-    add_yielded(&mut suspended, around, site)?;
-    add_outcome(alloc, code, around, site, called, suspended, inside)
+    add_begun(&mut suspended, &inner, site, called)?;
+    add_yielded(&mut suspended, &inner, site)?;
+    add_outcome(alloc, code, around, site, called, suspended)
 }
 
 /// Adds what follows a resumption, whose status is the operand.
-pub fn add_resumed(
+pub(crate) fn add_resumed(
     alloc: Global,
     code: &mut Items<Instr>,
     around: &Around<'_>,
     site: &Site<'_>,
     called: Called,
-    inside: u32,
 ) -> Result<(), NoMemory> {
+    let inner = around.further_in()?;
     let mut suspended = Items::new(alloc);
-    add_yielded(&mut suspended, around, site)?;
-    add_outcome(alloc, code, around, site, called, suspended, inside)
+    add_yielded(&mut suspended, &inner, site)?;
+    add_outcome(alloc, code, around, site, called, suspended)
 }
 
 /// Adds the choice by the status that is the operand: what is done where the instance is suspended, and else its end.
@@ -84,16 +91,16 @@ fn add_outcome(
     site: &Site<'_>,
     called: Called,
     suspended: Items<Instr>,
-    inside: u32,
 ) -> Result<(), NoMemory> {
+    let inner = around.further_in()?;
     let mut ended = Items::new(alloc);
-    add_ended(alloc, &mut ended, around, site, called, deeper(inside)?)?;
+    add_ended(alloc, &mut ended, &inner, site, called)?;
     add_is_suspended(code)?;
     add_if_else(code, suspended, ended)
 }
 
 /// Adds what keeps the status that is the operand, and whether it is that of a suspension, as an operand.
-pub fn add_is_suspended(code: &mut Items<Instr>) -> Result<(), NoMemory> {
+pub(crate) fn add_is_suspended(code: &mut Items<Instr>) -> Result<(), NoMemory> {
     let line = [Op::Tee(STATUS), Op::I32(SUSPENDED), Op::Do(I32_EQ)];
     add_line(code, &line)
 }
@@ -117,8 +124,8 @@ fn add_begun(
     add_line(code, &line)?;
     match called {
         Called::Body => Ok(()),
-        Called::Plain => add_class_kept(code, site),
-        Called::Mixed => add_class_kept(code, site),
+        Called::Feature => add_class_kept(code, site),
+        Called::Made => add_class_kept(code, site),
         Called::Bound => add_bound_kept(code, around, site),
     }
 }
@@ -156,7 +163,7 @@ fn add_yielded(
 ) -> Result<(), NoMemory> {
     let plan = site.plan;
     add_answers(code, around.body, plan.value, plan.args.as_slice())?;
-    add_quit(code, around, site.quit, false)
+    add_quit(code, around, site.quit, Instance::Suspended)
 }
 
 /// Adds what follows the end of an instance, by the status in the local: a fault that is handed on, a raise, or the quit.
@@ -166,7 +173,6 @@ fn add_ended(
     around: &Around<'_>,
     site: &Site<'_>,
     called: Called,
-    inside: u32,
 ) -> Result<(), NoMemory> {
     let fail = &site.plan.fail;
     if keeps_frame(called) {
@@ -174,10 +180,10 @@ fn add_ended(
     }
     add_line(code, &[Op::I32(0), Op::Set(site.frame)])?;
     if !keeps_frame(called) {
-        add_handed_on_fault(alloc, code, around, fail, inside)?;
+        add_handed_on_fault(alloc, code, around, fail)?;
     }
-    add_raised(alloc, code, around, &fail.raised, inside)?;
-    add_quit(code, around, site.quit, true)
+    add_raised(alloc, code, around, &fail.raised)?;
+    add_quit(code, around, site.quit, Instance::Ended)
 }
 
 /// Adds the raise that an instance has ended with, where the status in the local says so.
@@ -186,27 +192,30 @@ fn add_raised(
     code: &mut Items<Instr>,
     around: &Around<'_>,
     raised: &Raised,
-    inside: u32,
 ) -> Result<(), NoMemory> {
+    let inner = around.further_in()?;
     let mut raise = Items::new(alloc);
-    add_raise(&mut raise, around, raised, deeper(inside)?)?;
+    add_raise(&mut raise, &inner, raised)?;
     add_is_raised(code)?;
     add_if(alloc, code, raise)
 }
 
 /// Adds the test whether the status in the local is that of a raise, as an operand.
-pub fn add_is_raised(code: &mut Items<Instr>) -> Result<(), NoMemory> {
+pub(crate) fn add_is_raised(code: &mut Items<Instr>) -> Result<(), NoMemory> {
     let line = [Op::Get(STATUS), Op::I32(RAISED), Op::Do(I32_EQ)];
     add_line(code, &line)
 }
 
 /// Adds what tells whether the instance has ended.
-pub fn add_quit(
+pub(crate) fn add_quit(
     code: &mut Items<Instr>,
     around: &Around<'_>,
     quit: u32,
-    ended: bool,
+    instance: Instance,
 ) -> Result<(), NoMemory> {
-    let line = [Op::I64(u64::from(ended)), Op::Set(around.local(quit))];
-    add_line(code, &line)
+    let ended = match instance {
+        Instance::Suspended => 0,
+        Instance::Ended => 1,
+    };
+    add_line(code, &[Op::I64(ended), Op::Set(around.local(quit))])
 }

@@ -5,9 +5,12 @@
 
 use crate::frames::add_new_frame;
 use crate::outcome::{Called, Site, add_resumed, add_started};
-use sa_emit_call::{Class, add_chosen, add_deeper, add_depth_test, function_of, is_plain};
+use sa_emit_call::{
+    Choice, Class, Implementations, add_chosen, add_deeper, add_depth_test, implementations_of,
+};
 use sa_emit_value::{
-    ADDRESS, ARGUMENTS, Around, DEPTH, add_handed, add_self, add_type_of, add_void_test,
+    ADDRESS, ARGUMENTS, Around, DEPTH, Handing, add_handed, add_self, add_type_of, add_void_test,
+    function_of,
 };
 use sa_flat::{CallPlan, Callee};
 use sa_runtime::layout::{BOUND_CALL, CALLED_AT};
@@ -18,39 +21,37 @@ use wa_syntax::opcode::{I32_LOAD, I32_WRAP_I64, UNREACHABLE};
 use wa_syntax::{Instr, NoMemory};
 
 /// Starts an instance at a site.
-pub fn add_start(
+pub(crate) fn add_start(
     alloc: Global,
     code: &mut Items<Instr>,
     around: &Around<'_>,
     number: u32,
     plan: &CallPlan,
     quit: u32,
-    inside: u32,
 ) -> Result<(), NoMemory> {
     let site = site_of(around, number, plan, quit);
     match plan.callee {
-        Callee::Body(body) => add_body_start(alloc, code, around, &site, body, inside),
-        Callee::Dispatch(sig) => add_dispatched_start(alloc, code, around, &site, sig, inside),
-        Callee::Bound => add_bound_start(alloc, code, around, &site, inside),
+        Callee::Body(body) => add_body_start(alloc, code, around, &site, body),
+        Callee::Dispatch(sig) => add_dispatched_start(alloc, code, around, &site, sig),
+        Callee::Bound => add_bound_start(alloc, code, around, &site),
         _ => Err(no_iter()),
     }
 }
 
 /// Resumes the instance at a site.
-pub fn add_resume(
+pub(crate) fn add_resume(
     alloc: Global,
     code: &mut Items<Instr>,
     around: &Around<'_>,
     number: u32,
     plan: &CallPlan,
     quit: u32,
-    inside: u32,
 ) -> Result<(), NoMemory> {
     let site = site_of(around, number, plan, quit);
     match plan.callee {
-        Callee::Body(body) => add_body_resume(alloc, code, around, &site, body, inside),
-        Callee::Dispatch(sig) => add_dispatched_resume(alloc, code, around, &site, sig, inside),
-        Callee::Bound => add_bound_resume(alloc, code, around, &site, inside),
+        Callee::Body(body) => add_body_resume(alloc, code, around, &site, body),
+        Callee::Dispatch(sig) => add_dispatched_resume(alloc, code, around, &site, sig),
+        Callee::Bound => add_bound_resume(alloc, code, around, &site),
         _ => Err(no_iter()),
     }
 }
@@ -76,14 +77,13 @@ fn add_body_start(
     around: &Around<'_>,
     site: &Site<'_>,
     body: u32,
-    inside: u32,
 ) -> Result<(), NoMemory> {
     let func = function_of(body)?;
-    add_new_frame(alloc, code, around, site, inside)?;
+    add_new_frame(alloc, code, around, site)?;
     add_all(code, around, site)?;
     add_deeper(code, Op::Get(site.frame))?;
     add_line(code, &[Op::Call(func)])?;
-    add_started(alloc, code, around, site, Called::Body, inside)
+    add_started(alloc, code, around, site, Called::Body)
 }
 
 /// A resumption of the body of a feature.
@@ -93,14 +93,13 @@ fn add_body_resume(
     around: &Around<'_>,
     site: &Site<'_>,
     body: u32,
-    inside: u32,
 ) -> Result<(), NoMemory> {
     let func = function_of(body)?;
-    add_depth_test(alloc, code, around, &site.plan.fail, inside)?;
+    add_depth_test(alloc, code, around, &site.plan.fail)?;
     add_all_but_once(code, around, site)?;
     add_deeper(code, Op::Get(site.frame))?;
     add_line(code, &[Op::Call(func)])?;
-    add_resumed(alloc, code, around, site, Called::Body, inside)
+    add_resumed(alloc, code, around, site, Called::Body)
 }
 
 /// A start of the implementation of a signature.
@@ -110,52 +109,58 @@ fn add_dispatched_start(
     around: &Around<'_>,
     site: &Site<'_>,
     sig: u32,
-    inside: u32,
 ) -> Result<(), NoMemory> {
     let plan = site.plan;
-    add_void_test(alloc, code, around, plan.recv, &plan.fail, inside)?;
-    if around.rows.types(sig).is_empty() {
+    add_void_test(alloc, code, around, plan.recv, &plan.fail)?;
+    if around.program.rows.types(sig).is_empty() {
         return add_line(code, &[Op::Do(UNREACHABLE)]);
     }
-    if is_plain(around, sig)? {
-        add_plain_start(alloc, code, around, site, sig, inside)
-    } else {
-        add_mixed_start(alloc, code, around, site, sig, inside)
+    let choice = choice_of(around, sig)?;
+    match choice.implementations {
+        Implementations::Features => add_feature_start(alloc, code, around, site, choice),
+        Implementations::Made => add_made_start(alloc, code, around, site, choice),
     }
+}
+
+/// The choice among the implementations of a signature by the class in `ADDRESS`.
+fn choice_of(around: &Around<'_>, sig: u32) -> Result<Choice, NoMemory> {
+    Ok(Choice {
+        class: Class::InAddress,
+        sig,
+        implementations: implementations_of(around, sig)?,
+    })
 }
 
 /// A start of one of the bodies of features.
-fn add_plain_start(
+fn add_feature_start(
     alloc: Global,
     code: &mut Items<Instr>,
     around: &Around<'_>,
     site: &Site<'_>,
-    sig: u32,
-    inside: u32,
+    choice: Choice,
 ) -> Result<(), NoMemory> {
     let frame = Op::Get(site.frame);
-    add_new_frame(alloc, code, around, site, inside)?;
+    add_new_frame(alloc, code, around, site)?;
     add_all(code, around, site)?;
     add_class_of(code, around, site)?;
-    add_chosen(alloc, code, around, Class::InAddress, sig, true, frame)?;
-    add_started(alloc, code, around, site, Called::Plain, inside)
+    add_chosen(alloc, code, around, choice, frame)?;
+    add_started(alloc, code, around, site, Called::Feature)
 }
 
 /// A start of one of the bodies that were made for the implementations alone. The body takes the frame.
-fn add_mixed_start(
+fn add_made_start(
     alloc: Global,
     code: &mut Items<Instr>,
     around: &Around<'_>,
     site: &Site<'_>,
-    sig: u32,
-    inside: u32,
+    choice: Choice,
 ) -> Result<(), NoMemory> {
     let frame = Op::I32(0);
     add_self(code, around.body, site.plan.recv)?;
     add_all(code, around, site)?;
     add_class_of(code, around, site)?;
-    add_chosen(alloc, code, around, Class::InAddress, sig, false, frame)?;
-    add_started(alloc, code, around, site, Called::Mixed, inside)
+    add_chosen(alloc, code, around, choice, frame)?;
+    add_started(alloc, code, around, site, Called::Made)
 }
 
 /// A resumption of the implementation of a signature. The class that chose it stands in the frame.
@@ -165,51 +170,48 @@ fn add_dispatched_resume(
     around: &Around<'_>,
     site: &Site<'_>,
     sig: u32,
-    inside: u32,
 ) -> Result<(), NoMemory> {
-    if around.rows.types(sig).is_empty() {
+    if around.program.rows.types(sig).is_empty() {
         return add_line(code, &[Op::Do(UNREACHABLE)]);
     }
-    if is_plain(around, sig)? {
-        add_plain_resume(alloc, code, around, site, sig, inside)
-    } else {
-        add_mixed_resume(alloc, code, around, site, sig, inside)
+    let choice = choice_of(around, sig)?;
+    match choice.implementations {
+        Implementations::Features => add_feature_resume(alloc, code, around, site, choice),
+        Implementations::Made => add_made_resume(alloc, code, around, site, choice),
     }
 }
 
 /// A resumption of one of the bodies of features.
-fn add_plain_resume(
+fn add_feature_resume(
     alloc: Global,
     code: &mut Items<Instr>,
     around: &Around<'_>,
     site: &Site<'_>,
-    sig: u32,
-    inside: u32,
+    choice: Choice,
 ) -> Result<(), NoMemory> {
     let frame = Op::Get(site.frame);
-    add_depth_test(alloc, code, around, &site.plan.fail, inside)?;
+    add_depth_test(alloc, code, around, &site.plan.fail)?;
     add_all_but_once(code, around, site)?;
     add_called(code, site)?;
     add_line(code, &[Op::Set(ADDRESS)])?;
-    add_chosen(alloc, code, around, Class::InAddress, sig, true, frame)?;
-    add_resumed(alloc, code, around, site, Called::Plain, inside)
+    add_chosen(alloc, code, around, choice, frame)?;
+    add_resumed(alloc, code, around, site, Called::Feature)
 }
 
 /// A resumption of one of the bodies that were made for the implementations alone.
-fn add_mixed_resume(
+fn add_made_resume(
     alloc: Global,
     code: &mut Items<Instr>,
     around: &Around<'_>,
     site: &Site<'_>,
-    sig: u32,
-    inside: u32,
+    choice: Choice,
 ) -> Result<(), NoMemory> {
     let frame = Op::Get(site.frame);
     add_all_but_once(code, around, site)?;
     add_called(code, site)?;
     add_line(code, &[Op::Set(ADDRESS)])?;
-    add_chosen(alloc, code, around, Class::InAddress, sig, false, frame)?;
-    add_resumed(alloc, code, around, site, Called::Mixed, inside)
+    add_chosen(alloc, code, around, choice, frame)?;
+    add_resumed(alloc, code, around, site, Called::Made)
 }
 
 /// A start of a bound value.
@@ -218,10 +220,9 @@ fn add_bound_start(
     code: &mut Items<Instr>,
     around: &Around<'_>,
     site: &Site<'_>,
-    inside: u32,
 ) -> Result<(), NoMemory> {
     let plan = site.plan;
-    add_void_test(alloc, code, around, plan.recv, &plan.fail, inside)?;
+    add_void_test(alloc, code, around, plan.recv, &plan.fail)?;
     if plan.args.len() > ARGUMENTS {
         return add_line(code, &[Op::Do(UNREACHABLE)]);
     }
@@ -234,7 +235,7 @@ fn add_bound_start(
         Op::Call(BOUND_CALL),
     ];
     add_line(code, &line)?;
-    add_started(alloc, code, around, site, Called::Bound, inside)
+    add_started(alloc, code, around, site, Called::Bound)
 }
 
 /// A resumption of a bound value, whose address stands in the frame.
@@ -243,7 +244,6 @@ fn add_bound_resume(
     code: &mut Items<Instr>,
     around: &Around<'_>,
     site: &Site<'_>,
-    inside: u32,
 ) -> Result<(), NoMemory> {
     if site.plan.args.len() > ARGUMENTS {
         return add_line(code, &[Op::Do(UNREACHABLE)]);
@@ -252,12 +252,17 @@ fn add_bound_resume(
     add_line(code, &[Op::Get(DEPTH), Op::Get(site.frame)])?;
     add_called(code, site)?;
     add_line(code, &[Op::Call(BOUND_CALL)])?;
-    add_resumed(alloc, code, around, site, Called::Bound, inside)
+    add_resumed(alloc, code, around, site, Called::Bound)
 }
 
 /// Adds what stores the arguments of a start.
 fn add_all(code: &mut Items<Instr>, around: &Around<'_>, site: &Site<'_>) -> Result<(), NoMemory> {
-    add_handed(code, around.body, site.plan.args.as_slice(), true)
+    add_handed(
+        code,
+        around.body,
+        site.plan.args.as_slice(),
+        Handing::AtStart,
+    )
 }
 
 /// Adds what stores the arguments of a resumption.
@@ -266,7 +271,12 @@ fn add_all_but_once(
     around: &Around<'_>,
     site: &Site<'_>,
 ) -> Result<(), NoMemory> {
-    add_handed(code, around.body, site.plan.args.as_slice(), false)
+    add_handed(
+        code,
+        around.body,
+        site.plan.args.as_slice(),
+        Handing::AtResumption,
+    )
 }
 
 /// Adds what puts the number of the receiver's class into `ADDRESS`, where it stays over the call.

@@ -1,12 +1,12 @@
 //! One step, as the instructions that its own function adds.
 
-use crate::entering::{add_enter, add_has_frame};
+use crate::entering::{Entering, add_enter, add_has_frame};
 use crate::frames::{add_has_entry, add_release};
 use crate::sites::{add_resume, add_start};
-use sa_emit_call::{add_bind, add_call, add_widen_for};
+use sa_emit_call::{Takers, add_bind, add_call, add_widen_for};
 use sa_emit_value::{
-    Around, add_const, add_init_shared, add_is_void, add_me, add_move, add_new, add_new_array,
-    add_put_item, add_type_is, add_unwrap, add_void_test, add_widen,
+    Around, NewArray, Widening, add_const, add_init_shared, add_is_void, add_me, add_move, add_new,
+    add_new_array, add_put_item, add_type_is, add_unwrap, add_void_test, add_widen,
 };
 use sa_flat::{FlatStep, Raised};
 use sa_runtime::fault_numbers::UNCAUGHT;
@@ -15,7 +15,7 @@ use sqlite_items::Items;
 use std::alloc::Global;
 use wa_syntax::{Instr, NoMemory};
 
-/// Adds a step. `inside` is the number of the label of the dispatch.
+/// Adds a step.
 ///
 /// # Errors
 ///
@@ -25,7 +25,6 @@ pub fn add_step(
     code: &mut Items<Instr>,
     around: &Around<'_>,
     step: &FlatStep,
-    inside: u32,
 ) -> Result<(), NoMemory> {
     match step {
         FlatStep::Const { to, value } => add_const(code, around, *to, value),
@@ -33,13 +32,20 @@ pub fn add_step(
         FlatStep::Me { to } => add_me(code, around, *to),
         FlatStep::IsVoid { to, from } => add_is_void(code, around, *to, *from),
         FlatStep::Turn => Ok(()),
-        FlatStep::New { to, ty, fail } => add_new(alloc, code, around, *to, *ty, fail, inside),
+        FlatStep::New { to, ty, fail } => add_new(alloc, code, around, *to, *ty, fail),
         FlatStep::NewArray {
             to,
             ty,
             count,
             fail,
-        } => add_new_array(alloc, code, around, *to, *ty, *count, fail, inside),
+        } => {
+            let array = NewArray {
+                to: *to,
+                ty: *ty,
+                count: *count,
+            };
+            add_new_array(alloc, code, around, array, fail)
+        }
         FlatStep::PutItem {
             array,
             ty,
@@ -47,15 +53,13 @@ pub fn add_step(
             value,
         } => add_put_item(code, around, *array, *ty, *at, *value),
         FlatStep::Widen { to, from, ty, fail } => {
-            add_widen(alloc, code, around, *to, *from, *ty, fail, inside)
+            add_widen(alloc, code, around, widening(*to, *from, *ty), fail)
         }
         FlatStep::Unwrap { to, from, ty } => add_unwrap(code, around, *to, *from, *ty),
         FlatStep::TypeIs { to, from, ty } => add_type_is(code, around, *to, *from, *ty),
-        FlatStep::NotVoid { from, fail } => {
-            add_void_test(alloc, code, around, *from, fail, inside)
-        }
+        FlatStep::NotVoid { from, fail } => { add_void_test(alloc, code, around, *from, fail) }
         FlatStep::InitShared { shared, from } => add_init_shared(code, around, *shared, *from),
-        FlatStep::Call { plan } => add_call(alloc, code, around, plan, inside),
+        FlatStep::Call { plan } => add_call(alloc, code, around, plan),
         FlatStep::Raising { value, place, to } => add_raising(code, around, *value, *place, to),
         FlatStep::WidenFor {
             to,
@@ -65,18 +69,19 @@ pub fn add_step(
             types,
             fail,
         } => {
-            let types = types.as_slice();
-            add_widen_for(
-                alloc, code, around, *to, *from, *ty, *recv, types, fail, inside,
-            )
+            let takers = Takers {
+                recv: *recv,
+                types: types.as_slice(),
+            };
+            add_widen_for(alloc, code, around, widening(*to, *from, *ty), takers, fail)
         }
-        FlatStep::Bind { plan, entry } => add_bind(alloc, code, around, plan, *entry, inside),
+        FlatStep::Bind { plan, entry } => add_bind(alloc, code, around, plan, *entry),
         FlatStep::HasEntry { to, site } => add_has_entry(code, around, *to, *site),
         FlatStep::Start { site, plan, quit } => {
-            add_start(alloc, code, around, *site, plan, *quit, inside)
+            add_start(alloc, code, around, *site, plan, *quit)
         }
         FlatStep::Resume { site, plan, quit } => {
-            add_resume(alloc, code, around, *site, plan, *quit, inside)
+            add_resume(alloc, code, around, *site, plan, *quit)
         }
         FlatStep::HasFrame { to } => add_has_frame(code, around, *to),
         FlatStep::Enter {
@@ -86,11 +91,22 @@ pub fn add_step(
             value,
             quit,
         } => {
-            let args = args.as_slice();
-            add_enter(alloc, code, around, *body, *recv, args, *value, *quit)
+            let entering = Entering {
+                body: *body,
+                recv: *recv,
+                args: args.as_slice(),
+                value: *value,
+                quit: *quit,
+            };
+            add_enter(alloc, code, around, &entering)
         }
         FlatStep::Release { sites } => add_release(alloc, code, around, sites.as_slice()),
     }
+}
+
+/// The widening of a value of the immutable class `ty` into a variable.
+fn widening(to: u32, from: u32, ty: u32) -> Widening {
+    Widening { to, from, ty }
 }
 
 /// Sets the variables of a raise by the statement `raise` at a place.

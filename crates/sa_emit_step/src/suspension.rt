@@ -1,11 +1,11 @@
 //! How an instance is suspended, and how its body goes on: what it keeps lies in its frame.
 //!
 //! The function of an iter's body is entered alike at a start and at a resumption: the frame alone tells which it is, by the
-//! number of the head to go on in, which is 0 at a start. No suspension goes on in the first head.
+//! number of the dispatch target to go on in, which is 0 at a start. No suspension goes on in the first one.
 
 use sa_emit_value::{
     ADDRESS, Around, BLOCK, FRAME, ME, add_copies_back, add_formals, add_if, add_if_else,
-    add_once_formals, deeper, head_of, held, local_of, site_local,
+    add_once_formals, held, local_of, site_local, target_number,
 };
 use sa_flat::FlatBody;
 use sa_runtime::layout::{
@@ -18,7 +18,8 @@ use wa_syntax::opcode::{I32_EQ, I32_EQZ, I32_LOAD, I32_STORE, I64_LOAD, I64_STOR
 use wa_syntax::{Instr, NoMemory};
 
 /// Adds what the body of an iter's feature begins with, at a start and at each resumption: its own object, its arguments, the
-/// variables that it keeps and the frames of its sites. The number of the head to go on in is in `BLOCK` behind it.
+/// variables that it keeps and the frames of its sites. The number of the dispatch target to go on in is in `BLOCK`
+/// behind it.
 ///
 /// # Errors
 ///
@@ -110,8 +111,8 @@ fn add_site_read(
 }
 
 /// Adds what all suspensions of the body of an iter's feature go to, behind all its other code: the variables that it keeps, the
-/// list of the frames of its sites, and the head to go on in, which is in `BLOCK`, go into its frame, and what is copied back
-/// into the area. The status is left as the operand that the function answers.
+/// list of the frames of its sites, and the number of the dispatch target to go on in, which is in `BLOCK`, go into its frame, and
+/// what is copied back into the area. The status is left as the operand that the function answers.
 ///
 /// # Errors
 ///
@@ -187,17 +188,15 @@ fn kept_at(place: usize) -> Result<u32, NoMemory> {
 }
 
 /// A suspension with a value. A body that was made for an implementation alone, which has no block of its own to go on in,
-/// answers its caller at once. `inside` is the number of the label of the dispatch; the label that stands one further out leads
-/// to what all suspensions go to.
-pub fn add_suspend(
+/// answers its caller at once. The label around that of the dispatch leads to what all suspensions go to.
+pub(crate) fn add_suspend(
     code: &mut Items<Instr>,
     around: &Around<'_>,
     value: Option<u32>,
     resume: Option<u32>,
-    inside: u32,
 ) -> Result<(), NoMemory> {
     match resume {
-        Some(block) => add_own_suspend(code, around, value, block, inside),
+        Some(block) => add_own_suspend(code, around, value, block),
         None => add_made_suspend(code, around, value),
     }
 }
@@ -208,11 +207,14 @@ fn add_own_suspend(
     around: &Around<'_>,
     value: Option<u32>,
     resume: u32,
-    inside: u32,
 ) -> Result<(), NoMemory> {
-    let head = head_of(around, resume)?;
+    let target = target_number(around, resume)?;
     add_value(code, around, value)?;
-    let line = [Op::I32(head), Op::Set(BLOCK), Op::Br(deeper(inside)?)];
+    let line = [
+        Op::I32(target),
+        Op::Set(BLOCK),
+        Op::Br(around.nesting.label_around()?),
+    ];
     add_line(code, &line)
 }
 

@@ -12,6 +12,15 @@ use wa_syntax::{Instr, NoMemory};
 /// How many arguments the area has room for.
 pub const ARGUMENTS: usize = 200;
 
+/// Which arguments a call hands down.
+#[derive(Clone, Copy, Debug, PartialEq, Eq)]
+pub enum Handing {
+    /// All of them: the call begins what it calls.
+    AtStart,
+    /// All but those that are `once`: the call resumes an instance.
+    AtResumption,
+}
+
 /// Adds what stores the receiver and the arguments that a call hands down.
 pub fn add_arguments(
     code: &mut Items<Instr>,
@@ -19,7 +28,7 @@ pub fn add_arguments(
     plan: &CallPlan,
 ) -> Result<(), NoMemory> {
     add_self(code, body, plan.recv)?;
-    add_handed(code, body, plan.args.as_slice(), true)
+    add_handed(code, body, plan.args.as_slice(), Handing::AtStart)
 }
 
 /// Adds what stores the receiver that a call hands down.
@@ -27,15 +36,15 @@ pub fn add_self(code: &mut Items<Instr>, body: &FlatBody, recv: u32) -> Result<(
     add_store(code, SELF_AT, local_of(body, recv))
 }
 
-/// Adds what stores the arguments that a call hands down, those that are `once` only where this says so.
+/// Adds what stores the arguments that a call hands down.
 pub fn add_handed(
     code: &mut Items<Instr>,
     body: &FlatBody,
     args: &[FlatArg],
-    once: bool,
+    handing: Handing,
 ) -> Result<(), NoMemory> {
     for (place, arg) in args.iter().enumerate() {
-        add_argument(code, body, place, arg, once)?;
+        add_argument(code, body, place, arg, handing)?;
     }
     Ok(())
 }
@@ -45,9 +54,9 @@ fn add_argument(
     body: &FlatBody,
     place: usize,
     arg: &FlatArg,
-    once: bool,
+    handing: Handing,
 ) -> Result<(), NoMemory> {
-    if !is_handed(arg.mode, once) {
+    if !is_handed(arg.mode, handing) {
         return Ok(());
     }
     let var = held(arg.var)?;
@@ -82,7 +91,7 @@ fn add_answer(
 }
 
 /// Adds what takes the result of a call, where it is wanted.
-pub fn add_result(
+pub(crate) fn add_result(
     code: &mut Items<Instr>,
     body: &FlatBody,
     value: Option<u32>,
@@ -107,7 +116,7 @@ pub fn add_prologue(code: &mut Items<Instr>, body: &FlatBody) -> Result<(), NoMe
 /// Adds what takes the arguments that each call hands down, also the one that resumes an instance.
 pub fn add_formals(code: &mut Items<Instr>, body: &FlatBody) -> Result<(), NoMemory> {
     for (place, formal) in body.formals.as_slice().iter().enumerate() {
-        if is_handed(formal.mode, false) {
+        if is_handed(formal.mode, Handing::AtResumption) {
             add_formal(code, body, place)?;
         }
     }
@@ -151,7 +160,7 @@ fn add_copy_back(
 }
 
 /// Adds what stores a local at an address.
-pub fn add_store(code: &mut Items<Instr>, at: u32, local: u32) -> Result<(), NoMemory> {
+pub(crate) fn add_store(code: &mut Items<Instr>, at: u32, local: u32) -> Result<(), NoMemory> {
     add_line(
         code,
         &[Op::I32(0), Op::Get(local), Op::Memory(I64_STORE, at)],
@@ -159,7 +168,7 @@ pub fn add_store(code: &mut Items<Instr>, at: u32, local: u32) -> Result<(), NoM
 }
 
 /// Adds what loads a local from an address.
-pub fn add_load(code: &mut Items<Instr>, at: u32, local: u32) -> Result<(), NoMemory> {
+pub(crate) fn add_load(code: &mut Items<Instr>, at: u32, local: u32) -> Result<(), NoMemory> {
     add_line(
         code,
         &[Op::I32(0), Op::Memory(I64_LOAD, at), Op::Set(local)],
@@ -185,12 +194,13 @@ fn too_many() -> NoMemory {
     NoMemory
 }
 
-/// Whether a call hands the argument's value to the body, where `once` says whether it hands down those that are `once`.
-fn is_handed(mode: Mode, once: bool) -> bool {
+/// Whether a call hands the argument's value to the body.
+fn is_handed(mode: Mode, handing: Handing) -> bool {
     match mode {
         Mode::Out => false,
-        Mode::Once => once,
-        _ => true,
+        Mode::Once => handing == Handing::AtStart,
+        Mode::In => true,
+        Mode::Inout => true,
     }
 }
 

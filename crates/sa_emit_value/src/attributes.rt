@@ -20,12 +20,11 @@ pub fn add_get(
     around: &Around<'_>,
     plan: &CallPlan,
     place: u32,
-    inside: u32,
 ) -> Result<(), NoMemory> {
     if is_immutable(around, plan.class)? {
         return add_get_of_value(alloc, code, around, plan, place);
     }
-    add_void_test(alloc, code, around, plan.recv, &plan.fail, inside)?;
+    add_void_test(alloc, code, around, plan.recv, &plan.fail)?;
     add_read(code, around, plan, place)?;
     add_line(code, &[Op::Set(around.receiving(plan.value))])
 }
@@ -38,10 +37,11 @@ fn add_get_of_value(
     plan: &CallPlan,
     place: u32,
 ) -> Result<(), NoMemory> {
+    let inner = around.further_in()?;
     let mut void = Items::new(alloc);
     add_line(&mut void, &[Op::I64(0)])?;
     let mut read = Items::new(alloc);
-    add_read(&mut read, around, plan, place)?;
+    add_read(&mut read, &inner, plan, place)?;
     add_line(code, &[Op::Get(around.local(plan.recv)), Op::Do(I64_EQZ)])?;
     code.push(Instr::If(Some(ValTy::I64), void, read))?;
     add_line(code, &[Op::Set(around.receiving(plan.value))])
@@ -69,13 +69,12 @@ pub fn add_set(
     around: &Around<'_>,
     plan: &CallPlan,
     place: u32,
-    inside: u32,
 ) -> Result<(), NoMemory> {
     if is_immutable(around, plan.class)? {
-        return add_set_of_value(alloc, code, around, plan, place, inside);
+        return add_set_of_value(alloc, code, around, plan, place);
     }
     let value = argument(around, plan, 0)?;
-    add_void_test(alloc, code, around, plan.recv, &plan.fail, inside)?;
+    add_void_test(alloc, code, around, plan.recv, &plan.fail)?;
     let line = [
         Op::Get(around.local(plan.recv)),
         Op::Do(I32_WRAP_I64),
@@ -92,7 +91,6 @@ fn add_set_of_value(
     around: &Around<'_>,
     plan: &CallPlan,
     place: u32,
-    inside: u32,
 ) -> Result<(), NoMemory> {
     let attributes = around.attributes(plan.class)?;
     let value = argument(around, plan, 0)?;
@@ -106,7 +104,7 @@ fn add_set_of_value(
         Op::Tee(STATUS),
     ];
     add_line(code, &line)?;
-    add_fail_if(alloc, code, around, Op::Get(STATUS), &plan.fail, inside)?;
+    add_fail_if(alloc, code, around, Op::Get(STATUS), &plan.fail)?;
     add_result(code, around.body, plan.value)
 }
 
@@ -148,6 +146,6 @@ pub fn shared_at(shared: u32) -> Result<u32, NoMemory> {
 
 /// Whether a type is of an immutable class.
 pub fn is_immutable(around: &Around<'_>, ty: u32) -> Result<bool, NoMemory> {
-    let layout = held(around.flat.layouts.get(ty as usize))?;
+    let layout = held(around.program.flat.layouts.get(ty as usize))?;
     Ok(matches!(layout.kind, Kind::Immutable))
 }

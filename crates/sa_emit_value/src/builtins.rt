@@ -19,7 +19,7 @@ use wa_syntax::opcode::{
 use wa_syntax::{Instr, NoMemory};
 
 /// The runtime's function that makes an array.
-pub const CREATE: u32 = FIRST_BUILTIN + BuiltinFeature::ArrayCreate as u32;
+pub(crate) const CREATE: u32 = FIRST_BUILTIN + BuiltinFeature::ArrayCreate as u32;
 
 /// The byte of an object at which its length stands.
 const LENGTH_AT: u32 = 4;
@@ -31,25 +31,28 @@ pub fn add_builtin(
     around: &Around<'_>,
     plan: &CallPlan,
     number: u8,
-    inside: u32,
 ) -> Result<(), NoMemory> {
     let feature = held(BuiltinFeature::of_number(number))?;
     match form_of(feature) {
         Form::Compares(opcode) => add_comparison(code, around, plan, opcode),
         Form::Combines(opcode) => add_combination(code, around, plan, opcode),
-        Form::Calculates(opcode) => add_calculation(alloc, code, around, plan, opcode, inside),
+        Form::Calculates(opcode) => add_calculation(alloc, code, around, plan, opcode),
         Form::Not => add_not(code, around, plan),
-        Form::Negate => add_negation(alloc, code, around, plan, inside),
+        Form::Negate => add_negation(alloc, code, around, plan),
         Form::Same => add_same(code, around, plan),
         Form::Length => add_length_of(code, around, plan),
-        Form::Reads => add_read_element(alloc, code, around, plan, inside),
-        Form::Writes => add_write_element(alloc, code, around, plan, inside),
-        Form::Called => add_called(alloc, code, around, plan, feature, inside),
+        Form::Reads => add_read_element(alloc, code, around, plan),
+        Form::Writes => add_write_element(alloc, code, around, plan),
+        Form::Called => add_called(alloc, code, around, plan, feature),
     }
 }
 
 /// The local with an argument of a call.
-pub fn argument(around: &Around<'_>, plan: &CallPlan, place: usize) -> Result<u32, NoMemory> {
+pub(crate) fn argument(
+    around: &Around<'_>,
+    plan: &CallPlan,
+    place: usize,
+) -> Result<u32, NoMemory> {
     let arg = held(plan.args.get(place))?;
     Ok(around.local(held(arg.var)?))
 }
@@ -94,7 +97,6 @@ fn add_calculation(
     around: &Around<'_>,
     plan: &CallPlan,
     opcode: u8,
-    inside: u32,
 ) -> Result<(), NoMemory> {
     let line = [
         Op::Get(around.local(plan.recv)),
@@ -102,7 +104,7 @@ fn add_calculation(
         Op::Do(opcode),
     ];
     add_line(code, &line)?;
-    add_in_range(alloc, code, around, plan, inside)
+    add_in_range(alloc, code, around, plan)
 }
 
 /// The receiver with the other sign.
@@ -111,7 +113,6 @@ fn add_negation(
     code: &mut Items<Instr>,
     around: &Around<'_>,
     plan: &CallPlan,
-    inside: u32,
 ) -> Result<(), NoMemory> {
     let line = [
         Op::I64(0),
@@ -119,7 +120,7 @@ fn add_negation(
         Op::Do(I64_SUB),
     ];
     add_line(code, &line)?;
-    add_in_range(alloc, code, around, plan, inside)
+    add_in_range(alloc, code, around, plan)
 }
 
 /// Adds what takes the operand for the result of a call, and the fault where 32 bits with a sign don't hold it.
@@ -128,7 +129,6 @@ fn add_in_range(
     code: &mut Items<Instr>,
     around: &Around<'_>,
     plan: &CallPlan,
-    inside: u32,
 ) -> Result<(), NoMemory> {
     let to = around.receiving(plan.value);
     let line = [
@@ -139,7 +139,7 @@ fn add_in_range(
         Op::Do(I64_NE),
     ];
     add_line(code, &line)?;
-    add_fail_if(alloc, code, around, Op::I32(OVERFLOW), &plan.fail, inside)
+    add_fail_if(alloc, code, around, Op::I32(OVERFLOW), &plan.fail)
 }
 
 /// The negation of a truth value.
@@ -192,10 +192,9 @@ fn add_read_element(
     code: &mut Items<Instr>,
     around: &Around<'_>,
     plan: &CallPlan,
-    inside: u32,
 ) -> Result<(), NoMemory> {
     let first = first_element_at(around.attributes(plan.class)?);
-    add_within(alloc, code, around, plan, inside)?;
+    add_within(alloc, code, around, plan)?;
     let line = [
         Op::Memory(I64_LOAD, first),
         Op::Set(around.receiving(plan.value)),
@@ -209,11 +208,10 @@ fn add_write_element(
     code: &mut Items<Instr>,
     around: &Around<'_>,
     plan: &CallPlan,
-    inside: u32,
 ) -> Result<(), NoMemory> {
     let first = first_element_at(around.attributes(plan.class)?);
     let value = argument(around, plan, 1)?;
-    add_within(alloc, code, around, plan, inside)?;
+    add_within(alloc, code, around, plan)?;
     add_line(code, &[Op::Get(value), Op::Memory(I64_STORE, first)])
 }
 
@@ -224,14 +222,13 @@ fn add_within(
     code: &mut Items<Instr>,
     around: &Around<'_>,
     plan: &CallPlan,
-    inside: u32,
 ) -> Result<(), NoMemory> {
     let place = argument(around, plan, 0)?;
-    add_void_test(alloc, code, around, plan.recv, &plan.fail, inside)?;
+    add_void_test(alloc, code, around, plan.recv, &plan.fail)?;
     add_line(code, &[Op::Get(place)])?;
     add_length(code, around, plan)?;
     add_line(code, &[Op::Do(I64_GE_U)])?;
-    add_fail_if(alloc, code, around, Op::I32(INDEX), &plan.fail, inside)?;
+    add_fail_if(alloc, code, around, Op::I32(INDEX), &plan.fail)?;
     add_element(code, around.local(plan.recv), place)
 }
 
@@ -242,7 +239,6 @@ fn add_called(
     around: &Around<'_>,
     plan: &CallPlan,
     feature: BuiltinFeature,
-    inside: u32,
 ) -> Result<(), NoMemory> {
     add_operands(code, around, plan)?;
     add_layout(code, around, plan, feature)?;
@@ -251,7 +247,7 @@ fn add_called(
         Op::Tee(STATUS),
     ];
     add_line(code, &line)?;
-    add_fail_if(alloc, code, around, Op::Get(STATUS), &plan.fail, inside)?;
+    add_fail_if(alloc, code, around, Op::Get(STATUS), &plan.fail)?;
     add_result(code, around.body, plan.value)
 }
 

@@ -1,6 +1,6 @@
 //! Faults and raises of steps, and jumps to blocks.
 
-use crate::around::{Around, BLOCK, NOT_A_HEAD, Role, held};
+use crate::around::{Around, BLOCK, Role, held};
 use crate::choice::add_if;
 use sa_flat::{Fail, FlatBody, FlatExit, Raised};
 use sa_runtime::fault_numbers::VOID;
@@ -20,10 +20,10 @@ pub fn add_fail_if(
     around: &Around<'_>,
     kind: Op,
     fail: &Fail,
-    inside: u32,
 ) -> Result<(), NoMemory> {
+    let inner = around.further_in()?;
     let mut then = Items::new(alloc);
-    add_fail(&mut then, around, kind, fail, deeper(inside)?)?;
+    add_fail(&mut then, &inner, kind, fail)?;
     add_if(alloc, code, then)
 }
 
@@ -34,10 +34,9 @@ pub fn add_void_test(
     around: &Around<'_>,
     var: u32,
     fail: &Fail,
-    inside: u32,
 ) -> Result<(), NoMemory> {
     add_line(code, &[Op::Get(around.local(var)), Op::Do(I64_EQZ)])?;
-    add_fail_if(alloc, code, around, Op::I32(VOID), fail, inside)
+    add_fail_if(alloc, code, around, Op::I32(VOID), fail)
 }
 
 /// Adds a fault: a body that was made for an implementation alone hands it to its caller, in others it is raised.
@@ -46,12 +45,11 @@ pub fn add_fail(
     around: &Around<'_>,
     kind: Op,
     fail: &Fail,
-    inside: u32,
 ) -> Result<(), NoMemory> {
     match around.role {
-        Role::Target => add_handed_on(code, kind),
-        Role::Feature => add_fault(code, around, kind, fail, inside),
-        Role::Last => add_fault(code, around, kind, fail, inside),
+        Role::Made => add_handed_on(code, kind),
+        Role::Feature => add_fault(code, around, kind, fail),
+        Role::Last => add_fault(code, around, kind, fail),
     }
 }
 
@@ -71,7 +69,6 @@ fn add_fault(
     around: &Around<'_>,
     kind: Op,
     fail: &Fail,
-    inside: u32,
 ) -> Result<(), NoMemory> {
     let line = [
         kind,
@@ -80,7 +77,7 @@ fn add_fault(
         Op::Call(FAULT),
     ];
     add_line(code, &line)?;
-    add_raise(code, around, &fail.raised, inside)
+    add_raise(code, around, &fail.raised)
 }
 
 /// Adds a raise whose value, place and kind the globals hold: it leaves the body at once where the block that it goes to does
@@ -89,7 +86,6 @@ pub fn add_raise(
     code: &mut Items<Instr>,
     around: &Around<'_>,
     raised: &Raised,
-    inside: u32,
 ) -> Result<(), NoMemory> {
     if leaves(around.body, *raised) {
         return add_line(code, &[Op::I32(RAISED), Op::Do(RETURN)]);
@@ -105,40 +101,31 @@ pub fn add_raise(
         Op::Set(around.local(raised.kind)),
     ];
     add_line(code, &line)?;
-    add_jump(code, around, raised.block, inside)
+    add_jump(code, around, raised.block)
 }
 
-/// Adds a jump to a block that the dispatch knows. `inside` is the number of the label of the dispatch.
+/// Adds a jump to a dispatch target.
 ///
 /// # Errors
 ///
-/// `NoMemory`, also where the dispatch doesn't know the block.
-pub fn add_jump(
-    code: &mut Items<Instr>,
-    around: &Around<'_>,
-    block: u32,
-    inside: u32,
-) -> Result<(), NoMemory> {
-    let head = head_of(around, block)?;
-    add_line(code, &[Op::I32(head), Op::Set(BLOCK), Op::Br(inside)])
+/// `NoMemory`, also where the block is no dispatch target.
+pub fn add_jump(code: &mut Items<Instr>, around: &Around<'_>, block: u32) -> Result<(), NoMemory> {
+    let line = [
+        Op::I32(target_number(around, block)?),
+        Op::Set(BLOCK),
+        Op::Br(around.nesting.label()),
+    ];
+    add_line(code, &line)
 }
 
-/// The number of a block in the dispatch.
+/// The number of a block among the dispatch targets.
 ///
 /// # Errors
 ///
-/// `NoMemory` where the dispatch doesn't know the block.
-pub fn head_of(around: &Around<'_>, block: u32) -> Result<u32, NoMemory> {
-    let head = held(around.heads.get(block as usize).copied())?;
-    if head == NOT_A_HEAD {
-        return Err(not_a_head());
-    }
-    Ok(head)
-}
-
-/// The answer for a jump to a block that the dispatch doesn't know.
-fn not_a_head() -> NoMemory {
-    NoMemory
+/// `NoMemory` where the block is no dispatch target.
+pub fn target_number(around: &Around<'_>, block: u32) -> Result<u32, NoMemory> {
+    let number = held(around.targets.get(block as usize).copied())?;
+    held(number)
 }
 
 /// Whether the block that a raise goes to does nothing but leave the body with this raise. Steps don't jump to such a block.
@@ -156,9 +143,4 @@ fn is_its_exit(exit: &FlatExit, raised: &Raised) -> bool {
         }
         _ => false,
     }
-}
-
-/// The number of a label for code that stands one `if` or `block` further inside.
-pub fn deeper(inside: u32) -> Result<u32, NoMemory> {
-    held(inside.checked_add(1))
 }

@@ -5,7 +5,7 @@ use wa_syntax::opcode::{I64_ADD, I64_AND, I64_EQ, I64_LT_S, I64_MUL, I64_OR, I64
 
 /// How a built-in feature is written where it is called.
 #[derive(Clone, Copy)]
-pub enum Form {
+pub(crate) enum Form {
     /// A comparison of the receiver with the argument by this instruction.
     Compares(u8),
     /// An instruction on both, whose result is in range.
@@ -29,7 +29,7 @@ pub enum Form {
 }
 
 /// How a built-in feature is written.
-pub fn form_of(feature: BuiltinFeature) -> Form {
+pub(crate) fn form_of(feature: BuiltinFeature) -> Form {
     match feature {
         BuiltinFeature::BoolIsEq => Form::Compares(I64_EQ),
         BuiltinFeature::BoolNot => Form::Not,

@@ -1,6 +1,6 @@
 //! What stands around a step of a flat body, and the steps that call no body, as instructions of WebAssembly.
 //!
-//! What is named `add_..` adds its instructions to the list `code`, where `inside` is the number of the label of the dispatch.
+//! What is named `add_..` adds its instructions to the list `code`. `around` is what stands around the place where they stand.
 //! The answer is `NoMemory` where memory has run out, and also where a number that a step has names nothing.
 #![tactic(auto)]
 
@@ -12,15 +12,16 @@ mod builtins;
 mod choice;
 mod failing;
 mod inline;
+mod nesting;
 mod objects;
 mod values;
 
 pub use area::{
-    ARGUMENTS, add_answers, add_arguments, add_copies_back, add_formals, add_handed,
+    ARGUMENTS, Handing, add_answers, add_arguments, add_copies_back, add_formals, add_handed,
     add_once_formals, add_prologue, add_self,
 };
 pub use around::{
-    ADDRESS, Around, BLOCK, DEPTH, FRAME, ME, NOT_A_HEAD, NOT_PLACED, Role, STATUS, held, local_of,
+    ADDRESS, Around, BLOCK, DEPTH, FRAME, ME, Program, Role, STATUS, function_of, held, local_of,
     locals_of, site_local,
 };
 pub use attributes::{
@@ -30,10 +31,12 @@ pub use below::{Below, TypeSpan, spans_of};
 pub use builtins::add_builtin;
 pub use choice::{add_if, add_if_else};
 pub use failing::{
-    add_fail, add_fail_if, add_handed_on, add_jump, add_raise, add_void_test, deeper, head_of,
-    leaves,
+    add_fail, add_fail_if, add_handed_on, add_jump, add_raise, add_void_test, leaves, target_number,
 };
-pub use objects::{add_new, add_new_array, add_put_item, add_unwrap, add_widen, add_widened};
+pub use nesting::Nesting;
+pub use objects::{
+    NewArray, Widening, add_new, add_new_array, add_put_item, add_unwrap, add_widen, add_widened,
+};
 pub use values::{
     add_const, add_is_void, add_me, add_move, add_span_test, add_type_is, add_type_of,
 };

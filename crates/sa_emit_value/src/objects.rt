@@ -4,12 +4,12 @@ use crate::area::add_result;
 use crate::around::{ADDRESS, Around, Role, STATUS};
 use crate::builtins::CREATE;
 use crate::choice::add_if_else;
-use crate::failing::{add_fail_if, deeper};
+use crate::failing::add_fail_if;
 use sa_flat::Fail;
 use sa_runtime::fault_numbers::NO_ROOM;
 use sa_runtime::layout::{
-    ALLOCATE, BOOL, BOXED, CHAR, INT, OBJECT, UNWRAPPED, WIDENED, attribute_at, first_element_at,
-    header,
+    ALLOCATE, BOOL, BOXED, CHAR, HALF_BITS, INT, LOW_HALF, OBJECT, UNWRAPPED, WIDENED,
+    WIDENED_HALF, attribute_at, first_element_at, header,
 };
 use sa_runtime::line::{Op, add_line};
 use sqlite_items::Items;
@@ -20,6 +20,22 @@ use wa_syntax::opcode::{
 };
 use wa_syntax::{Instr, NoMemory};
 
+/// A new object with an array part: the variable that gets it, its type, and the variable with the number of elements.
+#[derive(Clone, Copy, Debug, PartialEq, Eq)]
+pub struct NewArray {
+    pub to: u32,
+    pub ty: u32,
+    pub count: u32,
+}
+
+/// A value of the immutable class `ty` that is widened: the variable that gets it, and the one that has it.
+#[derive(Clone, Copy, Debug, PartialEq, Eq)]
+pub struct Widening {
+    pub to: u32,
+    pub from: u32,
+    pub ty: u32,
+}
+
 /// A new object.
 pub fn add_new(
     alloc: Global,
@@ -28,7 +44,6 @@ pub fn add_new(
     to: u32,
     ty: u32,
     fail: &Fail,
-    inside: u32,
 ) -> Result<(), NoMemory> {
     let size = attribute_at(around.attributes(ty)?);
     let line = [
@@ -39,7 +54,7 @@ pub fn add_new(
         Op::Do(I32_EQZ),
     ];
     add_line(code, &line)?;
-    add_fail_if(alloc, code, around, Op::I32(NO_ROOM), fail, inside)?;
+    add_fail_if(alloc, code, around, Op::I32(NO_ROOM), fail)?;
     let line = [
         Op::Get(ADDRESS),
         Op::Do(I64_EXTEND_I32_U),
@@ -53,24 +68,21 @@ pub fn add_new_array(
     alloc: Global,
     code: &mut Items<Instr>,
     around: &Around<'_>,
-    to: u32,
-    ty: u32,
-    count: u32,
+    array: NewArray,
     fail: &Fail,
-    inside: u32,
 ) -> Result<(), NoMemory> {
-    let first = first_element_at(around.attributes(ty)?);
+    let first = first_element_at(around.attributes(array.ty)?);
     let line = [
         Op::I64(0),
-        Op::Get(around.local(count)),
-        Op::I32(ty),
+        Op::Get(around.local(array.count)),
+        Op::I32(array.ty),
         Op::I32(first),
         Op::Call(CREATE),
         Op::Tee(STATUS),
     ];
     add_line(code, &line)?;
-    add_fail_if(alloc, code, around, Op::Get(STATUS), fail, inside)?;
-    add_result(code, around.body, Some(to))
+    add_fail_if(alloc, code, around, Op::Get(STATUS), fail)?;
+    add_result(code, around.body, Some(array.to))
 }
 
 /// An element of an array literal, whose place is in range.
@@ -89,7 +101,11 @@ pub fn add_put_item(
 }
 
 /// Adds what gives the address of an element of an object less the offset of the first one, as an operand.
-pub fn add_element(code: &mut Items<Instr>, object: u32, place: u32) -> Result<(), NoMemory> {
+pub(crate) fn add_element(
+    code: &mut Items<Instr>,
+    object: u32,
+    place: u32,
+) -> Result<(), NoMemory> {
     let line = [
         Op::Get(object),
         Op::Get(place),
@@ -107,49 +123,52 @@ pub fn add_widen(
     alloc: Global,
     code: &mut Items<Instr>,
     around: &Around<'_>,
-    to: u32,
-    from: u32,
-    ty: u32,
+    widening: Widening,
     fail: &Fail,
-    inside: u32,
 ) -> Result<(), NoMemory> {
-    if !may_be_marked(around, from) {
-        return add_widening(alloc, code, around, to, from, ty, fail, inside);
+    if !may_be_marked(around, widening.from) {
+        return add_widening(alloc, code, around, widening, fail);
     }
+    let inner = around.further_in()?;
     let mut marked = Items::new(alloc);
-    let line = [
-        Op::Get(around.local(from)),
-        Op::I64(0xffff_ffff),
-        Op::Do(I64_AND),
-        Op::Set(around.local(to)),
-    ];
-    add_line(&mut marked, &line)?;
+    add_unmarked(&mut marked, &inner, widening)?;
     let mut unmarked = Items::new(alloc);
-    add_widening(
-        alloc,
-        &mut unmarked,
-        around,
-        to,
-        from,
-        ty,
-        fail,
-        deeper(inside)?,
-    )?;
+    add_widening(alloc, &mut unmarked, &inner, widening, fail)?;
+    add_is_marked(code, around, widening.from)?;
+    add_if_else(code, marked, unmarked)
+}
+
+/// Adds the test whether a value is one that a bind has widened, as an operand.
+fn add_is_marked(code: &mut Items<Instr>, around: &Around<'_>, from: u32) -> Result<(), NoMemory> {
     let line = [
         Op::Get(around.local(from)),
-        Op::I64(32),
+        Op::I64(HALF_BITS),
         Op::Do(I64_SHR_U),
-        Op::I64(1),
+        Op::I64(WIDENED_HALF),
         Op::Do(I64_EQ),
     ];
-    add_line(code, &line)?;
-    add_if_else(code, marked, unmarked)
+    add_line(code, &line)
+}
+
+/// Adds what takes the mark off a value that a bind has widened.
+fn add_unmarked(
+    code: &mut Items<Instr>,
+    around: &Around<'_>,
+    widening: Widening,
+) -> Result<(), NoMemory> {
+    let line = [
+        Op::Get(around.local(widening.from)),
+        Op::I64(LOW_HALF),
+        Op::Do(I64_AND),
+        Op::Set(around.local(widening.to)),
+    ];
+    add_line(code, &line)
 }
 
 /// Whether a variable may hold a value that a bind has widened.
 fn may_be_marked(around: &Around<'_>, var: u32) -> bool {
     match around.role {
-        Role::Target => (var as usize) < around.body.formals.len(),
+        Role::Made => (var as usize) < around.body.formals.len(),
         Role::Feature => false,
         Role::Last => false,
     }
@@ -160,15 +179,12 @@ fn add_widening(
     alloc: Global,
     code: &mut Items<Instr>,
     around: &Around<'_>,
-    to: u32,
-    from: u32,
-    ty: u32,
+    widening: Widening,
     fail: &Fail,
-    inside: u32,
 ) -> Result<(), NoMemory> {
-    add_widened(code, around, from, ty)?;
-    add_fail_if(alloc, code, around, Op::Get(STATUS), fail, inside)?;
-    add_result(code, around.body, Some(to))
+    add_widened(code, around, widening.from, widening.ty)?;
+    add_fail_if(alloc, code, around, Op::Get(STATUS), fail)?;
+    add_result(code, around.body, Some(widening.to))
 }
 
 /// Adds the call that widens, which leaves its status in the local and as an operand.

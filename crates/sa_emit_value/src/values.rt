@@ -32,7 +32,7 @@ fn word_of(around: &Around<'_>, value: &FlatConst) -> Result<u64, NoMemory> {
         FlatConst::Bool(truth) => Ok(u64::from(*truth)),
         FlatConst::Char(byte) => Ok(u64::from(*byte)),
         FlatConst::Text(place) => {
-            let address = held(around.texts.get(*place as usize).copied())?;
+            let address = held(around.program.texts.get(*place as usize).copied())?;
             Ok(u64::from(address))
         }
     }
@@ -81,7 +81,7 @@ pub fn add_type_is(
 ) -> Result<(), NoMemory> {
     add_type_of(code, around, from)?;
     add_line(code, &[Op::Set(ADDRESS), Op::I32(0)])?;
-    for span in around.below.spans(ty) {
+    for span in around.program.below.spans(ty) {
         add_span_test(code, span)?;
         add_line(code, &[Op::Do(I32_OR)])?;
     }

@@ -3,7 +3,7 @@
 
 use crate::own_body::no_position;
 use crate::passing::{Passing, passing_of};
-use sa_core::{Core, ImplCore};
+use crate::signatures::Implemented;
 use sa_flat::{FlatArg, FlatFormal, FlatStep};
 use sa_lower_draft::OpenBody;
 use sa_tree::{NoMemory, held};
@@ -12,7 +12,7 @@ use std::alloc::Global;
 
 /// An argument that is widened behind the call: the variable that gets it, and the one that holds it with its class.
 #[derive(Clone, Copy, Debug, PartialEq, Eq)]
-pub struct Back {
+pub(crate) struct Back {
     to: u32,
     from: u32,
     ty: u32,
@@ -20,7 +20,7 @@ pub struct Back {
 
 /// The arguments as they are passed, and those that are widened behind the call.
 #[derive(Drop)]
-pub struct Arguments {
+pub(crate) struct Arguments {
     pub args: Items<FlatArg>,
     pub backs: Items<Back>,
 }
@@ -36,30 +36,27 @@ impl Arguments {
 }
 
 /// The arguments as the implementation takes them.
-pub fn pass_all(
+pub(crate) fn pass_all(
     alloc: Global,
-    core: &Core,
-    implementation: &ImplCore,
-    formals: &[FlatFormal],
+    implemented: Implemented<'_>,
     body: &mut OpenBody,
 ) -> Result<Arguments, NoMemory> {
     let mut passed = Arguments::none(alloc);
-    for (place, formal) in formals.iter().enumerate() {
-        pass(core, implementation, place, *formal, body, &mut passed)?;
+    for (place, formal) in implemented.formals().iter().enumerate() {
+        pass(implemented, place, *formal, body, &mut passed)?;
     }
     Ok(passed)
 }
 
 /// One more argument, the one at this place.
-pub fn pass(
-    core: &Core,
-    implementation: &ImplCore,
+pub(crate) fn pass(
+    implemented: Implemented<'_>,
     place: usize,
     formal: FlatFormal,
     body: &mut OpenBody,
     passed: &mut Arguments,
 ) -> Result<(), NoMemory> {
-    let how = passing_of(core, implementation, place, formal)?;
+    let how = passing_of(implemented, place, formal)?;
     let to = held(u32::try_from(place).ok())?;
     let var = variable(how, to, body, &mut passed.backs)?;
     passed.args.push(FlatArg {
@@ -88,7 +85,7 @@ fn variable(
 }
 
 /// The variable that holds the value of an immutable class as it stands at an abstract type.
-pub fn widened(from: u32, ty: u32, body: &mut OpenBody) -> Result<u32, NoMemory> {
+pub(crate) fn widened(from: u32, ty: u32, body: &mut OpenBody) -> Result<u32, NoMemory> {
     let to = body.temporary()?;
     body.step(FlatStep::Widen {
         to,
@@ -100,7 +97,7 @@ pub fn widened(from: u32, ty: u32, body: &mut OpenBody) -> Result<u32, NoMemory>
 }
 
 /// The variable that holds the result of the signature.
-pub fn widened_value(
+pub(crate) fn widened_value(
     value: Option<u32>,
     ty: Option<u32>,
     body: &mut OpenBody,
@@ -112,7 +109,7 @@ pub fn widened_value(
 }
 
 /// Widens what is copied back, from left to right.
-pub fn widen_back(backs: &[Back], body: &mut OpenBody) -> Result<(), NoMemory> {
+pub(crate) fn widen_back(backs: &[Back], body: &mut OpenBody) -> Result<(), NoMemory> {
     for back in backs {
         body.step(FlatStep::Widen {
             to: back.to,

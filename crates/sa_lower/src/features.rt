@@ -10,7 +10,7 @@ use sqlite_items::Items;
 use std::alloc::Global;
 
 /// The bodies of all features.
-pub fn feature_bodies(
+pub(crate) fn feature_bodies(
     alloc: Global,
     core: &Core,
     draft: &mut Draft,

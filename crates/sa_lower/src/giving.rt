@@ -1,17 +1,17 @@
 //! The types of what an implementation gives, which may differ from that of the signature that it implements.
 
-use crate::signatures::is_immutable;
 use sa_check_classes::{BOOL, CHAR, INT, STR};
-use sa_core::{Core, FeatureCore, ImplCore, SharedCore, Target, TypeInfo};
+use sa_core::{Core, ImplCore, Target};
+use sa_lower_expr::{attribute_type, element_type, feature_at, is_immutable, shared_type};
 use sa_prelude::BuiltinFeature;
 use sa_tree::{NoMemory, held};
 
 /// The type of what an implementation gives, if it gives anything.
-pub fn given(core: &Core, implementation: &ImplCore) -> Result<Option<u32>, NoMemory> {
+pub(crate) fn given(core: &Core, implementation: &ImplCore) -> Result<Option<u32>, NoMemory> {
     match implementation.target {
-        Target::Feature(number) => Ok(feature(core, number)?.result),
+        Target::Feature(number) => Ok(feature_at(core, number)?.result),
         Target::Get(place) => Ok(Some(attribute_type(core, implementation.ty, place)?)),
-        Target::GetShared(number) => Ok(Some(shared(core, number)?.ty)),
+        Target::GetShared(number) => Ok(Some(shared_type(core, number)?)),
         Target::Set(_) => writer_gives(core, implementation.ty),
         Target::SetShared(_) => Ok(None),
         Target::Builtin(number) => builtin_gives(core, implementation.ty, builtin(number)?),
@@ -64,32 +64,6 @@ fn builtin_gives(core: &Core, ty: u32, builtin: BuiltinFeature) -> Result<Option
     }
 }
 
-/// A feature by its number.
-pub fn feature(core: &Core, number: u32) -> Result<&FeatureCore, NoMemory> {
-    held(core.features.get(number as usize))
-}
-
-/// The type of a variable of a feature.
-pub fn variable_type(core: &Core, number: u32, place: usize) -> Result<u32, NoMemory> {
-    held(feature(core, number)?.vars.get(place).copied())
-}
-
 fn builtin(number: u8) -> Result<BuiltinFeature, NoMemory> {
     held(BuiltinFeature::of_number(number))
-}
-
-fn shared(core: &Core, number: u32) -> Result<&SharedCore, NoMemory> {
-    held(core.shareds.get(number as usize))
-}
-
-fn info(core: &Core, ty: u32) -> Result<&TypeInfo, NoMemory> {
-    held(core.types.get(ty as usize))
-}
-
-fn attribute_type(core: &Core, ty: u32, place: u32) -> Result<u32, NoMemory> {
-    held(info(core, ty)?.attrs.get(place as usize).copied())
-}
-
-fn element_type(core: &Core, ty: u32) -> Result<u32, NoMemory> {
-    held(info(core, ty)?.elem)
 }

@@ -3,31 +3,27 @@
 //! entered it, so its steps tell no position.
 
 use crate::arguments::{Arguments, pass_all, widen_back, widened_value};
-use crate::giving::{feature, given};
+use crate::giving::given;
 use crate::own_iter::own_iter;
 use crate::passing::widened_result;
-use crate::signatures::{SignatureTypes, is_immutable};
-use sa_core::{Core, ImplCore, Target};
-use sa_flat::{CallPlan, Callee, Fail, FlatBody, FlatExit, FlatStep};
+use crate::signatures::{Implemented, SignatureTypes};
+use sa_core::Target;
+use sa_flat::{CallPlan, Fail, FlatBody, FlatExit, FlatStep};
 use sa_lower_draft::{BodyHead, Inside, OpenBody};
+use sa_lower_expr::{callee_of, feature_at, is_immutable};
 use sa_tree::{NoMemory, held};
 use sqlite_items::Items;
 use std::alloc::Global;
 
 /// The body of an implementation of a signature with these types.
-pub fn own_body(
-    alloc: Global,
-    core: &Core,
-    implementation: &ImplCore,
-    types: &SignatureTypes,
-) -> Result<FlatBody, NoMemory> {
-    let iter = iter_number(core, implementation)?;
-    let head = head(alloc, iter, types)?;
+pub(crate) fn own_body(alloc: Global, implemented: Implemented<'_>) -> Result<FlatBody, NoMemory> {
+    let iter = iter_number(implemented)?;
+    let head = head(alloc, iter, implemented.types)?;
     let mut body = OpenBody::begin(alloc, head)?;
     if let Some(iter) = iter {
-        return own_iter(alloc, core, implementation, iter, types, &mut body);
+        return own_iter(alloc, implemented, iter, &mut body);
     }
-    let value = call(alloc, core, implementation, types, &mut body)?;
+    let value = call(alloc, implemented, &mut body)?;
     body.finish(alloc, FlatExit::Return { value })
 }
 
@@ -45,7 +41,7 @@ fn head(alloc: Global, iter: Option<u32>, types: &SignatureTypes) -> Result<Body
 }
 
 /// What the steps of a body tell that has no position of its own.
-pub fn no_position() -> Fail {
+pub(crate) fn no_position() -> Fail {
     Fail {
         place: 0,
         line: 0,
@@ -54,11 +50,11 @@ pub fn no_position() -> Fail {
 }
 
 /// The iter that implements the signature, if it is one.
-fn iter_number(core: &Core, implementation: &ImplCore) -> Result<Option<u32>, NoMemory> {
-    let Target::Feature(number) = implementation.target else {
+fn iter_number(implemented: Implemented<'_>) -> Result<Option<u32>, NoMemory> {
+    let Target::Feature(number) = implemented.implementation.target else {
         return Ok(None);
     };
-    if feature(core, number)?.iter {
+    if feature_at(implemented.core, number)?.iter {
         return Ok(Some(number));
     }
     Ok(None)
@@ -67,75 +63,47 @@ fn iter_number(core: &Core, implementation: &ImplCore) -> Result<Option<u32>, No
 /// The call with all that is widened before and behind it, and the variable that holds the result of the signature.
 fn call(
     alloc: Global,
-    core: &Core,
-    implementation: &ImplCore,
-    types: &SignatureTypes,
+    implemented: Implemented<'_>,
     body: &mut OpenBody,
 ) -> Result<Option<u32>, NoMemory> {
-    let recv = receiver(core, implementation, body)?;
-    let Arguments { args, backs } = pass_all(
-        alloc,
-        core,
-        implementation,
-        types.formals.as_slice(),
-        body,
-    )?;
-    let value = value_of(core, implementation, body)?;
+    let recv = receiver(implemented, body)?;
+    let Arguments { args, backs } = pass_all(alloc, implemented, body)?;
+    let value = value_of(implemented, body)?;
     body.step(FlatStep::Call {
         plan: CallPlan {
-            callee: callee(implementation.target),
-            class: implementation.ty,
+            callee: callee_of(implemented.implementation.target),
+            class: implemented.implementation.ty,
             recv,
             args,
             value,
             fail: no_position(),
         },
     })?;
-    let value = widened_value(value, widened_result(core, implementation, types)?, body)?;
+    let value = widened_value(value, widened_result(implemented)?, body)?;
     widen_back(backs.as_slice(), body)?;
     Ok(value)
 }
 
 /// The variable that holds the receiver as its own class has it.
-pub fn receiver(
-    core: &Core,
-    implementation: &ImplCore,
-    body: &mut OpenBody,
-) -> Result<u32, NoMemory> {
+pub(crate) fn receiver(implemented: Implemented<'_>, body: &mut OpenBody) -> Result<u32, NoMemory> {
     let me = body.temporary()?;
     body.step(FlatStep::Me { to: me })?;
-    if !is_immutable(core, implementation.ty)? {
+    let ty = implemented.implementation.ty;
+    if !is_immutable(implemented.core, ty)? {
         return Ok(me);
     }
     let to = body.temporary()?;
-    body.step(FlatStep::Unwrap {
-        to,
-        from: me,
-        ty: implementation.ty,
-    })?;
+    body.step(FlatStep::Unwrap { to, from: me, ty })?;
     Ok(to)
 }
 
 /// A variable for what the implementation gives, if it gives anything.
-pub fn value_of(
-    core: &Core,
-    implementation: &ImplCore,
+pub(crate) fn value_of(
+    implemented: Implemented<'_>,
     body: &mut OpenBody,
 ) -> Result<Option<u32>, NoMemory> {
-    match given(core, implementation)? {
+    match given(implemented.core, implemented.implementation)? {
         Some(_) => Ok(Some(body.temporary()?)),
         None => Ok(None),
-    }
-}
-
-/// What a call of an implementation reaches.
-fn callee(target: Target) -> Callee {
-    match target {
-        Target::Feature(number) => Callee::Body(number),
-        Target::Builtin(number) => Callee::Builtin(number),
-        Target::Get(place) => Callee::Get(place),
-        Target::Set(place) => Callee::Set(place),
-        Target::GetShared(number) => Callee::GetShared(number),
-        Target::SetShared(number) => Callee::SetShared(number),
     }
 }

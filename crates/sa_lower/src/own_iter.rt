@@ -5,8 +5,7 @@
 use crate::arguments::{Arguments, pass, widen_back, widened, widened_value};
 use crate::own_body::{receiver, value_of};
 use crate::passing::{Passing, passing_of, widened_result};
-use crate::signatures::SignatureTypes;
-use sa_core::{Core, ImplCore};
+use crate::signatures::Implemented;
 use sa_flat::{FlatArg, FlatBody, FlatExit, FlatFormal, FlatStep};
 use sa_lower_draft::OpenBody;
 use sa_tree::{Mode, NoMemory, held};
@@ -22,19 +21,16 @@ struct Begun {
 }
 
 /// The body of an implementation by the iter with this number, which has begun.
-pub fn own_iter(
+pub(crate) fn own_iter(
     alloc: Global,
-    core: &Core,
-    implementation: &ImplCore,
+    implemented: Implemented<'_>,
     iter: u32,
-    types: &SignatureTypes,
     body: &mut OpenBody,
 ) -> Result<FlatBody, NoMemory> {
-    let formals = types.formals.as_slice();
-    let begun = begin(alloc, core, implementation, formals, body)?;
-    let passed = pass_all(alloc, core, implementation, formals, &begun, body)?;
+    let begun = begin(alloc, implemented, body)?;
+    let passed = pass_all(alloc, implemented, &begun, body)?;
     let Arguments { args, backs } = passed;
-    let value = value_of(core, implementation, body)?;
+    let value = value_of(implemented, body)?;
     let quit = body.temporary()?;
     body.step(FlatStep::Enter {
         body: iter,
@@ -44,7 +40,7 @@ pub fn own_iter(
         quit,
     })?;
     end_or_go_on(alloc, body, quit)?;
-    let result = widened_result(core, implementation, types)?;
+    let result = widened_result(implemented)?;
     let value = widened_value(value, result, body)?;
     widen_back(backs.as_slice(), body)?;
     let exit = FlatExit::Suspend {
@@ -57,9 +53,7 @@ pub fn own_iter(
 /// Takes what a start hands over. The block in which a start and a resumption go on is open afterwards.
 fn begin(
     alloc: Global,
-    core: &Core,
-    implementation: &ImplCore,
-    formals: &[FlatFormal],
+    implemented: Implemented<'_>,
     body: &mut OpenBody,
 ) -> Result<Begun, NoMemory> {
     let test = body.temporary()?;
@@ -72,8 +66,8 @@ fn begin(
         no: fresh,
     };
     body.end(alloc, branch, fresh)?;
-    let recv = receiver(core, implementation, body)?;
-    let vars = once_arguments(alloc, core, implementation, formals, body)?;
+    let recv = receiver(implemented, body)?;
+    let vars = once_arguments(alloc, implemented, body)?;
     body.end(alloc, FlatExit::Jump(joined), joined)?;
     Ok(Begun { recv, vars })
 }
@@ -81,22 +75,19 @@ fn begin(
 /// The variables of the arguments, those of the `once` ones as the implementation takes them.
 fn once_arguments(
     alloc: Global,
-    core: &Core,
-    implementation: &ImplCore,
-    formals: &[FlatFormal],
+    implemented: Implemented<'_>,
     body: &mut OpenBody,
 ) -> Result<Items<u32>, NoMemory> {
     let mut vars = Items::new(alloc);
-    for (place, formal) in formals.iter().enumerate() {
-        vars.push(once_argument(core, implementation, place, *formal, body)?)?;
+    for (place, formal) in implemented.formals().iter().enumerate() {
+        vars.push(once_argument(implemented, place, *formal, body)?)?;
     }
     Ok(vars)
 }
 
 /// The variable of the argument at this place.
 fn once_argument(
-    core: &Core,
-    implementation: &ImplCore,
+    implemented: Implemented<'_>,
     place: usize,
     formal: FlatFormal,
     body: &mut OpenBody,
@@ -105,7 +96,7 @@ fn once_argument(
     if formal.mode != Mode::Once {
         return Ok(var);
     }
-    match passing_of(core, implementation, place, formal)? {
+    match passing_of(implemented, place, formal)? {
         Passing::WidenedIn(ty) => widened(var, ty, body),
         _ => Ok(var),
     }
@@ -114,18 +105,16 @@ fn once_argument(
 /// The arguments as the iter takes them. Those that aren't `once` are taken anew.
 fn pass_all(
     alloc: Global,
-    core: &Core,
-    implementation: &ImplCore,
-    formals: &[FlatFormal],
+    implemented: Implemented<'_>,
     begun: &Begun,
     body: &mut OpenBody,
 ) -> Result<Arguments, NoMemory> {
     let mut passed = Arguments::none(alloc);
-    for (place, formal) in formals.iter().enumerate() {
+    for (place, formal) in implemented.formals().iter().enumerate() {
         if formal.mode == Mode::Once {
             pass_begun(place, begun, &mut passed)?;
         } else {
-            pass(core, implementation, place, *formal, body, &mut passed)?;
+            pass(implemented, place, *formal, body, &mut passed)?;
         }
     }
     Ok(passed)

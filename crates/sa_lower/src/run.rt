@@ -1,18 +1,21 @@
 //! The body that a run begins with: it evaluates the initialisers of the shareds in their order, each for a turn and with the
 //! void value of its class as `self`, and calls `main`.
 
-use crate::giving::feature;
 use crate::own_body::no_position;
 use sa_core::{Core, SharedCore};
 use sa_flat::{CallPlan, Callee, FlatBody, FlatConst, FlatExit, FlatStep};
 use sa_lower_draft::{BodyHead, Draft, Inside, OpenBody};
-use sa_lower_expr::{Owner, place_expr};
+use sa_lower_expr::{Owner, feature_at, place_expr};
 use sa_tree::{NoMemory, held};
 use sqlite_items::Items;
 use std::alloc::Global;
 
 /// The body that a run begins with.
-pub fn run_body(alloc: Global, core: &Core, draft: &mut Draft) -> Result<FlatBody, NoMemory> {
+pub(crate) fn run_body(
+    alloc: Global,
+    core: &Core,
+    draft: &mut Draft,
+) -> Result<FlatBody, NoMemory> {
     draft.begin(alloc, head(alloc))?;
     for (number, shared) in core.shareds.as_slice().iter().enumerate() {
         let number = held(u32::try_from(number).ok())?;
@@ -57,7 +60,7 @@ fn initialise(
 /// Calls `main` with a void self, and gives the variable that holds its result, if it has one.
 fn call_main(alloc: Global, core: &Core, body: &mut OpenBody) -> Result<Option<u32>, NoMemory> {
     body.statement(&Inside::of_body());
-    let main = feature(core, core.main)?;
+    let main = feature_at(core, core.main)?;
     let recv = body.temporary()?;
     body.step(FlatStep::Const {
         to: recv,

@@ -1,22 +1,40 @@
-//! The types of signatures, by their numbers.
+//! The types of signatures, by their numbers, and an implementation of one.
 
 use indexmap::IndexMap;
-use sa_core::{Core, SigCore, TypeInfo};
+use sa_core::{Core, ImplCore, SigCore, TypeInfo};
 use sa_flat::FlatFormal;
 use sa_lower_draft::Tables;
-use sa_tree::{Kind, ModeTy, NoMemory, Ty, held};
+use sa_tree::{ModeTy, NoMemory, Ty, held};
 use sqlite_items::Items;
 use std::alloc::Global;
 
 /// The arguments and the result of a signature, with the numbers of their types.
 #[derive(Drop)]
-pub struct SignatureTypes {
+pub(crate) struct SignatureTypes {
     pub formals: Items<FlatFormal>,
     pub result: Option<u32>,
 }
 
+/// A signature of a program as it is implemented: by what, and with which arguments and which result.
+#[derive(Clone, Copy)]
+pub(crate) struct Implemented<'a> {
+    pub core: &'a Core,
+    pub implementation: &'a ImplCore,
+    pub types: &'a SignatureTypes,
+}
+
+impl<'a> Implemented<'a> {
+    /// The arguments of the signature.
+    pub fn formals(&self) -> &'a [FlatFormal] {
+        self.types.formals.as_slice()
+    }
+}
+
 /// The types of a program with their numbers.
-pub fn type_numbers(alloc: Global, types: &[TypeInfo]) -> Result<IndexMap<Ty, u32>, NoMemory> {
+pub(crate) fn type_numbers(
+    alloc: Global,
+    types: &[TypeInfo],
+) -> Result<IndexMap<Ty, u32>, NoMemory> {
     let mut numbers = IndexMap::new(alloc);
     for (number, info) in types.iter().enumerate() {
         let number = held(u32::try_from(number).ok())?;
@@ -26,7 +44,7 @@ pub fn type_numbers(alloc: Global, types: &[TypeInfo]) -> Result<IndexMap<Ty, u3
 }
 
 /// The types of a signature, which are types of the program.
-pub fn signature_types(
+pub(crate) fn signature_types(
     alloc: Global,
     tables: &Tables,
     signature: &SigCore,
@@ -53,19 +71,4 @@ fn result_type(tables: &Tables, ty: &Option<Ty>) -> Result<Option<u32>, NoMemory
         Some(ty) => Ok(Some(tables.type_number(ty)?)),
         None => Ok(None),
     }
-}
-
-fn kind(core: &Core, ty: u32) -> Result<Kind, NoMemory> {
-    let info = held(core.types.get(ty as usize))?;
-    Ok(info.kind)
-}
-
-/// Whether a type is an immutable class.
-pub fn is_immutable(core: &Core, ty: u32) -> Result<bool, NoMemory> {
-    Ok(kind(core, ty)? == Kind::Immutable)
-}
-
-/// Whether a type is abstract.
-pub fn is_abstract(core: &Core, ty: u32) -> Result<bool, NoMemory> {
-    Ok(kind(core, ty)? == Kind::Abstract)
 }

@@ -4,17 +4,18 @@
 
 use crate::own_body::own_body;
 use crate::passing::{Passing, passing_of, widened_result};
-use crate::signatures::{SignatureTypes, is_immutable, signature_types};
+use crate::signatures::{Implemented, SignatureTypes, signature_types};
 use sa_core::{Core, ImplCore, SigCore, Target};
-use sa_flat::{FlatBody, FlatFormal};
+use sa_flat::FlatBody;
 use sa_lower_draft::Tables;
+use sa_lower_expr::is_immutable;
 use sa_tree::{NoMemory, held};
 use sqlite_items::Items;
 use std::alloc::Global;
 
 /// The number of the body of each implementation, in the order of the signatures and of their implementations. The bodies
 /// that are made for them stand behind the others.
-pub fn targets(
+pub(crate) fn targets(
     alloc: Global,
     core: &Core,
     tables: &Tables,
@@ -43,7 +44,12 @@ fn add_own_bodies(
 ) -> Result<(), NoMemory> {
     for implementation in signature.impls.as_slice() {
         let number = held(u32::try_from(bodies.len()).ok())?;
-        bodies.push(own_body(alloc, core, implementation, types)?)?;
+        let implemented = Implemented {
+            core,
+            implementation,
+            types,
+        };
+        bodies.push(own_body(alloc, implemented)?)?;
         targets.push(number)?;
     }
     Ok(())
@@ -71,7 +77,12 @@ fn needs_own_bodies(
     types: &SignatureTypes,
 ) -> Result<bool, NoMemory> {
     for implementation in signature.impls.as_slice() {
-        if needs_own_body(core, implementation, types)? {
+        let implemented = Implemented {
+            core,
+            implementation,
+            types,
+        };
+        if needs_own_body(implemented)? {
             return Ok(true);
         }
     }
@@ -79,30 +90,22 @@ fn needs_own_bodies(
 }
 
 /// Whether an implementation is no feature, or is called with another receiver, arguments or result than the signature has.
-fn needs_own_body(
-    core: &Core,
-    implementation: &ImplCore,
-    types: &SignatureTypes,
-) -> Result<bool, NoMemory> {
-    if feature_number(implementation.target).is_none() {
+fn needs_own_body(implemented: Implemented<'_>) -> Result<bool, NoMemory> {
+    if feature_number(implemented.implementation.target).is_none() {
         return Ok(true);
     }
-    if is_immutable(core, implementation.ty)? {
+    if is_immutable(implemented.core, implemented.implementation.ty)? {
         return Ok(true);
     }
-    if widened_result(core, implementation, types)?.is_some() {
+    if widened_result(implemented)?.is_some() {
         return Ok(true);
     }
-    is_any_argument_widened(core, implementation, types.formals.as_slice())
+    is_any_argument_widened(implemented)
 }
 
-fn is_any_argument_widened(
-    core: &Core,
-    implementation: &ImplCore,
-    formals: &[FlatFormal],
-) -> Result<bool, NoMemory> {
-    for (place, formal) in formals.iter().enumerate() {
-        if passing_of(core, implementation, place, *formal)? != Passing::Plain {
+fn is_any_argument_widened(implemented: Implemented<'_>) -> Result<bool, NoMemory> {
+    for (place, formal) in implemented.formals().iter().enumerate() {
+        if passing_of(implemented, place, *formal)? != Passing::Plain {
             return Ok(true);
         }
     }

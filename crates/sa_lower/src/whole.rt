@@ -5,20 +5,21 @@ use crate::run::run_body;
 use crate::signatures::type_numbers;
 use crate::targets::targets;
 use indexmap::IndexSet;
-use sa_core::{Core, SharedCore, TypeInfo, positions};
+use sa_core::{Core, SharedCore, TypeInfo};
 use sa_flat::{FlatProgram, Layout};
 use sa_lower_draft::{Draft, Tables};
-use sa_tree::{Name, NoMemory};
+use sa_tree::{Name, NoMemory, Pos};
 use sqlite_items::Items;
 use std::alloc::Global;
 
-/// The flat program of a typed one, which has a line for each of its positions.
+/// The flat program of a typed one, which has these positions and a line for each of them.
 ///
 /// # Errors
 ///
 /// `NoMemory`, also where a number of the typed program is out of range, or an iter call stands outside loops.
-pub fn lower(alloc: Global, core: &Core) -> Result<FlatProgram, NoMemory> {
-    let mut program = tables(alloc, core)?;
+pub fn lower(alloc: Global, core: &Core, positions: Items<Pos>) -> Result<FlatProgram, NoMemory> {
+    let mut program = empty(alloc, positions);
+    add_tables(alloc, core, &mut program)?;
     let types = type_numbers(alloc, core.types.as_slice())?;
     let positions = program.sites.as_slice();
     let tables = Tables::new(alloc, positions, core.lines.as_slice(), types)?;
@@ -44,21 +45,20 @@ fn add_bodies(
     Ok(())
 }
 
-/// A program without bodies and texts, with what the typed one says of its types, shareds and positions.
-fn tables(alloc: Global, core: &Core) -> Result<FlatProgram, NoMemory> {
-    let mut program = empty(alloc);
-    program.sites = positions(alloc, core)?;
+/// Puts into a program what the typed one says of its types and shareds.
+fn add_tables(alloc: Global, core: &Core, program: &mut FlatProgram) -> Result<(), NoMemory> {
     program.types = slots(alloc, core.types.as_slice())?;
     program.layouts = layouts(alloc, core.types.as_slice())?;
     program.shareds = shared_types(alloc, core.shareds.as_slice())?;
-    Ok(program)
+    Ok(())
 }
 
-fn empty(alloc: Global) -> FlatProgram {
+/// A program with these positions and nothing else.
+fn empty(alloc: Global, positions: Items<Pos>) -> FlatProgram {
     FlatProgram {
         bodies: Items::new(alloc),
         texts: Items::new(alloc),
-        sites: Items::new(alloc),
+        sites: positions,
         types: Items::new(alloc),
         targets: Items::new(alloc),
         layouts: Items::new(alloc),

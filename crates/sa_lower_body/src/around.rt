@@ -1,9 +1,10 @@
-//! What is around a statement, and what its program says of types and variables.
+//! What is around a statement, and which types are at or below another one.
 
 use crate::loop_sites::LoopSites;
-use sa_core::{Core, FeatureCore};
+use sa_core::Core;
 use sa_lower_draft::Inside;
-use sa_tree::{Kind, NoMemory, held};
+use sa_lower_expr::type_at;
+use sa_tree::NoMemory;
 
 /// What is around a statement.
 #[derive(Clone, Copy)]
@@ -23,28 +24,11 @@ impl<'a> Around<'a> {
     }
 }
 
-/// A feature by its number.
-pub(crate) fn feature_at(core: &Core, number: u32) -> Result<&FeatureCore, NoMemory> {
-    held(core.features.get(number as usize))
-}
-
-/// The number of a variable's type.
-pub(crate) fn var_type(around: &Around<'_>, var: u32) -> Result<u32, NoMemory> {
-    let feature = feature_at(around.core, around.feature)?;
-    held(feature.vars.get(var as usize).copied())
-}
-
-/// Whether a type is that of an immutable class.
-pub(crate) fn is_immutable(core: &Core, ty: u32) -> Result<bool, NoMemory> {
-    let info = held(core.types.get(ty as usize))?;
-    Ok(info.kind == Kind::Immutable)
-}
-
 /// Whether a type is another one or below it.
 pub(crate) fn is_at_or_below(core: &Core, ty: u32, other: u32) -> Result<bool, NoMemory> {
     if ty == other {
         return Ok(true);
     }
-    let info = held(core.types.get(ty as usize))?;
+    let info = type_at(core, ty)?;
     Ok(info.above.as_slice().contains(&other))
 }

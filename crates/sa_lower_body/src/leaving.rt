@@ -9,10 +9,25 @@ use sa_lower_draft::{Draft, OpenBody};
 use sa_tree::{NoMemory, Pos, held};
 use std::alloc::Global;
 
-/// The forms of leaving a loop, by their numbers: always, and where the test is false. Else it is where the test is true.
-const BREAK: u8 = 0;
+/// When a statement leaves the innermost loop.
+#[derive(Clone, Copy, Debug, PartialEq, Eq)]
+enum Leaving {
+    /// Always: `break!`.
+    Always,
+    /// Where the test is false: `while!`.
+    WhereFalse,
+    /// Where the test is true: `until!`.
+    WhereTrue,
+}
 
-const WHILE: u8 = 1;
+/// When the statement of the form with this number leaves the loop.
+fn leaving_of(number: u8) -> Leaving {
+    match number {
+        0 => Leaving::Always,
+        1 => Leaving::WhereFalse,
+        _ => Leaving::WhereTrue,
+    }
+}
 
 /// `return`, which first ends the instances of the loops around it.
 pub(crate) fn leave_body(
@@ -66,36 +81,67 @@ pub(crate) fn stop(
     draft.body.leave(alloc, FlatExit::Stop { kind, fail })
 }
 
-/// Leaves the innermost loop: always, or by a test.
+/// Leaves the innermost loop, by the number of the statement's form: always, or by a test.
 pub(crate) fn leave_loop(
     alloc: Global,
     around: &Around<'_>,
     draft: &mut Draft,
-    kind: u8,
+    number: u8,
     test: &Option<ExprCore>,
 ) -> Result<(), NoMemory> {
     let after = around.inside.after()?;
-    if kind == BREAK {
-        return draft.body.leave(alloc, FlatExit::Jump(after));
+    match leaving_of(number) {
+        Leaving::Always => draft.body.leave(alloc, FlatExit::Jump(after)),
+        Leaving::WhereFalse => {
+            let test = tested(alloc, around, draft, test)?;
+            go_on_where_true(alloc, &mut draft.body, test, after)
+        }
+        Leaving::WhereTrue => {
+            let test = tested(alloc, around, draft, test)?;
+            go_on_where_false(alloc, &mut draft.body, test, after)
+        }
     }
-    let test = held(test.as_ref())?;
-    let test = value_of(alloc, around, draft, test)?;
-    leave_by_test(alloc, &mut draft.body, kind, test, after)
 }
 
-/// Leaves a loop where the test is false (`while!`), or where it is true (`until!`).
-fn leave_by_test(
+/// The variable that holds the value of a test.
+fn tested(
+    alloc: Global,
+    around: &Around<'_>,
+    draft: &mut Draft,
+    test: &Option<ExprCore>,
+) -> Result<u32, NoMemory> {
+    let test = held(test.as_ref())?;
+    value_of(alloc, around, draft, test)
+}
+
+/// Goes on in a new block where the test is true, else in the block `after`.
+fn go_on_where_true(
     alloc: Global,
     body: &mut OpenBody,
-    kind: u8,
     test: u32,
     after: u32,
 ) -> Result<(), NoMemory> {
     let next = body.block(alloc)?;
-    let (yes, no) = if kind == WHILE {
-        (next, after)
-    } else {
-        (after, next)
+    let exit = FlatExit::Branch {
+        test,
+        yes: next,
+        no: after,
     };
-    body.end(alloc, FlatExit::Branch { test, yes, no }, next)
+    body.end(alloc, exit, next)
+}
+
+/// Goes on in a new block where the test is false, else in the block `after`.
+fn go_on_where_false(
+    alloc: Global,
+    body: &mut OpenBody,
+    test: u32,
+    after: u32,
+) -> Result<(), NoMemory> {
+    let next = body.block(alloc)?;
+    let exit = FlatExit::Branch {
+        test,
+        yes: after,
+        no: next,
+    };
+    body.end(alloc, exit, next)
 }

@@ -6,16 +6,13 @@ use sa_tree::{NoMemory, held};
 use sqlite_items::Items;
 use std::alloc::Global;
 
-/// What stands where no other site follows.
-const NO_SITE: u32 = u32::MAX;
-
 /// The sites of a feature by their loops.
 #[derive(Drop)]
 pub(crate) struct LoopSites {
-    /// The first site of each loop, by the loop's number.
-    first: Items<u32>,
-    /// The next site of the same loop, by the site's number.
-    next: Items<u32>,
+    /// The first site of each loop, by the loop's number, if it has sites.
+    first: Items<Option<u32>>,
+    /// The next site of the same loop, by the site's number, if there is one.
+    next: Items<Option<u32>>,
 }
 
 impl LoopSites {
@@ -41,7 +38,7 @@ impl LoopSites {
             return Err(NoMemory);
         }
         self.next.set(site, behind);
-        self.first.set(owner, number);
+        self.first.set(owner, Some(number));
         Ok(())
     }
 
@@ -72,10 +69,10 @@ fn owner(sites: &[SiteCore], site: usize) -> Result<u32, NoMemory> {
 }
 
 /// The site at a place of a list, if one is there.
-fn site_in(list: &[u32], place: u32) -> Option<u32> {
+fn site_in(list: &[Option<u32>], place: u32) -> Option<u32> {
     match list.get(place as usize) {
-        Some(site) if *site != NO_SITE => Some(*site),
-        _ => None,
+        Some(site) => *site,
+        None => None,
     }
 }
 
@@ -89,10 +86,10 @@ fn loops(sites: &[SiteCore]) -> Result<usize, NoMemory> {
 }
 
 /// A list of so many places without a site.
-fn no_sites(alloc: Global, count: usize) -> Result<Items<u32>, NoMemory> {
+fn no_sites(alloc: Global, count: usize) -> Result<Items<Option<u32>>, NoMemory> {
     let mut list = Items::new(alloc);
     for _ in 0..count {
-        list.push(NO_SITE)?;
+        list.push(None)?;
     }
     Ok(list)
 }

@@ -1,8 +1,9 @@
 //! Loops: each round spends a turn, and each way out of a loop ends the instances that belong to it.
 
-use crate::around::{Around, feature_at};
+use crate::around::Around;
 use sa_flat::{FlatExit, FlatStep, Raised};
 use sa_lower_draft::{Inside, LoopWays, OpenBody};
+use sa_lower_expr::feature_at;
 use sa_tree::NoMemory;
 use std::alloc::Global;
 

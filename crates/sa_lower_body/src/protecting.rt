@@ -2,17 +2,16 @@
 //! statements behind `else`, and where there are none on to what is around it. A raise in a branch goes to what is around the
 //! protect.
 
-use crate::around::{Around, is_immutable};
+use crate::around::Around;
 use crate::stmts::stmts;
+use sa_check_classes::OB;
 use sa_core::{ArmCore, Core, StmtCore};
 use sa_flat::{FlatExit, FlatStep, Raised};
 use sa_lower_draft::{ArmTest, Draft, Exception, Inside, OpenBody};
+use sa_lower_expr::is_immutable;
 use sa_tree::{NoMemory, held};
 use sqlite_items::Items;
 use std::alloc::Global;
-
-/// The number of `$OB`, the type of the exception behind `else`.
-const OB: u32 = 0;
 
 /// A protect: where raises in its statements go, the variable that holds the exception in its branches, the first temporary of
 /// the statements inside it, and the block behind it.

@@ -1,6 +1,6 @@
 //! Lists of statements, and a statement by its form.
 
-use crate::around::{Around, feature_at};
+use crate::around::Around;
 use crate::entries::if_entries;
 use crate::instance::{quit, yield_value};
 use crate::leaving::{leave_body, leave_loop, raise, stop};
@@ -12,6 +12,7 @@ use crate::typecase::{no_arm_fits, typecase_arms};
 use sa_core::{Core, StmtCore};
 use sa_flat::FlatExit;
 use sa_lower_draft::{Draft, Inside};
+use sa_lower_expr::feature_at;
 use sa_tree::NoMemory;
 use std::alloc::Global;
 

@@ -1,11 +1,12 @@
 //! `typecase`: the first arm whose type holds the class of a variable's value. Where the variable's own type is immutable its
 //! value has that class, so the arm is known and placed alone.
 
-use crate::around::{Around, is_at_or_below, is_immutable, var_type};
+use crate::around::{Around, is_at_or_below};
 use crate::stmts::stmts;
 use sa_core::ArmCore;
 use sa_flat::{FlatExit, FlatStep};
 use sa_lower_draft::{ArmTest, Draft, Inside, OpenBody};
+use sa_lower_expr::{is_immutable, variable_type};
 use sa_tree::{FaultKind, NoMemory, Pos};
 use std::alloc::Global;
 
@@ -19,7 +20,7 @@ pub(crate) fn typecase_arms(
     var: u32,
     arms: &[ArmCore],
 ) -> Result<Option<u32>, NoMemory> {
-    let ty = var_type(around, var)?;
+    let ty = variable_type(around.core, around.feature, var as usize)?;
     if is_immutable(around.core, ty)? {
         return known_arm(alloc, around, draft, var, ty, arms);
     }

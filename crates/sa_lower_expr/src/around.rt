@@ -1,8 +1,8 @@
-//! What is around an expression, and what its program says of types, features and signatures by their numbers.
+//! What is around an expression.
 
-use sa_core::{CalledCore, Core, FeatureCore, SigCore, TypeInfo};
+use sa_core::Core;
 use sa_lower_draft::Inside;
-use sa_tree::{Kind, NoMemory, held};
+use sa_tree::{NoMemory, held};
 
 /// What a statement stands in.
 #[derive(Clone, Copy, Debug, PartialEq, Eq)]
@@ -40,56 +40,4 @@ pub(crate) fn own_feature(around: &Around<'_>) -> Result<u32, NoMemory> {
         Owner::Feature(feature) => Ok(feature),
         Owner::Initialiser(_) => held(None),
     }
-}
-
-/// A feature by its number.
-pub(crate) fn feature_at(core: &Core, feature: u32) -> Result<&FeatureCore, NoMemory> {
-    held(core.features.get(feature as usize))
-}
-
-/// The number of a variable's type.
-pub(crate) fn var_type(core: &Core, feature: u32, var: usize) -> Result<u32, NoMemory> {
-    let feature = feature_at(core, feature)?;
-    held(feature.vars.get(var).copied())
-}
-
-/// What a site of a feature calls.
-pub(crate) fn site_called(core: &Core, feature: u32, site: u32) -> Result<CalledCore, NoMemory> {
-    let feature = feature_at(core, feature)?;
-    let site = held(feature.sites.get(site as usize))?;
-    Ok(site.called)
-}
-
-/// A signature by its number.
-pub(crate) fn signature_at(core: &Core, signature: u32) -> Result<&SigCore, NoMemory> {
-    held(core.sigs.get(signature as usize))
-}
-
-/// A type by its number.
-pub(crate) fn type_at(core: &Core, ty: u32) -> Result<&TypeInfo, NoMemory> {
-    held(core.types.get(ty as usize))
-}
-
-/// The kind of a type.
-pub(crate) fn kind_of(core: &Core, ty: u32) -> Result<Kind, NoMemory> {
-    let info = type_at(core, ty)?;
-    Ok(info.kind)
-}
-
-/// The number of the type of an attribute, by its place in its class.
-pub(crate) fn attribute_type(core: &Core, class: u32, place: u32) -> Result<u32, NoMemory> {
-    let info = type_at(core, class)?;
-    held(info.attrs.get(place as usize).copied())
-}
-
-/// The number of the type of a class's elements.
-pub(crate) fn element_type(core: &Core, class: u32) -> Result<u32, NoMemory> {
-    let info = type_at(core, class)?;
-    held(info.elem)
-}
-
-/// The number of the type of a shared.
-pub(crate) fn shared_type(core: &Core, shared: u32) -> Result<u32, NoMemory> {
-    let shared = held(core.shareds.get(shared as usize))?;
-    Ok(shared.ty)
 }

@@ -2,15 +2,16 @@
 //! bind of a signature is widened where the implementation that the receiver chooses takes it at an abstract type, so that a
 //! call of the bound value finds it as it has to be.
 
-use crate::around::{Around, kind_of, signature_at};
+use crate::around::Around;
 use crate::call::{Invocation, plan_of};
 use crate::passing::Passed;
 use crate::reached::{Reached, parameter_type};
 use crate::taken::takes_abstract;
+use crate::tree::{is_immutable, signature_at};
 use sa_core::{Core, ImplCore, SigCore};
 use sa_flat::{Fail, FlatArg, FlatStep};
 use sa_lower_draft::{Draft, OpenBody};
-use sa_tree::{Kind, NoMemory};
+use sa_tree::NoMemory;
 use sqlite_items::Items;
 use std::alloc::Global;
 
@@ -89,7 +90,7 @@ fn kept_value(
         return Ok(None);
     };
     let ty = parameter_type(&draft.tables, chosen.signature, place)?;
-    if kind_of(chosen.core, ty)? != Kind::Immutable {
+    if !is_immutable(chosen.core, ty)? {
         return Ok(given);
     }
     let types = takers(alloc, chosen.core, chosen.signature.impls.as_slice(), place)?;

@@ -1,22 +1,18 @@
 //! The step of a call: what it calls, of which class, and whether it gives a value.
 
-use crate::around::{Around, feature_at, kind_of, signature_at};
+use crate::around::Around;
 use crate::copies::copy_back;
 use crate::passing::{Passed, pass_value};
 use crate::reached::{Reached, bound_result};
+use crate::tree::{callee_of, feature_at, is_immutable, signature_at};
+use sa_check_classes::{CHAR, INT};
 use sa_core::{Core, Target};
 use sa_flat::{CallPlan, Callee, FlatArg, FlatStep};
 use sa_lower_draft::{Draft, OpenBody, Tables};
 use sa_prelude::BuiltinFeature;
-use sa_tree::{Kind, Mode, NoMemory, Pos, held};
+use sa_tree::{Mode, NoMemory, Pos, held};
 use sqlite_items::Items;
 use std::alloc::Global;
-
-/// The number of the class INT.
-const INT: u32 = 4;
-
-/// The number of the class CHAR.
-const CHAR: u32 = 5;
 
 /// What is called, the variable that holds its receiver, and the position of the call.
 #[derive(Clone, Copy)]
@@ -113,18 +109,6 @@ fn callee(reached: Reached) -> Callee {
     }
 }
 
-/// What a call of a target reaches.
-fn callee_of(target: Target) -> Callee {
-    match target {
-        Target::Feature(feature) => Callee::Body(feature),
-        Target::Builtin(number) => Callee::Builtin(number),
-        Target::Get(place) => Callee::Get(place),
-        Target::Set(place) => Callee::Set(place),
-        Target::GetShared(shared) => Callee::GetShared(shared),
-        Target::SetShared(shared) => Callee::SetShared(shared),
-    }
-}
-
 /// The number of the type whose feature is called. Of a bound value it isn't read.
 fn class_of(core: &Core, reached: Reached) -> Result<u32, NoMemory> {
     match reached {
@@ -164,7 +148,7 @@ fn target_gives_value(core: &Core, target: Target, class: u32) -> Result<bool, N
         Target::Feature(feature) => Ok(feature_at(core, feature)?.result.is_some()),
         Target::Builtin(number) => builtin_gives_value(number),
         Target::Get(_) => Ok(true),
-        Target::Set(_) => Ok(kind_of(core, class)? == Kind::Immutable),
+        Target::Set(_) => is_immutable(core, class),
         Target::GetShared(_) => Ok(true),
         Target::SetShared(_) => Ok(false),
     }

@@ -4,7 +4,7 @@ use crate::arguments::{arguments, once_arguments};
 use crate::around::{Around, Owner};
 use crate::binds::bind;
 use crate::call::{Invocation, call, one_passed, swapped};
-use crate::logic::{and_left, joined, or_left};
+use crate::logic::{Connective, begin_right, joined};
 use crate::reached::reached_on;
 use crate::simple::{array, new_array, void_test, widened, without_parts};
 use crate::sites::{begin_others, begin_site, end_site};
@@ -71,15 +71,15 @@ fn place(
         }
         ExprCore::And(left, right) => {
             let left = operand(alloc, around, draft, left.get())?;
-            let joint = and_left(alloc, &mut draft.body, left)?;
+            let joint = begin_right(alloc, &mut draft.body, Connective::And, left)?;
             let right = operand(alloc, around, draft, right.get())?;
-            some(joined(alloc, &mut draft.body, joint, right, false))
+            some(joined(alloc, &mut draft.body, joint, right))
         }
         ExprCore::Or(left, right) => {
             let left = operand(alloc, around, draft, left.get())?;
-            let joint = or_left(alloc, &mut draft.body, left)?;
+            let joint = begin_right(alloc, &mut draft.body, Connective::Or, left)?;
             let right = operand(alloc, around, draft, right.get())?;
-            some(joined(alloc, &mut draft.body, joint, right, true))
+            some(joined(alloc, &mut draft.body, joint, right))
         }
         _ => place_call(alloc, around, draft, e),
     }

@@ -5,55 +5,73 @@ use sa_lower_draft::OpenBody;
 use sa_tree::NoMemory;
 use std::alloc::Global;
 
-/// The variable that gets the value, and the block in which the left operand has decided it.
+/// What joins two operands.
+#[derive(Clone, Copy, Debug, PartialEq, Eq)]
+pub(crate) enum Connective {
+    And,
+    Or,
+}
+
+impl Connective {
+    /// The value of the left operand with which it decides.
+    fn deciding(self) -> bool {
+        match self {
+            Connective::And => false,
+            Connective::Or => true,
+        }
+    }
+}
+
+/// What joins the operands, the variable that gets the value, and the block in which the left operand has decided it.
 #[derive(Clone, Copy)]
 pub(crate) struct Joint {
+    connective: Connective,
     to: u32,
     decided: u32,
 }
 
-/// Opens the block in which the right operand of `and` is evaluated.
-pub(crate) fn and_left(alloc: Global, body: &mut OpenBody, left: u32) -> Result<Joint, NoMemory> {
-    let joint = new_joint(alloc, body)?;
-    let right = body.block(alloc)?;
-    let branch = FlatExit::Branch {
-        test: left,
-        yes: right,
-        no: joint.decided,
-    };
-    body.end(alloc, branch, right)?;
-    Ok(joint)
-}
-
-/// Opens the block in which the right operand of `or` is evaluated.
-pub(crate) fn or_left(alloc: Global, body: &mut OpenBody, left: u32) -> Result<Joint, NoMemory> {
-    let joint = new_joint(alloc, body)?;
-    let right = body.block(alloc)?;
-    let branch = FlatExit::Branch {
-        test: left,
-        yes: joint.decided,
-        no: right,
-    };
-    body.end(alloc, branch, right)?;
-    Ok(joint)
-}
-
-fn new_joint(alloc: Global, body: &mut OpenBody) -> Result<Joint, NoMemory> {
-    Ok(Joint {
+/// Opens the block in which the right operand is evaluated.
+pub(crate) fn begin_right(
+    alloc: Global,
+    body: &mut OpenBody,
+    connective: Connective,
+    left: u32,
+) -> Result<Joint, NoMemory> {
+    let joint = Joint {
+        connective,
         to: body.temporary()?,
         decided: body.block(alloc)?,
-    })
+    };
+    let right = body.block(alloc)?;
+    body.end(alloc, decision(joint, left, right), right)?;
+    Ok(joint)
 }
 
-/// Joins the two ways to the value: the right operand, or `decided` where the left one was enough.
+/// Where it goes on behind the left operand.
+fn decision(joint: Joint, left: u32, right: u32) -> FlatExit {
+    match joint.connective {
+        Connective::And => FlatExit::Branch {
+            test: left,
+            yes: right,
+            no: joint.decided,
+        },
+        Connective::Or => FlatExit::Branch {
+            test: left,
+            yes: joint.decided,
+            no: right,
+        },
+    }
+}
+
+/// Joins the two ways to the value: the right operand, or the left one where it was enough.
 pub(crate) fn joined(
     alloc: Global,
     body: &mut OpenBody,
     joint: Joint,
     right: u32,
-    decided: bool,
 ) -> Result<u32, NoMemory> {
     let to = joint.to;
+    let decided = joint.connective.deciding();
     let behind = body.block(alloc)?;
     body.move_to(to, right)?;
     body.end(alloc, FlatExit::Jump(behind), joint.decided)?;

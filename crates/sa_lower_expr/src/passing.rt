@@ -6,15 +6,16 @@
 //!
 //! From the first such argument on each written one is passed in a temporary, so that copies back stay in their order.
 
-use crate::around::{Around, Variables, kind_of};
+use crate::around::{Around, Variables};
 use crate::copies::CopyBack;
 use crate::reached::{Reached, formal_type, own_type};
 use crate::simple::copied;
+use crate::tree::{is_abstract, is_immutable};
 use crate::writing::written_up_to;
 use sa_core::ArgCore;
 use sa_flat::FlatArg;
 use sa_lower_draft::{Draft, OpenBody, Tables};
-use sa_tree::{Kind, Mode, NoMemory};
+use sa_tree::{Mode, NoMemory};
 use sqlite_items::Items;
 use std::alloc::Global;
 
@@ -103,13 +104,13 @@ fn widening(
 ) -> Result<Option<u32>, NoMemory> {
     let core = around.core;
     let own = own_type(around, var)?;
-    if kind_of(core, own)? != Kind::Abstract {
+    if !is_abstract(core, own)? {
         return Ok(None);
     }
     let Some(ty) = formal_type(core, tables, reached, place)? else {
         return Ok(None);
     };
-    if kind_of(core, ty)? != Kind::Immutable {
+    if !is_immutable(core, ty)? {
         return Ok(None);
     }
     Ok(Some(ty))

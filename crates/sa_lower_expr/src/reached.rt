@@ -1,9 +1,10 @@
 //! What a call reaches, and the types that this needs. A bound value tells what its call takes and gives by its type alone,
 //! so the type of the receiver has to be found; only those expressions are looked at that can have a bound type.
 
-use crate::around::{
-    Around, attribute_type, element_type, feature_at, own_feature, shared_type, signature_at,
-    site_called, type_at, var_type,
+use crate::around::{Around, own_feature};
+use crate::tree::{
+    attribute_type, element_type, feature_at, shared_type, signature_at, site_called, type_at,
+    variable_type,
 };
 use sa_core::{CalledCore, Core, ExprCore, SigCore, Target};
 use sa_lower_draft::Tables;
@@ -80,7 +81,7 @@ fn exception_type(around: &Around<'_>) -> Result<u32, NoMemory> {
 /// The number of the type of a variable of the feature around.
 pub(crate) fn own_type(around: &Around<'_>, var: u32) -> Result<u32, NoMemory> {
     let feature = own_feature(around)?;
-    var_type(around.core, feature, var as usize)
+    variable_type(around.core, feature, var as usize)
 }
 
 /// What a site of the feature around calls.
@@ -154,7 +155,9 @@ pub(crate) fn formal_type(
     place: usize,
 ) -> Result<Option<u32>, NoMemory> {
     match reached {
-        Reached::Static(Target::Feature(feature), _) => Ok(Some(var_type(core, feature, place)?)),
+        Reached::Static(Target::Feature(feature), _) => Ok(Some(variable_type(
+            core, feature, place,
+        )?)),
         Reached::Static(_, _) => Ok(None),
         Reached::Dispatch(signature) => {
             let signature = signature_at(core, signature)?;

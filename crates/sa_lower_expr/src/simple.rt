@@ -29,7 +29,7 @@ pub(crate) fn without_parts(
 }
 
 /// A constant.
-pub(crate) fn constant(body: &mut OpenBody, value: FlatConst) -> Result<u32, NoMemory> {
+fn constant(body: &mut OpenBody, value: FlatConst) -> Result<u32, NoMemory> {
     let to = body.temporary()?;
     body.step(FlatStep::Const { to, value })?;
     Ok(to)

@@ -1,9 +1,9 @@
 //! Whether an implementation takes an argument at an abstract type, where its signature may have an immutable class.
 
-use crate::around::{attribute_type, element_type, kind_of, shared_type, var_type};
+use crate::tree::{attribute_type, element_type, is_abstract, shared_type, variable_type};
 use sa_core::{Core, ImplCore, Target};
 use sa_prelude::BuiltinFeature;
-use sa_tree::{Kind, NoMemory, held};
+use sa_tree::{NoMemory, held};
 
 /// Whether an implementation takes the argument at this place at an abstract type. The answer is NoMemory where a number of
 /// the implementation or the place is out of range.
@@ -14,7 +14,7 @@ pub fn takes_abstract(
 ) -> Result<bool, NoMemory> {
     let ty = implementation.ty;
     match implementation.target {
-        Target::Feature(feature) => is_abstract(core, var_type(core, feature, place)?),
+        Target::Feature(feature) => is_abstract(core, variable_type(core, feature, place)?),
         Target::Set(attribute) => is_abstract(core, attribute_type(core, ty, attribute)?),
         Target::SetShared(shared) => is_abstract(core, shared_type(core, shared)?),
         Target::Builtin(number) => builtin_takes_abstract(core, ty, number, place),
@@ -44,9 +44,4 @@ fn element_is_abstract(core: &Core, ty: u32, place: usize) -> Result<bool, NoMem
         return Ok(false);
     }
     is_abstract(core, element_type(core, ty)?)
-}
-
-/// Whether a type is abstract.
-fn is_abstract(core: &Core, ty: u32) -> Result<bool, NoMemory> {
-    Ok(kind_of(core, ty)? == Kind::Abstract)
 }

@@ -8,22 +8,22 @@ use crate::parts::Part::{self, If, Line};
 use wa_syntax::opcode::RETURN;
 
 /// Ends a feature without a value.
-pub const DONE: Part = Line(&[I32(0)]);
+pub(crate) const DONE: Part = Line(&[I32(0)]);
 
 /// Ends a feature that gives this word.
-pub const GIVE_WORD: Part = Line(&[SetGlobal(RESULT), I32(0)]);
+pub(crate) const GIVE_WORD: Part = Line(&[SetGlobal(RESULT), I32(0)]);
 
 /// Ends a feature that gives this address or truth value.
-pub const GIVE_ADDRESS: Part = Line(&[TO_WORD, SetGlobal(RESULT), I32(0)]);
+pub(crate) const GIVE_ADDRESS: Part = Line(&[TO_WORD, SetGlobal(RESULT), I32(0)]);
 
 /// Ends a feature by `overflow` where the operand isn't 0.
-pub const OVERFLOW_IF: Part = If(&[Line(&[I32(OVERFLOW), Do(RETURN)])]);
+pub(crate) const OVERFLOW_IF: Part = If(&[Line(&[I32(OVERFLOW), Do(RETURN)])]);
 
 /// Ends a feature by `division by zero` where the operand isn't 0.
-pub const DIV_ZERO_IF: Part = If(&[Line(&[I32(DIVISION_BY_ZERO), Do(RETURN)])]);
+pub(crate) const DIV_ZERO_IF: Part = If(&[Line(&[I32(DIVISION_BY_ZERO), Do(RETURN)])]);
 
 /// Ends a feature by `index` where the operand isn't 0.
-pub const INDEX_IF: Part = If(&[Line(&[I32(INDEX), Do(RETURN)])]);
+pub(crate) const INDEX_IF: Part = If(&[Line(&[I32(INDEX), Do(RETURN)])]);
 
 /// Ends a feature by `no room` where the operand isn't 0.
-pub const NO_ROOM_IF: Part = If(&[Line(&[I32(NO_ROOM), Do(RETURN)])]);
+pub(crate) const NO_ROOM_IF: Part = If(&[Line(&[I32(NO_ROOM), Do(RETURN)])]);

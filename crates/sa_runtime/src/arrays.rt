@@ -30,10 +30,10 @@ const ELEMENT: Part = Sequence(&[
 ]);
 
 /// `AREF.asize`.
-pub const ASIZE: &[Part] = &[Line(&[Get(SELF), TO_ADDRESS, LOAD_LENGTH]), GIVE_WORD];
+pub(crate) const ASIZE: &[Part] = &[Line(&[Get(SELF), TO_ADDRESS, LOAD_LENGTH]), GIVE_WORD];
 
 /// `AREF.aget`. The parameter behind the place is how many bytes the array's address stands before its first element.
-pub const AGET: &[Part] = &[
+pub(crate) const AGET: &[Part] = &[
     HAS_ELEMENT,
     ELEMENT,
     Line(&[Get(2), Do(I32_ADD), Memory(I64_LOAD, 0)]),
@@ -41,7 +41,7 @@ pub const AGET: &[Part] = &[
 ];
 
 /// `AREF.aset`. The parameter behind the value is how many bytes the array's address stands before its first element.
-pub const ASET: &[Part] = &[
+pub(crate) const ASET: &[Part] = &[
     HAS_ELEMENT,
     ELEMENT,
     Line(&[Get(3), Do(I32_ADD)]),
@@ -51,7 +51,7 @@ pub const ASET: &[Part] = &[
 
 /// `ARRAY.create`. The parameters behind the number of elements are the type, and how many bytes the array's address stands
 /// before its first element.
-pub const CREATE: &[Part] = &[
+pub(crate) const CREATE: &[Part] = &[
     Line(&[Get(FIRST), I64(0), Do(I64_LT_S)]),
     INDEX_IF,
     Line(&[Get(FIRST), I64(32), Do(I64_SHL)]),

@@ -7,4 +7,4 @@ use crate::parts::Part::{self, Line};
 use wa_syntax::opcode::I64_EQZ;
 
 /// `BOOL.not`.
-pub const NOT: &[Part] = &[Line(&[Get(SELF), Do(I64_EQZ)]), GIVE_ADDRESS];
+pub(crate) const NOT: &[Part] = &[Line(&[Get(SELF), Do(I64_EQZ)]), GIVE_ADDRESS];

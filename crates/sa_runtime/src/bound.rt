@@ -5,8 +5,9 @@ use crate::bound_features::add_features;
 use crate::bound_locals::{BEHIND_BOUND, DEPTH, ENTRY, FRAME, INDEX, KIND, OBJECT, SELF, STATUS};
 use crate::fault_numbers::{TOO_DEEP, TOO_MANY_FRAMES};
 use crate::layout::{
-    BODY_TYPE, END_FRAME, FAULT_KIND, FRAME_OUT, FRAME_SELF_AT, GREATEST_DEPTH, HANDED_ON, KIND_AT,
-    MADE, NEW_FRAME, NUMBER_AT, RETURNED, ROUTINE, SELF_AT, SUSPENDED,
+    BODY_TYPE, END_FRAME, FAULT_KIND, FRAME_OUT, FRAME_SELF_AT, GREATEST_DEPTH, HALF_BITS,
+    HANDED_ON, KIND_AT, LOW_HALF, MADE, NEW_FRAME, NUMBER_AT, RETURNED, ROUTINE, SELF_AT,
+    SUSPENDED,
 };
 use crate::line::Op::{Br, Call, CallIndirect, Do, Get, I32, I64, Memory, Set, SetGlobal, Tee};
 use crate::operations::{LOAD_COUNT, TO_ADDRESS};
@@ -37,8 +38,9 @@ const READ_BIND: Part = Sequence(&[
 const READ_CHOSEN: Part = Sequence(&[
     Line(&[Get(KIND), I32(ROUTINE), Do(I32_LT_U)]),
     If(&[
-        Line(&[Get(SELF), I64(32), Do(I64_SHR_U), TO_ADDRESS, Set(INDEX)]),
-        Line(&[Get(SELF), I64(0xffff_ffff), Do(I64_AND), Set(SELF)]),
+        Line(&[Get(SELF), I64(HALF_BITS), Do(I64_SHR_U)]),
+        Line(&[TO_ADDRESS, Set(INDEX)]),
+        Line(&[Get(SELF), I64(LOW_HALF), Do(I64_AND), Set(SELF)]),
         Line(&[Get(KIND), I32(ROUTINE), Do(I32_ADD), Set(KIND)]),
     ]),
 ]);
@@ -129,7 +131,7 @@ const ANSWER_STATUS: Part = Sequence(&[
 
 /// `BOUND_CALL`, of the depth of the activation that calls, the frame to go on with or 0, and the bound value. It answers the
 /// status of a body; the faults of features without one are handed on, and so are those of the depth and of the frames.
-pub fn bound_call(alloc: Global) -> Result<Func, NoMemory> {
+pub(crate) fn bound_call(alloc: Global) -> Result<Func, NoMemory> {
     let mut body = instructions(alloc, &[READ_BIND, READ_CHOSEN, SPREAD, CALL_BODY])?;
     add_features(alloc, &mut body)?;
     add_parts(alloc, &[ANSWER_STATUS], &mut body)?;

@@ -137,7 +137,7 @@ const OPERANDS: [&[Part]; 6] = [
 
 /// Adds a block that calls the feature. Behind it the status is 0 or the number of a fault; features that end otherwise answer
 /// at once.
-pub fn add_features(alloc: Global, to: &mut Items<Instr>) -> Result<(), NoMemory> {
+pub(crate) fn add_features(alloc: Global, to: &mut Items<Instr>) -> Result<(), NoMemory> {
     let mut tests = instructions(alloc, ATTRIBUTES_AND_SHAREDS)?;
     for (number, function) in BUILTINS.iter().enumerate() {
         add_builtin(alloc, &mut tests, number as u32, function.0)?;

@@ -3,43 +3,43 @@
 use crate::parts::Working;
 
 /// The parameter with the depth of the activation that calls.
-pub const DEPTH: u32 = 0;
+pub(crate) const DEPTH: u32 = 0;
 
 /// The parameter with the frame that a resumption goes on with, or 0; and then the frame that was taken.
-pub const FRAME: u32 = 1;
+pub(crate) const FRAME: u32 = 1;
 
 /// The parameter with the address of the bound value, which isn't void.
-pub const OBJECT: u32 = 2;
+pub(crate) const OBJECT: u32 = 2;
 
 /// The own object of what is called, the one local of 64 bits.
-pub const SELF: u32 = 3;
+pub(crate) const SELF: u32 = 3;
 
 /// The address of the words of the bind.
-pub const ENTRY: u32 = 4;
+pub(crate) const ENTRY: u32 = 4;
 
 /// What is called: the number of a form.
-pub const KIND: u32 = 5;
+pub(crate) const KIND: u32 = 5;
 
 /// The place in the table, of an attribute in its object, or of a shared in memory.
-pub const INDEX: u32 = 6;
+pub(crate) const INDEX: u32 = 6;
 
 /// The status of what was called.
-pub const STATUS: u32 = 7;
+pub(crate) const STATUS: u32 = 7;
 
 /// How many arguments the bound value keeps.
-pub const GIVEN: u32 = 8;
+pub(crate) const GIVEN: u32 = 8;
 
 /// The number of an argument of what is called.
-pub const PLACE: u32 = 9;
+pub(crate) const PLACE: u32 = 9;
 
 /// How many bytes behind the first argument that argument stands.
-pub const AT: u32 = 10;
+pub(crate) const AT: u32 = 10;
 
 /// How many bytes behind the first argument an open one stands where the call handed it over.
-pub const HANDED: u32 = 11;
+pub(crate) const HANDED: u32 = 11;
 
 /// The address of the bound value and 8 bytes more for each of its arguments that isn't in its place yet.
-pub const KEPT: u32 = 12;
+pub(crate) const KEPT: u32 = 12;
 
 /// All locals behind the parameters.
-pub const BEHIND_BOUND: Working = Working(1, 9);
+pub(crate) const BEHIND_BOUND: Working = Working(1, 9);

@@ -9,7 +9,7 @@ use crate::{
 };
 
 /// The built-in features, each at the place that is its number.
-pub const BUILTINS: [Function; 33] = [
+pub(crate) const BUILTINS: [Function; 33] = [
     // BOOL
     Function(BINARY, NONE, comparisons::EQUAL),
     Function(UNARY, NONE, booleans::NOT),
@@ -55,7 +55,7 @@ pub const BUILTINS: [Function; 33] = [
 ];
 
 /// `FAULT`, `CHANGED`, `WIDENED`, `BOXED` and `UNWRAPPED`. Each has a type of its own.
-pub const SUPPORT: [Function; 5] = [
+pub(crate) const SUPPORT: [Function; 5] = [
     Function(0, BEHIND_THREE, faults::FAULT),
     Function(1, BEHIND_FIVE, immutables::CHANGED),
     Function(2, BEHIND_THREE, immutables::WIDENED),

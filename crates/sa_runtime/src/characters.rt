@@ -8,10 +8,10 @@ use crate::texts::MAKE_TEXT;
 use wa_syntax::opcode::I64_STORE8;
 
 /// `CHAR.int`.
-pub const INT: &[Part] = &[Line(&[Get(SELF)]), GIVE_WORD];
+pub(crate) const INT: &[Part] = &[Line(&[Get(SELF)]), GIVE_WORD];
 
 /// `CHAR.str`.
-pub const STR: &[Part] = &[
+pub(crate) const STR: &[Part] = &[
     Line(&[I32(1), Set(SIZE)]),
     MAKE_TEXT,
     Line(&[Get(MADE), Get(SELF), Memory(I64_STORE8, 8)]),

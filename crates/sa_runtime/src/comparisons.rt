@@ -7,7 +7,7 @@ use crate::parts::Part::{self, Line};
 use wa_syntax::opcode::{I64_EQ, I64_LT_S};
 
 /// `is_eq`.
-pub const EQUAL: &[Part] = &[Line(&[Get(SELF), Get(FIRST), Do(I64_EQ)]), GIVE_ADDRESS];
+pub(crate) const EQUAL: &[Part] = &[Line(&[Get(SELF), Get(FIRST), Do(I64_EQ)]), GIVE_ADDRESS];
 
 /// `is_lt`.
-pub const LESS: &[Part] = &[Line(&[Get(SELF), Get(FIRST), Do(I64_LT_S)]), GIVE_ADDRESS];
+pub(crate) const LESS: &[Part] = &[Line(&[Get(SELF), Get(FIRST), Do(I64_LT_S)]), GIVE_ADDRESS];

@@ -9,31 +9,31 @@ use wa_syntax::opcode::{
 };
 
 /// Leaves the block around the loop where fewer than 8 bytes are left.
-pub const LEAVE_WITHOUT_WORD: Part = Line(&[Get(LEFT), I32(8), Do(I32_LT_U), BrIf(1)]);
+pub(crate) const LEAVE_WITHOUT_WORD: Part = Line(&[Get(LEFT), I32(8), Do(I32_LT_U), BrIf(1)]);
 
 /// Leaves the block around the loop where no byte is left.
-pub const LEAVE_WITHOUT_BYTE: Part = Line(&[Get(LEFT), Do(I32_EQZ), BrIf(1)]);
+pub(crate) const LEAVE_WITHOUT_BYTE: Part = Line(&[Get(LEFT), Do(I32_EQZ), BrIf(1)]);
 
 /// 8 bytes are taken from those that are left.
-pub const WORD_IS_DONE: Part = Line(&[Get(LEFT), I32(8), Do(I32_SUB), Set(LEFT)]);
+pub(crate) const WORD_IS_DONE: Part = Line(&[Get(LEFT), I32(8), Do(I32_SUB), Set(LEFT)]);
 
 /// A byte is taken from those that are left.
-pub const BYTE_IS_DONE: Part = Line(&[Get(LEFT), I32(1), Do(I32_SUB), Set(LEFT)]);
+pub(crate) const BYTE_IS_DONE: Part = Line(&[Get(LEFT), I32(1), Do(I32_SUB), Set(LEFT)]);
 
 /// Goes on to read 8 bytes further on.
-pub const READ_WORD_ON: Part = Line(&[Get(FROM), I32(8), Do(I32_ADD), Set(FROM)]);
+pub(crate) const READ_WORD_ON: Part = Line(&[Get(FROM), I32(8), Do(I32_ADD), Set(FROM)]);
 
 /// Goes on to read at the next byte.
-pub const READ_BYTE_ON: Part = Line(&[Get(FROM), I32(1), Do(I32_ADD), Set(FROM)]);
+pub(crate) const READ_BYTE_ON: Part = Line(&[Get(FROM), I32(1), Do(I32_ADD), Set(FROM)]);
 
 /// Goes on to write 8 bytes further on.
-pub const WRITE_WORD_ON: Part = Line(&[Get(TO), I32(8), Do(I32_ADD), Set(TO)]);
+pub(crate) const WRITE_WORD_ON: Part = Line(&[Get(TO), I32(8), Do(I32_ADD), Set(TO)]);
 
 /// Goes on to write at the next byte.
-pub const WRITE_BYTE_ON: Part = Line(&[Get(TO), I32(1), Do(I32_ADD), Set(TO)]);
+pub(crate) const WRITE_BYTE_ON: Part = Line(&[Get(TO), I32(1), Do(I32_ADD), Set(TO)]);
 
 /// Copies bytes, 8 at a time, until fewer are left.
-pub const COPY_WORDS: Part = Block(&[Loop(&[
+pub(crate) const COPY_WORDS: Part = Block(&[Loop(&[
     LEAVE_WITHOUT_WORD,
     Line(&[Get(TO), Get(FROM)]),
     Line(&[Memory(I64_LOAD, 8), Memory(I64_STORE, 8)]),
@@ -44,7 +44,7 @@ pub const COPY_WORDS: Part = Block(&[Loop(&[
 ])]);
 
 /// Copies bytes until none is left.
-pub const COPY_BYTES: Part = Sequence(&[
+pub(crate) const COPY_BYTES: Part = Sequence(&[
     COPY_WORDS,
     Block(&[Loop(&[
         LEAVE_WITHOUT_BYTE,

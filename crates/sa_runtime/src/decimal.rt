@@ -55,7 +55,7 @@ const DIGIT_BELOW: Part = Sequence(&[
 ]);
 
 /// `INT.str`: the digits are counted, then the text is made, then they are written.
-pub const STR: &[Part] = &[
+pub(crate) const STR: &[Part] = &[
     Line(&[Get(SELF), Set(NUMBER)]),
     Line(&[I64(1), Set(POWER)]),
     Line(&[I32(1), Set(SIZE)]),
@@ -87,7 +87,7 @@ pub const STR: &[Part] = &[
 ];
 
 /// `OUT.put_int`.
-pub const PUT_INT: &[Part] = &[
+pub(crate) const PUT_INT: &[Part] = &[
     Line(&[I64(1), Set(POWER)]),
     IS_NEGATIVE,
     If(&[NEGATE, Line(&[I32(MINUS), Call(PUT)])]),

@@ -6,7 +6,7 @@ use sa_tree::FaultKind;
 pub const OVERFLOW: u32 = FaultKind::Overflow as u32;
 
 /// A divisor is zero.
-pub const DIVISION_BY_ZERO: u32 = FaultKind::DivisionByZero as u32;
+pub(crate) const DIVISION_BY_ZERO: u32 = FaultKind::DivisionByZero as u32;
 
 /// A receiver, or what is raised, is void.
 pub const VOID: u32 = FaultKind::Void as u32;
@@ -15,7 +15,7 @@ pub const VOID: u32 = FaultKind::Void as u32;
 pub const INDEX: u32 = FaultKind::Index as u32;
 
 /// What is asserted is false. The faults with greater numbers stop the program; the others raise an exception.
-pub const ASSERT: u32 = FaultKind::Assert as u32;
+pub(crate) const ASSERT: u32 = FaultKind::Assert as u32;
 
 /// The number of a raise by the statement `raise`, which is a fault where nothing catches it.
 pub const UNCAUGHT: u32 = FaultKind::Uncaught as u32;

@@ -21,7 +21,7 @@ const LINE: u32 = 2;
 const BYTES: u64 = 24;
 
 /// `FAULT`. Where the room lacks for the exception, the program stops.
-pub const FAULT: &[Part] = &[
+pub(crate) const FAULT: &[Part] = &[
     Block(&[
         Line(&[Get(KIND), I32(ASSERT), Do(I32_GT_U), BrIf(0)]),
         Line(&[I64(FAULT_TYPE as u64), I64(BYTES), Call(ALLOCATE)]),

@@ -50,11 +50,11 @@ const RELEASE_BODY: &[Part] = &[
 ];
 
 /// `RELEASE`.
-pub const RELEASE: Function = Function(GIVES_FRAME, ONE_LOCAL, RELEASE_BODY);
+pub(crate) const RELEASE: Function = Function(GIVES_FRAME, ONE_LOCAL, RELEASE_BODY);
 
 /// `NEW_FRAME`: the frame's address, or 0 where all are taken. A slot that was given back has its old words, so those that tell
 /// where a body goes on and what is inside are cleared, by one store.
-pub fn new_frame(alloc: Global, first: u32, slot_bytes: u32) -> Result<Func, NoMemory> {
+pub(crate) fn new_frame(alloc: Global, first: u32, slot_bytes: u32) -> Result<Func, NoMemory> {
     let mut body = Items::new(alloc);
     let take = [Call(TAKE), Tee(FRAME), I32(0), Do(I32_LT_S)];
     add_line(&mut body, &take)?;
@@ -79,7 +79,7 @@ pub fn new_frame(alloc: Global, first: u32, slot_bytes: u32) -> Result<Func, NoM
 }
 
 /// `END_FRAME`, of a frame.
-pub fn end_frame(alloc: Global, first: u32, slot_bytes: u32) -> Result<Func, NoMemory> {
+pub(crate) fn end_frame(alloc: Global, first: u32, slot_bytes: u32) -> Result<Func, NoMemory> {
     let mut body = Items::new(alloc);
     let give = [
         Get(FRAME),

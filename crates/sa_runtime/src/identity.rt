@@ -12,7 +12,7 @@ use wa_syntax::opcode::{I32_AND, I32_EQ, I32_LOAD8_U, I32_OR, I64_EQ};
 const TAG: u32 = 5;
 
 /// `SYS.ob_eq`: both are void, or the same object, and no text and no immutable value. The address 0 has the tag of an object.
-pub const OB_EQ: &[Part] = &[
+pub(crate) const OB_EQ: &[Part] = &[
     Line(&[Get(FIRST), Get(SECOND), Do(I64_EQ)]),
     Line(&[Get(FIRST), TO_ADDRESS, Memory(I32_LOAD8_U, 3), Tee(TAG)]),
     Line(&[I32(OBJECT as u32), Do(I32_EQ)]),

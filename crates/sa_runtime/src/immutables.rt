@@ -30,7 +30,7 @@ const MAKE_COPY: Part = Sequence(&[
 
 /// `CHANGED`, of the value, the field, the type, the number of attributes, and how many bytes the address of the value stands
 /// before the field. The copy is charged, even where all its fields are void.
-pub const CHANGED: &[Part] = &[
+pub(crate) const CHANGED: &[Part] = &[
     Line(&[Get(3), I32(3), Do(I32_SHL), Set(LEFT)]),
     Line(&[Get(2), TO_WORD]),
     MAKE_COPY,
@@ -42,7 +42,7 @@ pub const CHANGED: &[Part] = &[
 ];
 
 /// `WIDENED`, of the value, the type and the number of attributes.
-pub const WIDENED: &[Part] = &[
+pub(crate) const WIDENED: &[Part] = &[
     Line(&[Get(2), I32(3), Do(I32_SHL), Set(LEFT)]),
     Line(&[Get(1), TO_WORD, I64(WIDENED_HEADER), Do(I64_OR)]),
     MAKE_COPY,
@@ -51,7 +51,7 @@ pub const WIDENED: &[Part] = &[
 ];
 
 /// `BOXED`, of the word and the type.
-pub const BOXED: &[Part] = &[
+pub(crate) const BOXED: &[Part] = &[
     Line(&[Get(1), TO_WORD, I64(WIDENED_HEADER), Do(I64_OR)]),
     Line(&[I64(16), Call(ALLOCATE), Tee(MADE), Do(I32_EQZ)]),
     NO_ROOM_IF,
@@ -61,7 +61,7 @@ pub const BOXED: &[Part] = &[
 ];
 
 /// `UNWRAPPED`, of the address and the number of attributes: the address where a field isn't void, else 0.
-pub const UNWRAPPED: &[Part] = &[
+pub(crate) const UNWRAPPED: &[Part] = &[
     Line(&[Get(SELF), TO_ADDRESS, Set(FROM)]),
     Line(&[Get(1), I32(3), Do(I32_SHL), Set(LEFT)]),
     Block(&[Loop(&[

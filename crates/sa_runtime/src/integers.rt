@@ -20,19 +20,19 @@ const GIVE_IN_RANGE: Part = Sequence(&[
 ]);
 
 /// `INT.plus`.
-pub const PLUS: &[Part] = &[Line(&[Get(SELF), Get(FIRST), Do(I64_ADD)]), GIVE_IN_RANGE];
+pub(crate) const PLUS: &[Part] = &[Line(&[Get(SELF), Get(FIRST), Do(I64_ADD)]), GIVE_IN_RANGE];
 
 /// `INT.minus`.
-pub const MINUS: &[Part] = &[Line(&[Get(SELF), Get(FIRST), Do(I64_SUB)]), GIVE_IN_RANGE];
+pub(crate) const MINUS: &[Part] = &[Line(&[Get(SELF), Get(FIRST), Do(I64_SUB)]), GIVE_IN_RANGE];
 
 /// `INT.times`.
-pub const TIMES: &[Part] = &[Line(&[Get(SELF), Get(FIRST), Do(I64_MUL)]), GIVE_IN_RANGE];
+pub(crate) const TIMES: &[Part] = &[Line(&[Get(SELF), Get(FIRST), Do(I64_MUL)]), GIVE_IN_RANGE];
 
 /// `INT.negate`.
-pub const NEGATE: &[Part] = &[Line(&[I64(0), Get(SELF), Do(I64_SUB)]), GIVE_IN_RANGE];
+pub(crate) const NEGATE: &[Part] = &[Line(&[I64(0), Get(SELF), Do(I64_SUB)]), GIVE_IN_RANGE];
 
 /// `INT.div`, which rounds towards zero. The quotient of the least number by -1 is out of range.
-pub const DIV: &[Part] = &[
+pub(crate) const DIV: &[Part] = &[
     Line(&[Get(FIRST), Do(I64_EQZ)]),
     DIV_ZERO_IF,
     Line(&[Get(SELF), Get(FIRST), Do(I64_DIV_S)]),
@@ -40,7 +40,7 @@ pub const DIV: &[Part] = &[
 ];
 
 /// `INT.mod`, which has the sign of `self`.
-pub const MOD: &[Part] = &[
+pub(crate) const MOD: &[Part] = &[
     Line(&[Get(FIRST), Do(I64_EQZ)]),
     DIV_ZERO_IF,
     Line(&[Get(SELF), Get(FIRST), Do(I64_REM_S)]),
@@ -48,16 +48,16 @@ pub const MOD: &[Part] = &[
 ];
 
 /// `INT.band`.
-pub const BAND: &[Part] = &[Line(&[Get(SELF), Get(FIRST), Do(I64_AND)]), GIVE_WORD];
+pub(crate) const BAND: &[Part] = &[Line(&[Get(SELF), Get(FIRST), Do(I64_AND)]), GIVE_WORD];
 
 /// `INT.bor`.
-pub const BOR: &[Part] = &[Line(&[Get(SELF), Get(FIRST), Do(I64_OR)]), GIVE_WORD];
+pub(crate) const BOR: &[Part] = &[Line(&[Get(SELF), Get(FIRST), Do(I64_OR)]), GIVE_WORD];
 
 /// `INT.bxor`.
-pub const BXOR: &[Part] = &[Line(&[Get(SELF), Get(FIRST), Do(I64_XOR)]), GIVE_WORD];
+pub(crate) const BXOR: &[Part] = &[Line(&[Get(SELF), Get(FIRST), Do(I64_XOR)]), GIVE_WORD];
 
 /// `INT.char`. As a number without sign a negative word is greater than 255.
-pub const CHAR: &[Part] = &[
+pub(crate) const CHAR: &[Part] = &[
     Line(&[Get(SELF), I64(255), Do(I64_GT_U)]),
     OVERFLOW_IF,
     Line(&[Get(SELF)]),

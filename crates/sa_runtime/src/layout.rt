@@ -23,7 +23,7 @@ pub const EXCEPTION_PLACE: u32 = 3;
 pub const FAULT_KIND: u32 = 4;
 
 /// The global with the address of the next object, an `i32`.
-pub const NEXT_OBJECT: u32 = 5;
+pub(crate) const NEXT_OBJECT: u32 = 5;
 
 /// The global with the frame that an entered iter took, an `i32`.
 pub const FRAME_OUT: u32 = 6;
@@ -108,7 +108,7 @@ pub const SIBLING_AT: u32 = 0;
 /// The word of a frame, of 32 bits, with the number of the site in the activation that the instance belongs to.
 pub const SITE_AT: u32 = 4;
 
-/// The word of a frame, of 32 bits, with the number of the head that a resumption goes on in. It is 0 at a start.
+/// The word of a frame, of 32 bits, with the number of the dispatch target that a resumption goes on in. It is 0 at a start.
 pub const BLOCK_AT: u32 = 8;
 
 /// The word of a frame, of 32 bits, with the first of the instances that the suspended body has, or 0.
@@ -127,23 +127,23 @@ pub const FIRST_KEPT_AT: u32 = 32;
 pub const FRAME_WORDS: u32 = 4;
 
 /// The word of a bind, of 32 bits, with what its values call: the number of a form, below.
-pub const KIND_AT: u32 = 0;
+pub(crate) const KIND_AT: u32 = 0;
 
 /// The word of a bind, of 32 bits, with the place in the table, of an attribute in an object, or of a shared in memory.
-pub const NUMBER_AT: u32 = 4;
+pub(crate) const NUMBER_AT: u32 = 4;
 
 /// The word of a bind, of 32 bits, with the number of the class whose built-in feature or immutable attribute is called.
-pub const TYPE_AT: u32 = 8;
+pub(crate) const TYPE_AT: u32 = 8;
 
 /// The word of a bind, of 32 bits, with the place of the first element in an array of that class, or with the number of its
 /// attributes.
-pub const FIRST_AT: u32 = 12;
+pub(crate) const FIRST_AT: u32 = 12;
 
 /// The word of a bind, of 32 bits, with the number of arguments of what is called.
-pub const COUNT_AT: u32 = 16;
+pub(crate) const COUNT_AT: u32 = 16;
 
 /// The word of a bind, of 32 bits, with how many of the arguments a value keeps.
-pub const GIVEN_AT: u32 = 20;
+pub(crate) const GIVEN_AT: u32 = 20;
 
 /// The first byte of a bind that tells of an argument whether it is open (1) or kept (0).
 pub const OPEN_AT: u32 = 24;
@@ -161,7 +161,7 @@ pub const ROUTINE: u32 = 3;
 
 pub const ITER: u32 = 4;
 
-pub const MADE: u32 = 5;
+pub(crate) const MADE: u32 = 5;
 
 /// Reads an attribute of an object, or of an immutable value.
 pub const GET_OF_OBJECT: u32 = 6;
@@ -198,10 +198,24 @@ pub const OBJECT: u8 = 0;
 pub const TEXT: u8 = 1;
 
 /// The tag of an immutable value at an abstract type.
-pub const WIDENED_VALUE: u8 = 2;
+pub(crate) const WIDENED_VALUE: u8 = 2;
 
 /// The tag of a bound value.
 pub const BOUND: u8 = 3;
+
+/// How many bits the low half of a word has. Where a bound value's receiver chose what is called, its place in the table stands
+/// above them.
+pub const HALF_BITS: u64 = 32;
+
+/// The bits of the low half of a word.
+pub const LOW_HALF: u64 = 0xffff_ffff;
+
+/// The high half of a value that a bind has widened for an implementation, where the type in the signature is immutable. No value
+/// of such a type has this high half.
+pub const WIDENED_HALF: u64 = 1;
+
+/// What marks such a value: this high half above the low one.
+pub const WIDENED_MARK: u64 = 0x1_0000_0000 * WIDENED_HALF;
 
 /// The number of the type `BOOL`.
 pub const BOOL: u32 = 3;
@@ -216,7 +230,7 @@ pub const CHAR: u32 = 5;
 pub const STR: u32 = 6;
 
 /// The number of the type `FAULT`.
-pub const FAULT_TYPE: u32 = 7;
+pub(crate) const FAULT_TYPE: u32 = 7;
 
 /// The header of an object: the number of its type in the low 24 bits, then its tag, and in the high 32 bits the number of the
 /// elements of its array part, of the bytes of a text, or of a bind.

@@ -4,43 +4,43 @@
 use crate::parts::Working;
 
 /// `self`, or the first parameter of a function that isn't a feature.
-pub const SELF: u32 = 0;
+pub(crate) const SELF: u32 = 0;
 
 /// The first argument.
-pub const FIRST: u32 = 1;
+pub(crate) const FIRST: u32 = 1;
 
 /// The second argument.
-pub const SECOND: u32 = 2;
+pub(crate) const SECOND: u32 = 2;
 
 /// The address of the object that the function makes.
-pub const MADE: u32 = 5;
+pub(crate) const MADE: u32 = 5;
 
 /// How many bytes the text that the function makes has.
-pub const SIZE: u32 = 6;
+pub(crate) const SIZE: u32 = 6;
 
 /// Where bytes are read: 8 less than the address of the next one.
-pub const FROM: u32 = 7;
+pub(crate) const FROM: u32 = 7;
 
 /// Where bytes are written: 8 less than the address of the next one.
-pub const TO: u32 = 8;
+pub(crate) const TO: u32 = 8;
 
 /// How many bytes are left to be read.
-pub const LEFT: u32 = 9;
+pub(crate) const LEFT: u32 = 9;
 
 /// No locals beside the parameters.
-pub const NONE: Working = Working(0, 0);
+pub(crate) const NONE: Working = Working(0, 0);
 
 /// All locals behind one parameter.
-pub const BEHIND_ONE: Working = Working(4, 5);
+pub(crate) const BEHIND_ONE: Working = Working(4, 5);
 
 /// All locals behind two parameters.
-pub const BEHIND_TWO: Working = Working(3, 5);
+pub(crate) const BEHIND_TWO: Working = Working(3, 5);
 
 /// All locals behind three parameters.
-pub const BEHIND_THREE: Working = Working(2, 5);
+pub(crate) const BEHIND_THREE: Working = Working(2, 5);
 
 /// All locals behind four parameters.
-pub const BEHIND_FOUR: Working = Working(1, 5);
+pub(crate) const BEHIND_FOUR: Working = Working(1, 5);
 
 /// All locals behind five parameters.
-pub const BEHIND_FIVE: Working = Working(0, 5);
+pub(crate) const BEHIND_FIVE: Working = Working(0, 5);

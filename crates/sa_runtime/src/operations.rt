@@ -4,13 +4,13 @@ use crate::line::Op::{self, Do, Memory};
 use wa_syntax::opcode::{I32_LOAD, I32_WRAP_I64, I64_EXTEND_I32_U, I64_LOAD32_U};
 
 /// The address that a word is, or the low half of a number.
-pub const TO_ADDRESS: Op = Do(I32_WRAP_I64);
+pub(crate) const TO_ADDRESS: Op = Do(I32_WRAP_I64);
 
 /// The word of an address, of a count or of a truth value.
-pub const TO_WORD: Op = Do(I64_EXTEND_I32_U);
+pub(crate) const TO_WORD: Op = Do(I64_EXTEND_I32_U);
 
 /// The length in the header of the object at an address, as a word: 0 at the address 0.
-pub const LOAD_LENGTH: Op = Memory(I64_LOAD32_U, 4);
+pub(crate) const LOAD_LENGTH: Op = Memory(I64_LOAD32_U, 4);
 
 /// The same length as a count.
-pub const LOAD_COUNT: Op = Memory(I32_LOAD, 4);
+pub(crate) const LOAD_COUNT: Op = Memory(I32_LOAD, 4);

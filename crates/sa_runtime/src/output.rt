@@ -24,7 +24,7 @@ const PUT_EIGHT: Part = Sequence(&[
 ]);
 
 /// `OUT.put`.
-pub const PUT: &[Part] = &[
+pub(crate) const PUT: &[Part] = &[
     Line(&[Get(FIRST), TO_ADDRESS, Tee(FROM)]),
     Line(&[LOAD_COUNT, Set(LEFT)]),
     Block(&[Loop(&[
@@ -45,7 +45,7 @@ pub const PUT: &[Part] = &[
 ];
 
 /// `OUT.put_char`.
-pub const PUT_CHAR: &[Part] = &[Line(&[Get(FIRST), TO_ADDRESS, Call(layout::PUT)]), DONE];
+pub(crate) const PUT_CHAR: &[Part] = &[Line(&[Get(FIRST), TO_ADDRESS, Call(layout::PUT)]), DONE];
 
 /// `IN.get_byte`.
-pub const GET_BYTE: &[Part] = &[Line(&[Call(layout::GET), Do(I64_EXTEND_I32_S)]), GIVE_WORD];
+pub(crate) const GET_BYTE: &[Part] = &[Line(&[Call(layout::GET), Do(I64_EXTEND_I32_S)]), GIVE_WORD];

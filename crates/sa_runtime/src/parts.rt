@@ -81,7 +81,11 @@ pub fn instructions(alloc: Global, parts: &[Part]) -> Result<Items<Instr>, NoMem
 
 /// Adds the instructions of these parts.
 #[cycle(parts)]
-pub fn add_parts(alloc: Global, parts: &[Part], to: &mut Items<Instr>) -> Result<(), NoMemory> {
+pub(crate) fn add_parts(
+    alloc: Global,
+    parts: &[Part],
+    to: &mut Items<Instr>,
+) -> Result<(), NoMemory> {
     for part in parts {
         add_part(alloc, part, to)?;
     }

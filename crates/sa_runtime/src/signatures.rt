@@ -4,13 +4,13 @@ use wa_syntax::ValTy::{self, I32, I64};
 
 /// The type of a function.
 #[derive(Clone, Copy)]
-pub struct Signature {
+pub(crate) struct Signature {
     pub params: &'static [ValTy],
     pub results: &'static [ValTy],
 }
 
 /// The types of the built-in features and of `ALLOCATE`. A feature takes `self` and its arguments, and answers a status.
-pub const BUILTIN_TYPES: [Signature; 6] = [
+pub(crate) const BUILTIN_TYPES: [Signature; 6] = [
     Signature {
         params: &[I64],
         results: &[I32],
@@ -38,25 +38,25 @@ pub const BUILTIN_TYPES: [Signature; 6] = [
 ];
 
 /// The type of a feature without arguments.
-pub const UNARY: u32 = 0;
+pub(crate) const UNARY: u32 = 0;
 
 /// The type of a feature with one argument, and of `ALLOCATE`.
-pub const BINARY: u32 = 1;
+pub(crate) const BINARY: u32 = 1;
 
 /// The type of a feature with two arguments.
-pub const TERNARY: u32 = 2;
+pub(crate) const TERNARY: u32 = 2;
 
 /// The type of a feature with one argument that is told where the elements of an array begin.
-pub const BINARY_ON_ARRAY: u32 = 3;
+pub(crate) const BINARY_ON_ARRAY: u32 = 3;
 
 /// The type of a feature with two arguments that is told where the elements of an array begin.
-pub const TERNARY_ON_ARRAY: u32 = 4;
+pub(crate) const TERNARY_ON_ARRAY: u32 = 4;
 
 /// The type of a feature with one argument that is told the type of an array and where its elements begin.
-pub const MAKES_ARRAY: u32 = 5;
+pub(crate) const MAKES_ARRAY: u32 = 5;
 
 /// The types of `FAULT`, `CHANGED`, `WIDENED`, `BOXED` and `UNWRAPPED`, in this order.
-pub const SUPPORT_TYPES: [Signature; 5] = [
+pub(crate) const SUPPORT_TYPES: [Signature; 5] = [
     Signature {
         params: &[I32, I32, I32],
         results: &[],
@@ -80,7 +80,7 @@ pub const SUPPORT_TYPES: [Signature; 5] = [
 ];
 
 /// The types of `NEW_FRAME` and `TAKE`, of `END_FRAME`, `RELEASE` and `GIVE`, and of `BOUND_CALL`.
-pub const FRAME_TYPES: [Signature; 3] = [
+pub(crate) const FRAME_TYPES: [Signature; 3] = [
     Signature {
         params: &[],
         results: &[I32],
@@ -96,10 +96,10 @@ pub const FRAME_TYPES: [Signature; 3] = [
 ];
 
 /// The type of a function that takes a frame out of the pool.
-pub const TAKES_FRAME: u32 = 0;
+pub(crate) const TAKES_FRAME: u32 = 0;
 
 /// The type of a function that gives frames back.
-pub const GIVES_FRAME: u32 = 1;
+pub(crate) const GIVES_FRAME: u32 = 1;
 
 /// The type of `BOUND_CALL`.
-pub const CALLS_BOUND: u32 = 2;
+pub(crate) const CALLS_BOUND: u32 = 2;

@@ -56,7 +56,7 @@ const PUT_HANDED: Part = Sequence(&[
 
 /// Puts each argument in its place, where the bound value keeps some. An argument's place is never before the one where it was
 /// handed over, so they go from the last to the first, and none is overwritten before it is read.
-pub const SPREAD: Part = Sequence(&[
+pub(crate) const SPREAD: Part = Sequence(&[
     Line(&[Get(ENTRY), Memory(I32_LOAD, GIVEN_AT), Tee(GIVEN)]),
     If(&[
         FROM_THE_END,
@@ -86,7 +86,7 @@ const ONE_ON: Part = Sequence(&[
 
 /// Puts each open argument back to where it was handed over, where the bound value keeps some, from the first to the last: the
 /// caller finds there what is copied back.
-pub const GATHER: Part = Sequence(&[
+pub(crate) const GATHER: Part = Sequence(&[
     Line(&[Get(GIVEN)]),
     If(&[
         Line(&[I32(0), Tee(PLACE), Tee(AT), Set(HANDED)]),

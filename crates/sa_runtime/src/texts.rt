@@ -29,7 +29,7 @@ const ALLOCATE_TEXT: Part = Sequence(&[
 ]);
 
 /// Makes a short text of so many bytes, all 0, or ends the feature by `no room`.
-pub const MAKE_TEXT: Part = Sequence(&[ALLOCATE_TEXT, NO_ROOM_IF]);
+pub(crate) const MAKE_TEXT: Part = Sequence(&[ALLOCATE_TEXT, NO_ROOM_IF]);
 
 /// Goes round once for each 8 bytes that the text begins, and once for none. No text has 2^31 bytes.
 const SPEND_TURNS: Part = Loop(&[
@@ -45,10 +45,10 @@ const MAKE_LONG_TEXT: Part = Sequence(&[
 ]);
 
 /// `STR.size`.
-pub const LENGTH: &[Part] = &[Line(&[Get(SELF), TO_ADDRESS, LOAD_LENGTH]), GIVE_WORD];
+pub(crate) const LENGTH: &[Part] = &[Line(&[Get(SELF), TO_ADDRESS, LOAD_LENGTH]), GIVE_WORD];
 
 /// `STR.aget`. As a number without sign a negative place is greater than each length.
-pub const AGET: &[Part] = &[
+pub(crate) const AGET: &[Part] = &[
     Line(&[Get(FIRST), Get(SELF), TO_ADDRESS, LOAD_LENGTH]),
     Line(&[Do(I64_GE_U)]),
     INDEX_IF,
@@ -58,7 +58,7 @@ pub const AGET: &[Part] = &[
 ];
 
 /// `STR.cat`.
-pub const CAT: &[Part] = &[
+pub(crate) const CAT: &[Part] = &[
     Line(&[Get(SELF), TO_ADDRESS, Tee(FROM)]),
     Line(&[LOAD_COUNT, Tee(LEFT)]),
     Line(&[Get(FIRST), TO_ADDRESS, LOAD_COUNT]),
@@ -74,7 +74,7 @@ pub const CAT: &[Part] = &[
 ];
 
 /// `STR.substring`. The first test is whether the place or the count is negative, the second whether they pass the length.
-pub const SUBSTRING: &[Part] = &[
+pub(crate) const SUBSTRING: &[Part] = &[
     Line(&[Get(FIRST), Get(SECOND), Do(I64_OR)]),
     Line(&[I64(0), Do(I64_LT_S)]),
     Line(&[Get(FIRST), Get(SECOND), Do(I64_ADD)]),
@@ -115,7 +115,7 @@ const COPY_EIGHT: Part = Sequence(&[
 ]);
 
 /// `STR.of`. An element's character is the low byte of its word.
-pub const OF: &[Part] = &[
+pub(crate) const OF: &[Part] = &[
     Line(&[Get(SECOND), Get(FIRST), TO_ADDRESS, LOAD_LENGTH]),
     Line(&[Do(I64_GT_U)]),
     INDEX_IF,

@@ -1,4 +1,5 @@
-//! What leads to each block of a body: exits, raises and resumptions, of the blocks alone that can be reached from the first.
+//! The predecessors of each block of a body, by what leads to it: exits, raises and resumptions, of the blocks alone that can be
+//! reached from the first.
 
 use sa_emit_value::{held, leaves};
 use sa_flat::{FlatBlock, FlatBody, FlatExit, FlatStep, Raised};
@@ -6,15 +7,15 @@ use sqlite_items::Items;
 use std::alloc::Global;
 use wa_syntax::NoMemory;
 
-/// What leads to a block.
+/// The predecessors of a block, by what leads to it.
 #[derive(Clone, Copy, Debug, PartialEq, Eq)]
-pub enum Entrance {
+pub(crate) enum Predecessors {
     /// Nothing does.
-    Never,
+    Unreached,
     /// The body begins in it, and nothing else leads to it.
-    First,
+    Entry,
     /// One exit.
-    Once,
+    One,
     /// Several exits, a raise, or a resumption.
     Jumps,
 }
@@ -22,13 +23,16 @@ pub enum Entrance {
 /// What was found of the blocks of a body.
 #[derive(Drop)]
 struct Found {
-    entrances: Items<Entrance>,
+    predecessors: Items<Predecessors>,
     /// The blocks that are reached and haven't been looked at.
     waiting: Items<u32>,
 }
 
-/// What leads to each block.
-pub fn entrances(alloc: Global, body: &FlatBody) -> Result<Items<Entrance>, NoMemory> {
+/// The predecessors of each block.
+pub(crate) fn predecessors_of(
+    alloc: Global,
+    body: &FlatBody,
+) -> Result<Items<Predecessors>, NoMemory> {
     let mut found = begun(alloc, body)?;
     for _ in 0..body.blocks.len() {
         let Some(number) = found.waiting.pop() else {
@@ -39,23 +43,23 @@ pub fn entrances(alloc: Global, body: &FlatBody) -> Result<Items<Entrance>, NoMe
         found.add_exit(body, &block.exit)?;
     }
     let Found {
-        entrances,
+        predecessors,
         waiting: _,
     } = found;
-    Ok(entrances)
+    Ok(predecessors)
 }
 
 /// The first block alone is reached.
 fn begun(alloc: Global, body: &FlatBody) -> Result<Found, NoMemory> {
-    let mut entrances = Items::new(alloc);
+    let mut predecessors = Items::new(alloc);
     for _ in 0..body.blocks.len() {
-        entrances.push(Entrance::Never)?;
+        predecessors.push(Predecessors::Unreached)?;
     }
     let mut found = Found {
-        entrances,
+        predecessors,
         waiting: Items::new(alloc),
     };
-    found.reach(0, Entrance::First)?;
+    found.reach(0, Predecessors::Entry)?;
     Ok(found)
 }
 
@@ -88,9 +92,9 @@ impl Found {
 
     /// One exit goes to this block.
     fn add_once(&mut self, block: u32) -> Result<(), NoMemory> {
-        match self.entrance(block)? {
-            Entrance::Never => self.reach(block, Entrance::Once),
-            _ => self.change(block, Entrance::Jumps),
+        match self.predecessors(block)? {
+            Predecessors::Unreached => self.reach(block, Predecessors::One),
+            _ => self.change(block, Predecessors::Jumps),
         }
     }
 
@@ -112,29 +116,29 @@ impl Found {
 
     /// A jump goes to this block.
     fn add_jump(&mut self, block: u32) -> Result<(), NoMemory> {
-        match self.entrance(block)? {
-            Entrance::Never => self.reach(block, Entrance::Jumps),
-            _ => self.change(block, Entrance::Jumps),
+        match self.predecessors(block)? {
+            Predecessors::Unreached => self.reach(block, Predecessors::Jumps),
+            _ => self.change(block, Predecessors::Jumps),
         }
     }
 
-    fn entrance(&self, block: u32) -> Result<Entrance, NoMemory> {
-        held(self.entrances.get(block as usize).copied())
+    fn predecessors(&self, block: u32) -> Result<Predecessors, NoMemory> {
+        held(self.predecessors.get(block as usize).copied())
     }
 
     /// A block is reached for the first time.
-    fn reach(&mut self, block: u32, entrance: Entrance) -> Result<(), NoMemory> {
-        self.change(block, entrance)?;
+    fn reach(&mut self, block: u32, predecessors: Predecessors) -> Result<(), NoMemory> {
+        self.change(block, predecessors)?;
         self.waiting.push(block)?;
         Ok(())
     }
 
-    fn change(&mut self, block: u32, entrance: Entrance) -> Result<(), NoMemory> {
+    fn change(&mut self, block: u32, predecessors: Predecessors) -> Result<(), NoMemory> {
         let at = block as usize;
-        if at >= self.entrances.len() {
+        if at >= self.predecessors.len() {
             return Err(NoMemory);
         }
-        self.entrances.set(at, entrance);
+        self.predecessors.set(at, predecessors);
         Ok(())
     }
 }

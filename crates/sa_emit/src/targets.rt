@@ -1,0 +1,169 @@
+//! The dispatch targets of a body: the blocks whose code is reached by a jump. The code of every other block stands behind the
+//! exit that leads to it.
+
+use crate::predecessors::Predecessors;
+use crate::sums::number;
+use sa_emit_value::held;
+use sa_flat::{FlatBody, FlatExit};
+use sqlite_items::Items;
+use std::alloc::Global;
+use wa_syntax::NoMemory;
+
+/// How many branches may stand one inside the other in a superblock.
+pub(crate) const DEEPEST: u32 = 64;
+
+/// The dispatch targets of a body.
+#[derive(Drop)]
+pub(crate) struct DispatchTargets {
+    /// For each block its number among the dispatch targets, if it is one.
+    pub numbers: Items<Option<u32>>,
+    /// The block of each dispatch target. The first is block 0.
+    pub blocks: Items<u32>,
+    /// For each dispatch target whether its superblock jumps to it.
+    pub repeats: Items<bool>,
+}
+
+/// A block that has been placed: the number of the dispatch target to whose superblock it belongs, and in how many branches it
+/// stands there.
+#[derive(Clone, Copy, Debug)]
+struct Place {
+    block: u32,
+    target: u32,
+    depth: u32,
+}
+
+/// The dispatch targets so far.
+#[derive(Drop)]
+struct Walk<'a> {
+    predecessors: &'a [Predecessors],
+    targets: DispatchTargets,
+    /// The blocks that have been placed, while those behind them haven't.
+    waiting: Items<Place>,
+}
+
+/// The dispatch targets of a body: its first block, the blocks that jumps lead to, and those that would stand too deep.
+pub(crate) fn targets_of(
+    alloc: Global,
+    body: &FlatBody,
+    predecessors: &[Predecessors],
+) -> Result<DispatchTargets, NoMemory> {
+    let mut walk = begun(alloc, predecessors)?;
+    for _ in 0..body.blocks.len() {
+        let Some(place) = walk.waiting.pop() else {
+            break;
+        };
+        let block = held(body.blocks.get(place.block as usize))?;
+        walk.go_on(&block.exit, place)?;
+    }
+    let Walk {
+        predecessors: _,
+        targets,
+        waiting: _,
+    } = walk;
+    Ok(targets)
+}
+
+/// The dispatch targets that are known before any code is placed.
+fn begun(alloc: Global, predecessors: &[Predecessors]) -> Result<Walk<'_>, NoMemory> {
+    let mut walk = Walk {
+        predecessors,
+        targets: DispatchTargets {
+            numbers: Items::new(alloc),
+            blocks: Items::new(alloc),
+            repeats: Items::new(alloc),
+        },
+        waiting: Items::new(alloc),
+    };
+    for (block, of_block) in predecessors.iter().enumerate() {
+        walk.targets.numbers.push(None)?;
+        if is_jumped_to(*of_block) {
+            walk.add_target(number(block)?)?;
+        }
+    }
+    Ok(walk)
+}
+
+/// Whether a block is a dispatch target wherever it would stand.
+fn is_jumped_to(predecessors: Predecessors) -> bool {
+    match predecessors {
+        Predecessors::Entry => true,
+        Predecessors::Jumps => true,
+        Predecessors::One => false,
+        Predecessors::Unreached => false,
+    }
+}
+
+impl Walk<'_> {
+    /// Places the blocks behind a block.
+    fn go_on(&mut self, exit: &FlatExit, from: Place) -> Result<(), NoMemory> {
+        match exit {
+            FlatExit::Jump(to) => self.place(*to, from, from.depth),
+            FlatExit::Branch { test: _, yes, no } => {
+                let inside = self.depth_inside(*yes, *no, from.depth)?;
+                self.place(*yes, from, inside)?;
+                self.place(*no, from, from.depth)
+            }
+            _ => Ok(()),
+        }
+    }
+
+    /// In how many branches the side `yes` of a branch stands: in one more where neither side is a dispatch target.
+    fn depth_inside(&self, yes: u32, no: u32, depth: u32) -> Result<u32, NoMemory> {
+        if self.is_target(yes)? || self.is_target(no)? {
+            return Ok(depth);
+        }
+        Ok(depth.saturating_add(1))
+    }
+
+    /// Places a block behind another one in so many branches, unless it is a dispatch target.
+    fn place(&mut self, block: u32, from: Place, depth: u32) -> Result<(), NoMemory> {
+        if self.is_target(block)? {
+            return self.add_jump(block, from.target);
+        }
+        if depth > DEEPEST {
+            return self.add_target(block);
+        }
+        let target = from.target;
+        self.waiting.push(Place {
+            block,
+            target,
+            depth,
+        })?;
+        Ok(())
+    }
+
+    /// The superblock of a dispatch target jumps to a dispatch target.
+    fn add_jump(&mut self, block: u32, target: u32) -> Result<(), NoMemory> {
+        let at = target as usize;
+        if at >= self.targets.repeats.len() {
+            return Err(NoMemory);
+        }
+        if self.targets.blocks.get(at) == Some(&block) {
+            self.targets.repeats.set(at, true);
+        }
+        Ok(())
+    }
+
+    fn is_target(&self, block: u32) -> Result<bool, NoMemory> {
+        Ok(is_jumped_to(*held(self.predecessors.get(block as usize))?))
+    }
+
+    /// A block is a dispatch target.
+    fn add_target(&mut self, block: u32) -> Result<(), NoMemory> {
+        let at = block as usize;
+        if at >= self.targets.numbers.len() {
+            return Err(NoMemory);
+        }
+        let target = number(self.targets.blocks.len())?;
+        self.targets.numbers.set(at, Some(target));
+        self.targets.blocks.push(block)?;
+        self.targets.repeats.push(false)?;
+        let depth = 0;
+        self.waiting.push(Place {
+            block,
+            target,
+            depth,
+        })?;
+        Ok(())
+    }
+}
