@@ -19,7 +19,7 @@ ghost use Rattle.sa_parse_expr.specs.Places.{IsBehind, IsFrom, IsUnexpected};
 
 use crate::names::lower_name;
 use crate::statement::stmts;
-use sa_lex::{sign, word};
+use sa_lex::{Sign, Word};
 use sa_parse_expr::{Tokens, read_expr, read_type};
 use sa_tree::{Arm, CaseArm, Expr, FrontFault, Stmt, TypeArm};
 use sqlite_items::Items;
@@ -37,16 +37,16 @@ pub(crate) fn if_block(
 {
     let pos = tokens.pos(from);
     let mut arms = Vec::new(alloc);
-    let (first, mut next) = arm(alloc, tokens, tokens.after_word(from, word::IF)?)?;
+    let (first, mut next) = arm(alloc, tokens, tokens.after_word(from, Word::If)?)?;
     arms.push(first)?;
-    'more: while tokens.is_word(next, word::ELSIF) {
+    'more: while tokens.is_word(next, Word::Elsif) {
         let (one, end) = arm(alloc, tokens, next + 1)?;
         arms.push(one)?;
         next = end;
     }
     let (rest, next) = else_part(alloc, tokens, next)?;
     let rest = rest.unwrap_or(Items::new(alloc));
-    let next = tokens.after_word(next, word::END)?;
+    let next = tokens.after_word(next, Word::End)?;
     arms.shrink_to_fit();
     Ok((Stmt::If(Items::from_vec(arms), rest, pos), next))
 }
@@ -58,7 +58,7 @@ fn arm(alloc: Global, tokens: &Tokens<'_>, from: u32) -> Result<(Arm, u32), Fron
     ensures refused { IfErr result (IsUnexpected tokens.now.file) }
 {
     let (test, next) = read_expr(alloc, tokens, from)?;
-    let next = tokens.after_word(next, word::THEN)?;
+    let next = tokens.after_word(next, Word::Then)?;
     let (body, next) = stmts(alloc, tokens, next)?;
     Ok((Arm { test, body }, next))
 }
@@ -74,7 +74,7 @@ fn else_part(
     ensures next { IfOk result (λ read. IsFrom tokens.now.list.now from read.1) }
     ensures refused { IfErr result (IsUnexpected tokens.now.file) }
 {
-    if !tokens.is_word(from, word::ELSE) {
+    if !tokens.is_word(from, Word::Else) {
         return Ok((None, from));
     }
     let (body, next) = stmts(alloc, tokens, from + 1)?;
@@ -92,9 +92,9 @@ pub(crate) fn loop_block(
     ensures refused { IfErr result (IsUnexpected tokens.now.file) }
 {
     let pos = tokens.pos(from);
-    let next = tokens.after_word(from, word::LOOP)?;
+    let next = tokens.after_word(from, Word::Loop)?;
     let (body, next) = stmts(alloc, tokens, next)?;
-    let next = tokens.after_word(next, word::END)?;
+    let next = tokens.after_word(next, Word::End)?;
     Ok((Stmt::Loop(body, pos), next))
 }
 
@@ -109,16 +109,16 @@ pub(crate) fn case_block(
     ensures refused { IfErr result (IsUnexpected tokens.now.file) }
 {
     let pos = tokens.pos(from);
-    let next = tokens.after_word(from, word::CASE)?;
+    let next = tokens.after_word(from, Word::Case)?;
     let (tested, mut next) = read_expr(alloc, tokens, next)?;
     let mut arms = Items::new(alloc);
-    'more: while tokens.is_word(next, word::WHEN) {
+    'more: while tokens.is_word(next, Word::When) {
         let (arm, end) = case_arm(alloc, tokens, next + 1)?;
         arms.push(arm)?;
         next = end;
     }
     let (rest, next) = else_part(alloc, tokens, next)?;
-    let next = tokens.after_word(next, word::END)?;
+    let next = tokens.after_word(next, Word::End)?;
     Ok((Stmt::Case(tested, arms, rest, pos), next))
 }
 
@@ -129,7 +129,7 @@ fn case_arm(alloc: Global, tokens: &Tokens<'_>, from: u32) -> Result<(CaseArm, u
     ensures refused { IfErr result (IsUnexpected tokens.now.file) }
 {
     let (values, next) = values(alloc, tokens, from)?;
-    let next = tokens.after_word(next, word::THEN)?;
+    let next = tokens.after_word(next, Word::Then)?;
     let (body, next) = stmts(alloc, tokens, next)?;
     Ok((CaseArm { values, body }, next))
 }
@@ -142,7 +142,7 @@ fn values(alloc: Global, tokens: &Tokens<'_>, from: u32) -> Result<(Items<Expr>,
     let (first, mut next) = read_expr(alloc, tokens, from)?;
     let mut values = Items::new(alloc);
     values.push(first)?;
-    'more: while tokens.is_sign(next, sign::COMMA) {
+    'more: while tokens.is_sign(next, Sign::Comma) {
         let (value, end) = read_expr(alloc, tokens, next + 1)?;
         values.push(value)?;
         next = end;
@@ -161,11 +161,11 @@ pub(crate) fn typecase_block(
     ensures refused { IfErr result (IsUnexpected tokens.now.file) }
 {
     let pos = tokens.pos(from);
-    let next = tokens.after_word(from, word::TYPECASE)?;
+    let next = tokens.after_word(from, Word::Typecase)?;
     let (tested, next) = lower_name(alloc, tokens, next)?;
     let (branches, next) = branches(alloc, tokens, next)?;
     let (rest, next) = else_part(alloc, tokens, next)?;
-    let next = tokens.after_word(next, word::END)?;
+    let next = tokens.after_word(next, Word::End)?;
     Ok((Stmt::TypeCase(tested, branches, rest, pos), next))
 }
 
@@ -182,7 +182,7 @@ fn branches(
 {
     let mut branches = Items::new(alloc);
     let mut next = from;
-    'more: while tokens.is_word(next, word::WHEN) {
+    'more: while tokens.is_word(next, Word::When) {
         let (one, end) = branch(alloc, tokens, next + 1)?;
         branches.push(one)?;
         next = end;
@@ -197,7 +197,7 @@ fn branch(alloc: Global, tokens: &Tokens<'_>, from: u32) -> Result<(TypeArm, u32
     ensures refused { IfErr result (IsUnexpected tokens.now.file) }
 {
     let (ty, next) = read_type(alloc, tokens, from)?;
-    let next = tokens.after_word(next, word::THEN)?;
+    let next = tokens.after_word(next, Word::Then)?;
     let (body, next) = stmts(alloc, tokens, next)?;
     Ok((TypeArm { ty, body }, next))
 }
@@ -213,10 +213,10 @@ pub(crate) fn protect_block(
     ensures refused { IfErr result (IsUnexpected tokens.now.file) }
 {
     let pos = tokens.pos(from);
-    let next = tokens.after_word(from, word::PROTECT)?;
+    let next = tokens.after_word(from, Word::Protect)?;
     let (body, next) = stmts(alloc, tokens, next)?;
     let (branches, next) = branches(alloc, tokens, next)?;
     let (rest, next) = else_part(alloc, tokens, next)?;
-    let next = tokens.after_word(next, word::END)?;
+    let next = tokens.after_word(next, Word::End)?;
     Ok((Stmt::Protect(body, branches, rest, pos), next))
 }

@@ -16,7 +16,7 @@ use crate::names::{abstract_name, class_name};
 use crate::sharing::Sharing;
 use crate::signature::sig;
 use crate::starts::begins_feature;
-use sa_lex::{TokenKind, sign, word};
+use sa_lex::{Sign, TokenKind, Word};
 use sa_parse_expr::{Tokens, read_type, read_types};
 use sa_tree::{Access, Class, Feature, FrontFault, Include, Kind, Local, Param, Part, Ty};
 use sqlite_items::Items;
@@ -62,11 +62,11 @@ pub(crate) fn class(
     ensures refused { IfErr result (IsUnexpected tokens.now.file) }
 {
     let (kind, next) = match tokens.kind(from) {
-        Some(TokenKind::Word(word::ABSTRACT)) => {
+        Some(TokenKind::Word(Word::Abstract)) => {
             return abstract_class(alloc, tokens, sharing, from + 1);
         }
-        Some(TokenKind::Word(word::IMMUTABLE)) => (Kind::Immutable, from + 1),
-        Some(TokenKind::Word(word::PARTIAL)) => (Kind::Partial, from + 1),
+        Some(TokenKind::Word(Word::Immutable)) => (Kind::Immutable, from + 1),
+        Some(TokenKind::Word(Word::Partial)) => (Kind::Partial, from + 1),
         _ => (Kind::Reference, from),
     };
     concrete_class(alloc, tokens, prelude, sharing, kind, next)
@@ -82,14 +82,14 @@ fn abstract_class(
     ensures next { IfOk result (λ read. IsBehind tokens.now.list.now from read.1) }
     ensures refused { IfErr result (IsUnexpected tokens.now.file) }
 {
-    let next = tokens.after_word(from, word::CLASS)?;
+    let next = tokens.after_word(from, Word::Class)?;
     let (name, next) = abstract_name(alloc, tokens, next)?;
     let (params, next) = params(alloc, tokens, next)?;
-    let (below, next) = types_after(alloc, tokens, sign::LESS, next)?;
-    let (above, next) = types_after(alloc, tokens, sign::GREATER, next)?;
-    let next = tokens.after_word(next, word::IS)?;
+    let (below, next) = types_after(alloc, tokens, Sign::Less, next)?;
+    let (above, next) = types_after(alloc, tokens, Sign::Greater, next)?;
+    let next = tokens.after_word(next, Word::Is)?;
     let (features, next) = signatures(alloc, tokens, sharing, next)?;
-    let next = tokens.after_word(next, word::END)?;
+    let next = tokens.after_word(next, Word::End)?;
     let head = Head {
         name,
         params,
@@ -115,18 +115,18 @@ fn concrete_class(
     ensures next { IfOk result (λ read. IsBehind tokens.now.list.now from read.1) }
     ensures refused { IfErr result (IsUnexpected tokens.now.file) }
 {
-    let next = tokens.after_word(from, word::CLASS)?;
+    let next = tokens.after_word(from, Word::Class)?;
     let (name, next) = class_name(alloc, tokens, next)?;
     let (params, next) = params(alloc, tokens, next)?;
-    let (below, next) = types_after(alloc, tokens, sign::LESS, next)?;
-    let next = tokens.after_word(next, word::IS)?;
+    let (below, next) = types_after(alloc, tokens, Sign::Less, next)?;
+    let next = tokens.after_word(next, Word::Is)?;
     let within = Within {
         class: &name.name,
         kind,
         prelude,
     };
     let (inside, next) = features(alloc, tokens, within, sharing, next)?;
-    let next = tokens.after_word(next, word::END)?;
+    let next = tokens.after_word(next, Word::End)?;
     let head = Head {
         name,
         params,
@@ -143,17 +143,17 @@ fn params(alloc: Global, tokens: &Tokens<'_>, from: u32) -> Result<(Items<Param>
     ensures refused { IfErr result (IsUnexpected tokens.now.file) }
 {
     let mut params = Items::new(alloc);
-    if !tokens.is_sign(from, sign::LBRACE) {
+    if !tokens.is_sign(from, Sign::LeftBrace) {
         return Ok((params, from));
     }
     let (first, mut next) = param(alloc, tokens, from + 1)?;
     params.push(first)?;
-    'more: while tokens.is_sign(next, sign::COMMA) {
+    'more: while tokens.is_sign(next, Sign::Comma) {
         let (param, end) = param(alloc, tokens, next + 1)?;
         params.push(param)?;
         next = end;
     }
-    Ok((params, tokens.after_sign(next, sign::RBRACE)?))
+    Ok((params, tokens.after_sign(next, Sign::RightBrace)?))
 }
 
 /// `CNAME ["<" type]`
@@ -162,7 +162,7 @@ fn param(alloc: Global, tokens: &Tokens<'_>, from: u32) -> Result<(Param, u32), 
     ensures refused { IfErr result (IsUnexpected tokens.now.file) }
 {
     let (name, next) = class_name(alloc, tokens, from)?;
-    if !tokens.is_sign(next, sign::LESS) {
+    if !tokens.is_sign(next, Sign::Less) {
         return Ok((Param { name, bound: None }, next));
     }
     let (ty, next) = read_type(alloc, tokens, next + 1)?;
@@ -174,7 +174,7 @@ fn param(alloc: Global, tokens: &Tokens<'_>, from: u32) -> Result<(Param, u32), 
 fn types_after(
     alloc: Global,
     tokens: &Tokens<'_>,
-    sign: u8,
+    sign: Sign,
     from: u32,
 ) -> Result<(Items<Ty>, u32), FrontFault>
     requires { from ≤ length tokens.now.list.now }
@@ -200,7 +200,7 @@ fn signatures(
 {
     let mut features = Items::new(alloc);
     let mut next = optional_signature(alloc, tokens, sharing, &mut features, from)?;
-    'more: while tokens.is_sign(next, sign::SEMICOLON) {
+    'more: while tokens.is_sign(next, Sign::Semicolon) {
         next = optional_signature(alloc, tokens, sharing, &mut features, next + 1)?;
     }
     Ok((features, next))
@@ -243,7 +243,7 @@ fn features(
         features: Items::new(alloc),
     };
     let mut next = optional_feature(alloc, tokens, within, sharing, &mut inside, from)?;
-    'more: while tokens.is_sign(next, sign::SEMICOLON) {
+    'more: while tokens.is_sign(next, Sign::Semicolon) {
         next = optional_feature(alloc, tokens, within, sharing, &mut inside, next + 1)?;
     }
     Ok((inside, next))

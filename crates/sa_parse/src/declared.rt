@@ -16,7 +16,7 @@ ghost use Rattle.sa_parse_expr.specs.Places.{IsBehind, IsFrom, IsUnexpected};
 use crate::names::{lower_name, lower_names};
 use crate::sharing::Sharing;
 use crate::statement::assigned;
-use sa_lex::sign;
+use sa_lex::Sign;
 use sa_parse_expr::{Tokens, read_expr, read_type};
 use sa_tree::{Access, Feature, FrontFault, Local, Part, Ty};
 use sqlite_items::Items;
@@ -45,7 +45,7 @@ pub(crate) fn attr(
     ensures refused { IfErr result (IsUnexpected tokens.now.file) }
 {
     let (names, next) = lower_names(alloc, tokens, from)?;
-    let at = tokens.after_sign(next, sign::COLON)?;
+    let at = tokens.after_sign(next, Sign::Colon)?;
     let mut end = at;
     let mut features = Items::new(alloc);
     'more: for name in names {
@@ -69,7 +69,7 @@ pub(crate) fn shared(
     ensures refused { IfErr result (IsUnexpected tokens.now.file) }
 {
     let (names, next) = lower_names(alloc, tokens, from)?;
-    let at = tokens.after_sign(next, sign::COLON)?;
+    let at = tokens.after_sign(next, Sign::Colon)?;
     let mut end = at;
     let mut features = Items::new(alloc);
     'more: for name in names {
@@ -94,7 +94,7 @@ pub(crate) fn constants(
     ensures refused { IfErr result (IsUnexpected tokens.now.file) }
 {
     let (first, next) = lower_name(alloc, tokens, from)?;
-    if tokens.is_sign(next, sign::COLON) {
+    if tokens.is_sign(next, Sign::Colon) {
         typed_constant(alloc, tokens, access, first, next + 1)
     } else {
         counted_constants(alloc, tokens, sharing, access, first, next)
@@ -113,7 +113,7 @@ fn typed_constant(
     ensures refused { IfErr result (IsUnexpected tokens.now.file) }
 {
     let (ty, next) = read_type(alloc, tokens, from)?;
-    let next = tokens.after_sign(next, sign::ASSIGN)?;
+    let next = tokens.after_sign(next, Sign::Assign)?;
     let (value, next) = read_expr(alloc, tokens, next)?;
     let part = Part::Const(Some(value), 0);
     let mut features = Items::new(alloc);
@@ -139,7 +139,7 @@ fn counted_constants(
     let mut features = Items::new(alloc);
     features.push(variable(alloc, access, first, None, part))?;
     let mut number = 0;
-    'more: while tokens.is_sign(next, sign::COMMA) {
+    'more: while tokens.is_sign(next, Sign::Comma) {
         let (name, end) = lower_name(alloc, tokens, next + 1)?;
         let (value, behind) = assigned(alloc, tokens, from)?;
         sharing.count(tokens, from, behind)?;

@@ -18,7 +18,7 @@ use crate::include::include;
 use crate::sharing::Sharing;
 use crate::signature::{Signature, sig};
 use crate::statement::stmts;
-use sa_lex::{TokenKind, word};
+use sa_lex::{TokenKind, Word};
 use sa_parse_expr::Tokens;
 use sa_tree::{Access, Feature, FrontFault, Include, Kind, Name, Part, Shared};
 use sqlite_items::Items;
@@ -62,10 +62,10 @@ pub(crate) fn feature(
     ensures refused { IfErr result (IsUnexpected tokens.now.file) }
 {
     match tokens.kind(from) {
-        Some(TokenKind::Word(word::PRIVATE)) => {
+        Some(TokenKind::Word(Word::Private)) => {
             after_access(alloc, tokens, within, sharing, Access::Private, from + 1)
         }
-        Some(TokenKind::Word(word::READONLY)) => {
+        Some(TokenKind::Word(Word::Readonly)) => {
             let (features, next) = variables(alloc, tokens, sharing, Access::ReadOnly, from + 1)?;
             Ok((Member::Features(features), next))
         }
@@ -86,16 +86,16 @@ fn after_access(
     ensures refused { IfErr result (IsUnexpected tokens.now.file) }
 {
     match tokens.kind(from) {
-        Some(TokenKind::Word(word::INCLUDE)) => {
+        Some(TokenKind::Word(Word::Include)) => {
             let private = access == Access::Private;
             let (include, next) = include(alloc, tokens, private, from + 1)?;
             Ok((Member::Include(include), next))
         }
-        Some(TokenKind::Word(word::ATTR | word::SHARED)) => {
+        Some(TokenKind::Word(Word::Attr | Word::Shared)) => {
             let (features, next) = variables(alloc, tokens, sharing, access, from)?;
             Ok((Member::Features(features), next))
         }
-        Some(TokenKind::Word(word::CONST)) => {
+        Some(TokenKind::Word(Word::Const)) => {
             let (features, next) = constants(alloc, tokens, sharing, access, from + 1)?;
             Ok((Member::Features(features), next))
         }
@@ -120,8 +120,8 @@ fn variables(
     ensures refused { IfErr result (IsUnexpected tokens.now.file) }
 {
     match tokens.kind(from) {
-        Some(TokenKind::Word(word::ATTR)) => attr(alloc, tokens, sharing, access, from + 1),
-        Some(TokenKind::Word(word::SHARED)) => shared(alloc, tokens, sharing, access, from + 1),
+        Some(TokenKind::Word(Word::Attr)) => attr(alloc, tokens, sharing, access, from + 1),
+        Some(TokenKind::Word(Word::Shared)) => shared(alloc, tokens, sharing, access, from + 1),
         _ => Err(tokens.unexpected(from)),
     }
 }
@@ -139,11 +139,11 @@ fn called(
     ensures refused { IfErr result (IsUnexpected tokens.now.file) }
 {
     match tokens.kind(from) {
-        Some(TokenKind::Word(word::STUB)) if within.kind == Kind::Partial => {
+        Some(TokenKind::Word(Word::Stub)) if within.kind == Kind::Partial => {
             let (sig, next) = sig(alloc, tokens, sharing, from + 1)?;
             Ok((of_sig(sig, access, Part::Stub), next))
         }
-        Some(TokenKind::Word(word::BUILTIN)) if within.prelude => {
+        Some(TokenKind::Word(Word::Builtin)) if within.prelude => {
             builtin(alloc, tokens, within, sharing, access, from + 1)
         }
         _ => routine(alloc, tokens, sharing, access, from),
@@ -180,9 +180,9 @@ fn routine(
     ensures refused { IfErr result (IsUnexpected tokens.now.file) }
 {
     let (sig, next) = sig(alloc, tokens, sharing, from)?;
-    let next = tokens.after_word(next, word::IS)?;
+    let next = tokens.after_word(next, Word::Is)?;
     let (body, next) = stmts(alloc, tokens, next)?;
-    let next = tokens.after_word(next, word::END)?;
+    let next = tokens.after_word(next, Word::End)?;
     let body = Shared::new(alloc, body)?;
     Ok((of_sig(sig, access, Part::Routine(body)), next))
 }

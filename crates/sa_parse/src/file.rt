@@ -13,7 +13,7 @@ ghost use Rattle.sa_parse.specs.Refusals.{IsRefusal};
 use crate::class::class;
 use crate::sharing::Sharing;
 use crate::starts::begins_class;
-use sa_lex::{Token, sign};
+use sa_lex::{Sign, Token};
 use sa_parse_expr::{Tokens, scan};
 use sa_tree::{Class, FrontFault};
 use sqlite_items::Items;
@@ -55,7 +55,7 @@ fn classes(alloc: Global, tokens: &Tokens<'_>, prelude: bool) -> Result<Items<Cl
     let mut sharing = Sharing::new();
     let mut classes = Items::new(alloc);
     let mut next = optional_class(alloc, tokens, prelude, &mut sharing, &mut classes, 0)?;
-    'more: while tokens.is_sign(next, sign::SEMICOLON) {
+    'more: while tokens.is_sign(next, Sign::Semicolon) {
         next = optional_class(alloc, tokens, prelude, &mut sharing, &mut classes, next + 1)?;
     }
     match tokens.kind(next) {

@@ -12,7 +12,7 @@ ghost use Rattle.std.specs.Prelude.{◌≤◌, IfErr, IfOk, length};
 ghost use Rattle.sa_parse_expr.specs.Places.{IsBehind, IsFrom, IsUnexpected};
 
 use crate::names::feature_name;
-use sa_lex::{TokenKind, sign, word};
+use sa_lex::{Sign, TokenKind, Word};
 use sa_parse_expr::{Tokens, read_type};
 use sa_tree::{Access, Change, FrontFault, Include, Name};
 use sqlite_items::Items;
@@ -54,7 +54,7 @@ fn changes(
     let (first, mut next) = change(alloc, tokens, from)?;
     let mut changes = Items::new(alloc);
     changes.push(first)?;
-    'more: while tokens.is_sign(next, sign::COMMA) {
+    'more: while tokens.is_sign(next, Sign::Comma) {
         let (change, end) = change(alloc, tokens, next + 1)?;
         changes.push(change)?;
         next = end;
@@ -68,7 +68,7 @@ fn change(alloc: Global, tokens: &Tokens<'_>, from: u32) -> Result<(Change, u32)
     ensures refused { IfErr result (IsUnexpected tokens.now.file) }
 {
     let (left, next) = feature_name(alloc, tokens, from)?;
-    let next = tokens.after_sign(next, sign::ARROW)?;
+    let next = tokens.after_sign(next, Sign::Arrow)?;
     let (access, to, next) = new_name(alloc, tokens, next)?;
     let change = Change {
         from: left,
@@ -90,8 +90,8 @@ fn new_name(
 {
     let (access, next) = match tokens.kind(from) {
         Some(TokenKind::Lower | TokenKind::IterName) => (Access::Public, from),
-        Some(TokenKind::Word(word::PRIVATE)) => (Access::Private, from + 1),
-        Some(TokenKind::Word(word::READONLY)) => (Access::ReadOnly, from + 1),
+        Some(TokenKind::Word(Word::Private)) => (Access::Private, from + 1),
+        Some(TokenKind::Word(Word::Readonly)) => (Access::ReadOnly, from + 1),
         _ => return Ok((Access::Public, None, from)),
     };
     let (name, next) = feature_name(alloc, tokens, next)?;

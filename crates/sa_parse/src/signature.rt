@@ -13,7 +13,7 @@ ghost use Rattle.sa_parse_expr.specs.Places.{IsBehind, IsFrom, IsUnexpected};
 
 use crate::names::{feature_name, lower_names};
 use crate::sharing::Sharing;
-use sa_lex::{TokenKind, sign};
+use sa_lex::{Sign, TokenKind};
 use sa_parse_expr::{Tokens, read_mode, read_type};
 use sa_tree::{Formal, FrontFault, Local, Ty};
 use sqlite_items::Items;
@@ -61,11 +61,11 @@ fn arguments(
     ensures next { IfOk result (λ read. IsFrom tokens.now.list.now from read.1) }
     ensures refused { IfErr result (IsUnexpected tokens.now.file) }
 {
-    if !tokens.is_sign(from, sign::LPAREN) {
+    if !tokens.is_sign(from, Sign::LeftParen) {
         return Ok((Items::new(alloc), from));
     }
     let (formals, next) = formals(alloc, tokens, sharing, of_iter, from + 1)?;
-    Ok((formals, tokens.after_sign(next, sign::RPAREN)?))
+    Ok((formals, tokens.after_sign(next, Sign::RightParen)?))
 }
 
 /// `formal {"," formal}`
@@ -81,7 +81,7 @@ fn formals(
 {
     let mut list = Vec::new(alloc);
     let mut next = formal(alloc, tokens, sharing, of_iter, &mut list, from)?;
-    'more: while tokens.is_sign(next, sign::COMMA) {
+    'more: while tokens.is_sign(next, Sign::Comma) {
         next = formal(alloc, tokens, sharing, of_iter, &mut list, next + 1)?;
     }
     list.shrink_to_fit();
@@ -102,7 +102,7 @@ fn formal(
 {
     let (mode, next) = read_mode(tokens, of_iter, from);
     let (names, next) = lower_names(alloc, tokens, next)?;
-    let at = tokens.after_sign(next, sign::COLON)?;
+    let at = tokens.after_sign(next, Sign::Colon)?;
     let mut end = at;
     'more: for local in names {
         let (ty, behind) = read_type(alloc, tokens, at)?;
@@ -123,7 +123,7 @@ fn written_result(
     ensures next { IfOk result (λ read. IsFrom tokens.now.list.now from read.1) }
     ensures refused { IfErr result (IsUnexpected tokens.now.file) }
 {
-    if !tokens.is_sign(from, sign::COLON) {
+    if !tokens.is_sign(from, Sign::Colon) {
         return Ok((None, from));
     }
     let (ty, next) = read_type(alloc, tokens, from + 1)?;

@@ -4,7 +4,7 @@ ghost use Rattle.std.specs.Prelude.{◌<◌, length};
 ghost use Rattle.std.specs.Bool.{OnTrue};
 
 use crate::feature::Within;
-use sa_lex::{TokenKind, sign, word};
+use sa_lex::{Sign, TokenKind, Word};
 use sa_parse_expr::Tokens;
 use sa_tree::Kind;
 
@@ -15,21 +15,26 @@ pub(crate) fn begins_expr(tokens: &Tokens<'_>, at: u32) -> bool
     match tokens.kind(at) {
         Some(
             TokenKind::Word(
-                word::BIND
-                | word::EXCEPTION
-                | word::FALSE
-                | word::ITER
-                | word::NEW
-                | word::ROUT
-                | word::SAME
-                | word::SELF
-                | word::TRUE
-                | word::VOID,
+                Word::Bind
+                | Word::Exception
+                | Word::False
+                | Word::Iter
+                | Word::New
+                | Word::Rout
+                | Word::Same
+                | Word::SelfWord
+                | Word::True
+                | Word::Void,
             ),
         ) => true,
         Some(
             TokenKind::Sign(
-                sign::BAR | sign::HASH | sign::LBRACKET | sign::LPAREN | sign::MINUS | sign::TILDE,
+                Sign::Bar
+                | Sign::Hash
+                | Sign::LeftBracket
+                | Sign::LeftParen
+                | Sign::Minus
+                | Sign::Tilde,
             ),
         ) => true,
         Some(TokenKind::Word(_) | TokenKind::Sign(_)) => false,
@@ -45,16 +50,16 @@ pub(crate) fn begins_stmt(tokens: &Tokens<'_>, at: u32) -> bool
     match tokens.kind(at) {
         Some(
             TokenKind::Word(
-                word::ASSERT
-                | word::CASE
-                | word::IF
-                | word::LOOP
-                | word::PROTECT
-                | word::QUIT
-                | word::RAISE
-                | word::RETURN
-                | word::TYPECASE
-                | word::YIELD,
+                Word::Assert
+                | Word::Case
+                | Word::If
+                | Word::Loop
+                | Word::Protect
+                | Word::Quit
+                | Word::Raise
+                | Word::Return
+                | Word::Typecase
+                | Word::Yield,
             ),
         ) => true,
         _ => begins_expr(tokens, at),
@@ -68,16 +73,16 @@ pub(crate) fn begins_feature(tokens: &Tokens<'_>, within: Within<'_>, at: u32) -
     match tokens.kind(at) {
         Some(
             TokenKind::Word(
-                word::ATTR
-                | word::CONST
-                | word::INCLUDE
-                | word::PRIVATE
-                | word::READONLY
-                | word::SHARED,
+                Word::Attr
+                | Word::Const
+                | Word::Include
+                | Word::Private
+                | Word::Readonly
+                | Word::Shared,
             ),
         ) => true,
-        Some(TokenKind::Word(word::STUB)) => within.kind == Kind::Partial,
-        Some(TokenKind::Word(word::BUILTIN)) => within.prelude,
+        Some(TokenKind::Word(Word::Stub)) => within.kind == Kind::Partial,
+        Some(TokenKind::Word(Word::Builtin)) => within.prelude,
         _ => tokens.is_feature_name(at),
     }
 }
@@ -88,6 +93,6 @@ pub(crate) fn begins_class(tokens: &Tokens<'_>, at: u32) -> bool
 {
     matches!(
         tokens.kind(at),
-        Some(TokenKind::Word(word::ABSTRACT | word::CLASS | word::IMMUTABLE | word::PARTIAL))
+        Some(TokenKind::Word(Word::Abstract | Word::Class | Word::Immutable | Word::Partial))
     )
 }

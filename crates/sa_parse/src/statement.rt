@@ -17,7 +17,7 @@ ghost use Rattle.sa_parse_expr.specs.Places.{IsBehind, IsFrom, IsUnexpected};
 use crate::blocks::{case_block, if_block, loop_block, protect_block, typecase_block};
 use crate::names::{lower_name, lower_names};
 use crate::starts::{begins_expr, begins_stmt};
-use sa_lex::{TokenKind, sign, word};
+use sa_lex::{Sign, TokenKind, Word};
 use sa_parse_expr::{Tokens, read_expr, read_type};
 use sa_tree::{Expr, FrontFault, Stmt};
 use sqlite_items::Items;
@@ -36,7 +36,7 @@ pub(crate) fn stmts(
 {
     let mut list = Vec::new(alloc);
     let mut next = optional_stmt(alloc, tokens, &mut list, from)?;
-    'more: while tokens.is_sign(next, sign::SEMICOLON) {
+    'more: while tokens.is_sign(next, Sign::Semicolon) {
         next = optional_stmt(alloc, tokens, &mut list, next + 1)?;
     }
     list.shrink_to_fit();
@@ -70,13 +70,13 @@ fn stmt(alloc: Global, tokens: &Tokens<'_>, from: u32) -> Result<(Stmt, u32), Fr
     ensures refused { IfErr result (IsUnexpected tokens.now.file) }
 {
     match tokens.kind(from) {
-        Some(TokenKind::Word(word::IF)) => if_block(alloc, tokens, from),
-        Some(TokenKind::Word(word::LOOP)) => loop_block(alloc, tokens, from),
-        Some(TokenKind::Word(word::CASE)) => case_block(alloc, tokens, from),
-        Some(TokenKind::Word(word::TYPECASE)) => typecase_block(alloc, tokens, from),
-        Some(TokenKind::Word(word::PROTECT)) => protect_block(alloc, tokens, from),
+        Some(TokenKind::Word(Word::If)) => if_block(alloc, tokens, from),
+        Some(TokenKind::Word(Word::Loop)) => loop_block(alloc, tokens, from),
+        Some(TokenKind::Word(Word::Case)) => case_block(alloc, tokens, from),
+        Some(TokenKind::Word(Word::Typecase)) => typecase_block(alloc, tokens, from),
+        Some(TokenKind::Word(Word::Protect)) => protect_block(alloc, tokens, from),
         Some(
-            TokenKind::Word(word::RETURN | word::YIELD | word::QUIT | word::RAISE | word::ASSERT),
+            TokenKind::Word(Word::Return | Word::Yield | Word::Quit | Word::Raise | Word::Assert),
         ) => leave(alloc, tokens, from),
         _ => simple(alloc, tokens, from),
     }
@@ -91,8 +91,8 @@ fn simple(alloc: Global, tokens: &Tokens<'_>, from: u32) -> Result<(Stmt, u32), 
         return assign(alloc, tokens, from);
     }
     match tokens.kind(from + 1) {
-        Some(TokenKind::Sign(sign::COMMA | sign::COLON)) => declare(alloc, tokens, from),
-        Some(TokenKind::Sign(sign::DECLARE)) => declare_by_value(alloc, tokens, from),
+        Some(TokenKind::Sign(Sign::Comma | Sign::Colon)) => declare(alloc, tokens, from),
+        Some(TokenKind::Sign(Sign::Declare)) => declare_by_value(alloc, tokens, from),
         _ => assign(alloc, tokens, from),
     }
 }
@@ -103,7 +103,7 @@ fn declare(alloc: Global, tokens: &Tokens<'_>, from: u32) -> Result<(Stmt, u32),
     ensures refused { IfErr result (IsUnexpected tokens.now.file) }
 {
     let (names, next) = lower_names(alloc, tokens, from)?;
-    let next = tokens.after_sign(next, sign::COLON)?;
+    let next = tokens.after_sign(next, Sign::Colon)?;
     let (ty, next) = read_type(alloc, tokens, next)?;
     let (value, next) = assigned(alloc, tokens, next)?;
     let locals = Items::from_vec(names);
@@ -120,7 +120,7 @@ pub(crate) fn assigned(
     ensures next { IfOk result (λ read. IsFrom tokens.now.list.now from read.1) }
     ensures refused { IfErr result (IsUnexpected tokens.now.file) }
 {
-    if !tokens.is_sign(from, sign::ASSIGN) {
+    if !tokens.is_sign(from, Sign::Assign) {
         return Ok((None, from));
     }
     let (value, next) = read_expr(alloc, tokens, from + 1)?;
@@ -137,7 +137,7 @@ fn declare_by_value(
     ensures refused { IfErr result (IsUnexpected tokens.now.file) }
 {
     let (name, next) = lower_name(alloc, tokens, from)?;
-    let next = tokens.after_sign(next, sign::DECLARE)?;
+    let next = tokens.after_sign(next, Sign::Declare)?;
     let (value, next) = read_expr(alloc, tokens, next)?;
     let mut locals = Items::new(alloc);
     locals.push(name)?;
@@ -150,7 +150,7 @@ fn assign(alloc: Global, tokens: &Tokens<'_>, from: u32) -> Result<(Stmt, u32), 
     ensures refused { IfErr result (IsUnexpected tokens.now.file) }
 {
     let (target, next) = read_expr(alloc, tokens, from)?;
-    if !tokens.is_sign(next, sign::ASSIGN) {
+    if !tokens.is_sign(next, Sign::Assign) {
         return Ok((Stmt::Do(target), next));
     }
     let (value, end) = read_expr(alloc, tokens, next + 1)?;
@@ -164,20 +164,20 @@ fn leave(alloc: Global, tokens: &Tokens<'_>, from: u32) -> Result<(Stmt, u32), F
 {
     let pos = tokens.pos(from);
     match tokens.kind(from) {
-        Some(TokenKind::Word(word::RETURN)) => {
+        Some(TokenKind::Word(Word::Return)) => {
             let (value, next) = optional_expr(alloc, tokens, from + 1)?;
             Ok((Stmt::Return(value, pos), next))
         }
-        Some(TokenKind::Word(word::YIELD)) => {
+        Some(TokenKind::Word(Word::Yield)) => {
             let (value, next) = optional_expr(alloc, tokens, from + 1)?;
             Ok((Stmt::Yield(value, pos), next))
         }
-        Some(TokenKind::Word(word::QUIT)) => Ok((Stmt::Quit(pos), from + 1)),
-        Some(TokenKind::Word(word::RAISE)) => {
+        Some(TokenKind::Word(Word::Quit)) => Ok((Stmt::Quit(pos), from + 1)),
+        Some(TokenKind::Word(Word::Raise)) => {
             let (value, next) = read_expr(alloc, tokens, from + 1)?;
             Ok((Stmt::Raise(value, pos), next))
         }
-        Some(TokenKind::Word(word::ASSERT)) => {
+        Some(TokenKind::Word(Word::Assert)) => {
             let (test, next) = read_expr(alloc, tokens, from + 1)?;
             Ok((Stmt::Assert(test, pos), next))
         }

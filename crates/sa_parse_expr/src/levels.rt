@@ -6,7 +6,7 @@
 ghost use Rattle.std.specs.Prelude.{◌≡◌, ◌+◌, ◌≤◌, [], ◌∷◌, IfErr, IfNone, IfSome, OnOk, drop, false, length, reverse, true};
 ghost use Rattle.sa_parse_expr.specs.Level.{AreTaken, Refuses, added, after, at_bar, is_refused, level_of, opened, set_to_one, step_of, step_of_sign, step_of_word};
 
-use sa_lex::{Token, TokenKind, sign, word};
+use sa_lex::{Sign, Token, TokenKind, Word};
 use sa_tree::{FrontFault, Pos, Rule};
 use std::alloc::{AllocError, Global};
 
@@ -43,45 +43,45 @@ pub(crate) enum Step {
     Keep,
 }
 
-fn step_of_sign(sign: u8) -> Step
+fn step_of_sign(sign: Sign) -> Step
     ensures { result ≡ step_of_sign sign }
 {
     match sign {
-        sign::LPAREN | sign::LBRACE => Step::Open,
-        sign::LBRACKET => Step::AddAndOpen,
-        sign::BAR => Step::Bar,
-        sign::RPAREN | sign::RBRACKET | sign::RBRACE => Step::Close,
-        sign::PLUS
-        | sign::MINUS
-        | sign::STAR
-        | sign::SLASH
-        | sign::PERCENT
-        | sign::CARET
-        | sign::TILDE
-        | sign::EQUAL
-        | sign::NOT_EQUAL
-        | sign::LESS
-        | sign::LESS_EQUAL
-        | sign::GREATER
-        | sign::GREATER_EQUAL
-        | sign::DOT
-        | sign::DOUBLE_COLON
-        | sign::HASH => Step::Add,
-        sign::COMMA | sign::SEMICOLON | sign::ASSIGN | sign::DECLARE => Step::Reset,
+        Sign::LeftParen | Sign::LeftBrace => Step::Open,
+        Sign::LeftBracket => Step::AddAndOpen,
+        Sign::Bar => Step::Bar,
+        Sign::RightParen | Sign::RightBracket | Sign::RightBrace => Step::Close,
+        Sign::Plus
+        | Sign::Minus
+        | Sign::Star
+        | Sign::Slash
+        | Sign::Percent
+        | Sign::Caret
+        | Sign::Tilde
+        | Sign::Equal
+        | Sign::NotEqual
+        | Sign::Less
+        | Sign::LessEqual
+        | Sign::Greater
+        | Sign::GreaterEqual
+        | Sign::Dot
+        | Sign::DoubleColon
+        | Sign::Hash => Step::Add,
+        Sign::Comma | Sign::Semicolon | Sign::Assign | Sign::Declare => Step::Reset,
         _ => Step::Keep,
     }
 }
 
-fn step_of_word(word: u8) -> Step
+fn step_of_word(word: Word) -> Step
     ensures { result ≡ step_of_word word }
 {
     match word {
-        word::IS | word::IF | word::LOOP | word::CASE | word::TYPECASE | word::PROTECT =>
+        Word::Is | Word::If | Word::Loop | Word::Case | Word::Typecase | Word::Protect =>
             Step::Open,
-        word::END => Step::Close,
-        word::AND | word::OR | word::ROUT | word::ITER => Step::Add,
-        word::THEN | word::ELSE | word::ELSIF | word::WHEN => Step::Reset,
-        word::CLASS => Step::Clear,
+        Word::End => Step::Close,
+        Word::And | Word::Or | Word::Rout | Word::Iter => Step::Add,
+        Word::Then | Word::Else | Word::Elsif | Word::When => Step::Reset,
+        Word::Class => Step::Clear,
         _ => Step::Keep,
     }
 }
@@ -217,7 +217,7 @@ impl Levels {
 fn is_refused(kind: &TokenKind) -> bool
     ensures { result ≡ is_refused kind.now }
 {
-    matches!(kind, TokenKind::Word(word) if *word >= word::FIRST_REFUSED)
+    matches!(kind, TokenKind::Word(word) if word.is_refused())
 }
 
 /// Whether a parser may go over these tokens, which are those of file `file`.

@@ -17,7 +17,7 @@ ghost use Rattle.sa_parse_expr.specs.Places.{IsBehind, IsUnexpected};
 
 use crate::grammar::{Around, Form, Grammar};
 use crate::tokens::Tokens;
-use sa_lex::{TokenKind, sign, word};
+use sa_lex::{Sign, TokenKind, Word};
 use sa_tree::{Expr, FrontFault, Op, Pos};
 use sqlite_items::Boxed;
 use std::alloc::{AllocError, Global};
@@ -34,8 +34,8 @@ fn logical(tokens: &Tokens<'_>, at: u32) -> Option<Op>
     ensures { OnSome result (at < length tokens.now.list.now) }
 {
     match tokens.kind(at) {
-        Some(TokenKind::Word(word::AND)) => Some(Op::And),
-        Some(TokenKind::Word(word::OR)) => Some(Op::Or),
+        Some(TokenKind::Word(Word::And)) => Some(Op::And),
+        Some(TokenKind::Word(Word::Or)) => Some(Op::Or),
         _ => None,
     }
 }
@@ -45,12 +45,12 @@ fn comparing(tokens: &Tokens<'_>, at: u32) -> Option<Op>
     ensures { OnSome result (at < length tokens.now.list.now) }
 {
     match tokens.kind(at) {
-        Some(TokenKind::Sign(sign::EQUAL)) => Some(Op::Eq),
-        Some(TokenKind::Sign(sign::NOT_EQUAL)) => Some(Op::Neq),
-        Some(TokenKind::Sign(sign::LESS)) => Some(Op::Lt),
-        Some(TokenKind::Sign(sign::LESS_EQUAL)) => Some(Op::Leq),
-        Some(TokenKind::Sign(sign::GREATER)) => Some(Op::Gt),
-        Some(TokenKind::Sign(sign::GREATER_EQUAL)) => Some(Op::Geq),
+        Some(TokenKind::Sign(Sign::Equal)) => Some(Op::Eq),
+        Some(TokenKind::Sign(Sign::NotEqual)) => Some(Op::Neq),
+        Some(TokenKind::Sign(Sign::Less)) => Some(Op::Lt),
+        Some(TokenKind::Sign(Sign::LessEqual)) => Some(Op::Leq),
+        Some(TokenKind::Sign(Sign::Greater)) => Some(Op::Gt),
+        Some(TokenKind::Sign(Sign::GreaterEqual)) => Some(Op::Geq),
         _ => None,
     }
 }
@@ -60,8 +60,8 @@ fn adding(tokens: &Tokens<'_>, at: u32) -> Option<Op>
     ensures { OnSome result (at < length tokens.now.list.now) }
 {
     match tokens.kind(at) {
-        Some(TokenKind::Sign(sign::PLUS)) => Some(Op::Plus),
-        Some(TokenKind::Sign(sign::MINUS)) => Some(Op::Minus),
+        Some(TokenKind::Sign(Sign::Plus)) => Some(Op::Plus),
+        Some(TokenKind::Sign(Sign::Minus)) => Some(Op::Minus),
         _ => None,
     }
 }
@@ -71,9 +71,9 @@ fn multiplying(tokens: &Tokens<'_>, at: u32) -> Option<Op>
     ensures { OnSome result (at < length tokens.now.list.now) }
 {
     match tokens.kind(at) {
-        Some(TokenKind::Sign(sign::STAR)) => Some(Op::Times),
-        Some(TokenKind::Sign(sign::SLASH)) => Some(Op::Div),
-        Some(TokenKind::Sign(sign::PERCENT)) => Some(Op::Mod),
+        Some(TokenKind::Sign(Sign::Star)) => Some(Op::Times),
+        Some(TokenKind::Sign(Sign::Slash)) => Some(Op::Div),
+        Some(TokenKind::Sign(Sign::Percent)) => Some(Op::Mod),
         _ => None,
     }
 }
@@ -83,8 +83,8 @@ fn prefix(tokens: &Tokens<'_>, at: u32) -> Option<Op>
     ensures { OnSome result (at < length tokens.now.list.now) }
 {
     match tokens.kind(at) {
-        Some(TokenKind::Sign(sign::MINUS)) => Some(Op::Negate),
-        Some(TokenKind::Sign(sign::TILDE)) => Some(Op::Not),
+        Some(TokenKind::Sign(Sign::Minus)) => Some(Op::Negate),
+        Some(TokenKind::Sign(Sign::Tilde)) => Some(Op::Not),
         _ => None,
     }
 }
@@ -177,7 +177,7 @@ impl<F: Fn(Global, &Tokens<'_>, Form, u32) -> Result<(Expr, u32), FrontFault>> G
         ensures refused { IfErr result (IsUnexpected self.now.tokens.file) }
     {
         let (base, next) = self.post(around, from)?;
-        if !self.tokens.is_sign(next, sign::CARET) {
+        if !self.tokens.is_sign(next, Sign::Caret) {
             return Ok((base, next));
         }
         let (exponent, end) = self.power(around, next + 1)?;

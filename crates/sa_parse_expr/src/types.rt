@@ -14,7 +14,7 @@ ghost use Rattle.std.specs.Bool.{OnTrue};
 ghost use Rattle.sa_parse_expr.specs.Places.{IsBehind, IsFrom, IsUnexpected};
 
 use crate::tokens::Tokens;
-use sa_lex::{TokenKind, sign, word};
+use sa_lex::{Sign, TokenKind, Word};
 use sa_tree::{FrontFault, Mode, ModeTy, Ty};
 use sqlite_items::{Boxed, Items};
 use std::alloc::Global;
@@ -28,7 +28,7 @@ pub(crate) fn begins_type(tokens: &Tokens<'_>, at: u32) -> bool
         Some(
             TokenKind::ClassName
                 | TokenKind::AbstractName
-                | TokenKind::Word(word::SAME | word::ROUT | word::ITER)
+                | TokenKind::Word(Word::Same | Word::Rout | Word::Iter)
         )
     )
 }
@@ -48,13 +48,13 @@ pub fn read_type(alloc: Global, tokens: &Tokens<'_>, from: u32) -> Result<(Ty, u
             let (given, next) = params(alloc, tokens, from + 1)?;
             Ok((Ty::Named(name, given, pos), next))
         }
-        Some(TokenKind::Word(word::SAME)) => Ok((Ty::Same(pos), from + 1)),
-        Some(TokenKind::Word(word::ROUT)) => {
+        Some(TokenKind::Word(Word::Same)) => Ok((Ty::Same(pos), from + 1)),
+        Some(TokenKind::Word(Word::Rout)) => {
             let (args, next) = bound_args(alloc, tokens, false, from + 1)?;
             let (gives, next) = bound_result(alloc, tokens, next)?;
             Ok((Ty::Rout(args, gives, pos), next))
         }
-        Some(TokenKind::Word(word::ITER)) => {
+        Some(TokenKind::Word(Word::Iter)) => {
             let (args, next) = bound_args(alloc, tokens, true, from + 1)?;
             let (gives, next) = bound_result(alloc, tokens, next)?;
             Ok((Ty::Iter(args, gives, pos), next))
@@ -70,11 +70,11 @@ fn params(alloc: Global, tokens: &Tokens<'_>, from: u32) -> Result<(Items<Ty>, u
     ensures next { IfOk result (λ read. IsFrom tokens.now.list.now from read.1) }
     ensures refused { IfErr result (IsUnexpected tokens.now.file) }
 {
-    if !tokens.is_sign(from, sign::LBRACE) {
+    if !tokens.is_sign(from, Sign::LeftBrace) {
         return Ok((Items::new(alloc), from));
     }
     let (types, next) = read_types(alloc, tokens, from + 1)?;
-    Ok((types, tokens.after_sign(next, sign::RBRACE)?))
+    Ok((types, tokens.after_sign(next, Sign::RightBrace)?))
 }
 
 /// One type or several with `,` between them, and the place behind the last.
@@ -90,7 +90,7 @@ pub fn read_types(
     let (first, mut next) = read_type(alloc, tokens, from)?;
     let mut types = Items::new(alloc);
     types.push(first)?;
-    'more: while tokens.is_sign(next, sign::COMMA) {
+    'more: while tokens.is_sign(next, Sign::Comma) {
         let (ty, end) = read_type(alloc, tokens, next + 1)?;
         types.push(ty)?;
         next = end;
@@ -111,17 +111,17 @@ fn bound_args(
     ensures refused { IfErr result (IsUnexpected tokens.now.file) }
 {
     let mut args = Items::new(alloc);
-    if !tokens.is_sign(from, sign::LBRACE) {
+    if !tokens.is_sign(from, Sign::LeftBrace) {
         return Ok((args, from));
     }
     let (first, mut next) = bound_arg(alloc, tokens, of_iter, from + 1)?;
     args.push(first)?;
-    'more: while tokens.is_sign(next, sign::COMMA) {
+    'more: while tokens.is_sign(next, Sign::Comma) {
         let (arg, end) = bound_arg(alloc, tokens, of_iter, next + 1)?;
         args.push(arg)?;
         next = end;
     }
-    Ok((args, tokens.after_sign(next, sign::RBRACE)?))
+    Ok((args, tokens.after_sign(next, Sign::RightBrace)?))
 }
 
 /// `[mode] type`
@@ -151,7 +151,7 @@ fn bound_result(
     ensures next { IfOk result (λ read. IsFrom tokens.now.list.now from read.1) }
     ensures refused { IfErr result (IsUnexpected tokens.now.file) }
 {
-    if !tokens.is_sign(from, sign::COLON) {
+    if !tokens.is_sign(from, Sign::Colon) {
         return Ok((None, from));
     }
     let (ty, next) = read_type(alloc, tokens, from + 1)?;
@@ -165,10 +165,10 @@ pub fn read_mode(tokens: &Tokens<'_>, of_iter: bool, from: u32) -> (Mode, u32)
     ensures within { from ≤ length tokens.now.list.now → result.1 ≤ length tokens.now.list.now }
 {
     match tokens.kind(from) {
-        Some(TokenKind::Word(word::OUT)) => (Mode::Out, from + 1),
-        Some(TokenKind::Word(word::INOUT)) => (Mode::Inout, from + 1),
-        Some(TokenKind::Word(word::IN)) => (Mode::In, from + 1),
-        Some(TokenKind::Word(word::ONCE)) if of_iter => (Mode::Once, from + 1),
+        Some(TokenKind::Word(Word::Out)) => (Mode::Out, from + 1),
+        Some(TokenKind::Word(Word::Inout)) => (Mode::Inout, from + 1),
+        Some(TokenKind::Word(Word::In)) => (Mode::In, from + 1),
+        Some(TokenKind::Word(Word::Once)) if of_iter => (Mode::Once, from + 1),
         _ => (Mode::In, from),
     }
 }
