@@ -1,53 +1,23 @@
-//! Which tokens can begin what may be left out: an expression, a statement, a feature, a signature or a class.
+//! Which token can begin what may be left out: a statement, a member of a class or a class. The end of the file begins
+//! nothing.
 
-ghost use Rattle.std.specs.Prelude.{◌<◌, length};
+ghost use Rattle.std.specs.Prelude.{◌≡◌, IsSome};
 ghost use Rattle.std.specs.Bool.{OnTrue};
+ghost use Rattle.std.specs.Option.{option_copied};
+ghost use Rattle.sa_parse.specs.Starts.{begins_class, begins_member, begins_statement};
 
-use crate::feature::Within;
-use sa_lex::{Sign, TokenKind, Word};
-use sa_parse_expr::Tokens;
+use crate::file::FileKind;
+use crate::member::ClassContext;
+use sa_lex::{TokenKind, Word};
+use sa_parse_expr::begins_expression;
 use sa_tree::Kind;
 
-/// Whether an expression begins there.
-pub(crate) fn begins_expr(tokens: &Tokens<'_>, at: u32) -> bool
-    ensures { OnTrue result (at < length tokens.now.list.now) }
+/// Whether the token begins a statement.
+pub(crate) fn begins_statement(token: Option<&TokenKind>) -> bool
+    ensures value { result ≡ begins_statement (option_copied token) }
+    ensures there { OnTrue result (IsSome token) }
 {
-    match tokens.kind(at) {
-        Some(
-            TokenKind::Word(
-                Word::Bind
-                | Word::Exception
-                | Word::False
-                | Word::Iter
-                | Word::New
-                | Word::Rout
-                | Word::Same
-                | Word::SelfWord
-                | Word::True
-                | Word::Void,
-            ),
-        ) => true,
-        Some(
-            TokenKind::Sign(
-                Sign::Bar
-                | Sign::Hash
-                | Sign::LeftBracket
-                | Sign::LeftParen
-                | Sign::Minus
-                | Sign::Tilde,
-            ),
-        ) => true,
-        Some(TokenKind::Word(_) | TokenKind::Sign(_)) => false,
-        Some(_) => true,
-        None => false,
-    }
-}
-
-/// Whether a statement begins there.
-pub(crate) fn begins_stmt(tokens: &Tokens<'_>, at: u32) -> bool
-    ensures { OnTrue result (at < length tokens.now.list.now) }
-{
-    match tokens.kind(at) {
+    match token {
         Some(
             TokenKind::Word(
                 Word::Assert
@@ -62,15 +32,16 @@ pub(crate) fn begins_stmt(tokens: &Tokens<'_>, at: u32) -> bool
                 | Word::Yield,
             ),
         ) => true,
-        _ => begins_expr(tokens, at),
+        _ => begins_expression(token),
     }
 }
 
-/// Whether a feature of this class begins there.
-pub(crate) fn begins_feature(tokens: &Tokens<'_>, within: Within<'_>, at: u32) -> bool
-    ensures { OnTrue result (at < length tokens.now.list.now) }
+/// Whether the token begins a member of this class.
+pub(crate) fn begins_member(token: Option<&TokenKind>, class: ClassContext<'_>) -> bool
+    ensures value { result ≡ begins_member class.kind class.file_kind (option_copied token) }
+    ensures there { OnTrue result (IsSome token) }
 {
-    match tokens.kind(at) {
+    match token {
         Some(
             TokenKind::Word(
                 Word::Attr
@@ -81,18 +52,20 @@ pub(crate) fn begins_feature(tokens: &Tokens<'_>, within: Within<'_>, at: u32) -
                 | Word::Shared,
             ),
         ) => true,
-        Some(TokenKind::Word(Word::Stub)) => within.kind == Kind::Partial,
-        Some(TokenKind::Word(Word::Builtin)) => within.prelude,
-        _ => tokens.is_feature_name(at),
+        Some(TokenKind::Word(Word::Stub)) => matches!(class.kind, Kind::Partial),
+        Some(TokenKind::Word(Word::Builtin)) => matches!(class.file_kind, FileKind::Prelude),
+        Some(TokenKind::Lower | TokenKind::IterName) => true,
+        _ => false,
     }
 }
 
-/// Whether a class begins there.
-pub(crate) fn begins_class(tokens: &Tokens<'_>, at: u32) -> bool
-    ensures { OnTrue result (at < length tokens.now.list.now) }
+/// Whether the token begins a class.
+pub(crate) fn begins_class(token: Option<&TokenKind>) -> bool
+    ensures value { result ≡ begins_class (option_copied token) }
+    ensures there { OnTrue result (IsSome token) }
 {
     matches!(
-        tokens.kind(at),
+        token,
         Some(TokenKind::Word(Word::Abstract | Word::Class | Word::Immutable | Word::Partial))
     )
 }

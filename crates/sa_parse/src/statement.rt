@@ -11,74 +11,82 @@
 //!
 //! An assignment stands at its `:=`, and a declaration at its first name. What may be assigned isn't decided here.
 
-ghost use Rattle.std.specs.Prelude.{◌≤◌, IfErr, IfOk, length};
+ghost use Rattle.std.specs.Prelude.{◌<◌, ◌≤◌, IfErr, IfOk, length};
+ghost use Rattle.sa_parse.specs.Bodies.{NestsBodies};
 ghost use Rattle.sa_parse_expr.specs.Places.{IsBehind, IsFrom, IsUnexpected};
 
-use crate::blocks::{case_block, if_block, loop_block, protect_block, typecase_block};
+use crate::body::Statements;
 use crate::names::{lower_name, lower_names};
-use crate::starts::{begins_expr, begins_stmt};
+use crate::starts::begins_statement;
 use sa_lex::{Sign, TokenKind, Word};
-use sa_parse_expr::{Tokens, read_expr, read_type};
+use sa_parse_expr::{Tokens, begins_expression, read_expr, read_type};
 use sa_tree::{Expr, FrontFault, Stmt};
 use sqlite_items::Items;
 use std::alloc::Global;
 
-/// `[stmt] {";" [stmt]}`
-#[cycle(statement)]
-pub(crate) fn stmts(
-    alloc: Global,
-    tokens: &Tokens<'_>,
-    from: u32,
-) -> Result<(Items<Stmt>, u32), FrontFault>
-    requires { from ≤ length tokens.now.list.now }
-    ensures next { IfOk result (λ read. IsFrom tokens.now.list.now from read.1) }
-    ensures refused { IfErr result (IsUnexpected tokens.now.file) }
-{
-    let mut list = Vec::new(alloc);
-    let mut next = optional_stmt(alloc, tokens, &mut list, from)?;
-    'more: while tokens.is_sign(next, Sign::Semicolon) {
-        next = optional_stmt(alloc, tokens, &mut list, next + 1)?;
+impl<F: Fn(Global, &Tokens<'_>, Word, u32) -> Result<(Items<Stmt>, u32), FrontFault>> Statements<
+    '_,
+    F,
+> {
+    /// `[stmt] {";" [stmt]}`
+    pub(crate) fn stmts(&self, from: u32) -> Result<(Items<Stmt>, u32), FrontFault>
+        requires nested { NestsBodies self.now.from (F.pre self.now.nested) (F.post self.now.nested) }
+        requires from { self.now.from < from }
+        requires within { from ≤ length self.now.tokens.list.now }
+        ensures next { IfOk result (λ read. IsFrom self.now.tokens.list.now from read.1) }
+        ensures refused { IfErr result (IsUnexpected self.now.tokens.file) }
+    {
+        let (first, mut next) = self.optional_stmt(from)?;
+        let mut list = Vec::new(self.alloc);
+        if let Some(stmt) = first {
+            list.push(stmt)?;
+        }
+        'more: while self.tokens.is_sign(next, Sign::Semicolon) {
+            let (one, end) = self.optional_stmt(next + 1)?;
+            if let Some(stmt) = one {
+                list.push(stmt)?;
+            }
+            next = end;
+        }
+        list.shrink_to_fit();
+        Ok((Items::from_vec(list), next))
     }
-    list.shrink_to_fit();
-    Ok((Items::from_vec(list), next))
-}
 
-/// `[stmt]`, put at the end of the list.
-#[cycle(statement)]
-fn optional_stmt(
-    alloc: Global,
-    tokens: &Tokens<'_>,
-    list: &mut Vec<Stmt>,
-    from: u32,
-) -> Result<u32, FrontFault>
-    requires { from ≤ length tokens.now.list.now }
-    ensures next { IfOk result (IsFrom tokens.now.list.now from) }
-    ensures refused { IfErr result (IsUnexpected tokens.now.file) }
-{
-    if !begins_stmt(tokens, from) {
-        return Ok(from);
+    /// `[stmt]`
+    fn optional_stmt(&self, from: u32) -> Result<(Option<Stmt>, u32), FrontFault>
+        requires nested { NestsBodies self.now.from (F.pre self.now.nested) (F.post self.now.nested) }
+        requires from { self.now.from < from }
+        requires within { from ≤ length self.now.tokens.list.now }
+        ensures next { IfOk result (λ read. IsFrom self.now.tokens.list.now from read.1) }
+        ensures refused { IfErr result (IsUnexpected self.now.tokens.file) }
+    {
+        if !begins_statement(self.tokens.kind(from)) {
+            return Ok((None, from));
+        }
+        let (stmt, next) = self.stmt(from)?;
+        Ok((Some(stmt), next))
     }
-    let (stmt, next) = stmt(alloc, tokens, from)?;
-    list.push(stmt)?;
-    Ok(next)
-}
 
-/// `if | loop | case | typecase | protect | leave | simple`
-#[cycle(statement)]
-fn stmt(alloc: Global, tokens: &Tokens<'_>, from: u32) -> Result<(Stmt, u32), FrontFault>
-    ensures next { IfOk result (λ read. IsBehind tokens.now.list.now from read.1) }
-    ensures refused { IfErr result (IsUnexpected tokens.now.file) }
-{
-    match tokens.kind(from) {
-        Some(TokenKind::Word(Word::If)) => if_block(alloc, tokens, from),
-        Some(TokenKind::Word(Word::Loop)) => loop_block(alloc, tokens, from),
-        Some(TokenKind::Word(Word::Case)) => case_block(alloc, tokens, from),
-        Some(TokenKind::Word(Word::Typecase)) => typecase_block(alloc, tokens, from),
-        Some(TokenKind::Word(Word::Protect)) => protect_block(alloc, tokens, from),
-        Some(
-            TokenKind::Word(Word::Return | Word::Yield | Word::Quit | Word::Raise | Word::Assert),
-        ) => leave(alloc, tokens, from),
-        _ => simple(alloc, tokens, from),
+    /// `if | loop | case | typecase | protect | leave | simple`
+    fn stmt(&self, from: u32) -> Result<(Stmt, u32), FrontFault>
+        requires nested { NestsBodies self.now.from (F.pre self.now.nested) (F.post self.now.nested) }
+        requires from { self.now.from < from }
+        ensures next { IfOk result (λ read. IsBehind self.now.tokens.list.now from read.1) }
+        ensures refused { IfErr result (IsUnexpected self.now.tokens.file) }
+    {
+        match self.tokens.kind(from) {
+            Some(TokenKind::Word(Word::If)) => self.if_block(from),
+            Some(TokenKind::Word(Word::Loop)) => self.loop_block(from),
+            Some(TokenKind::Word(Word::Case)) => self.case_block(from),
+            Some(TokenKind::Word(Word::Typecase)) => self.typecase_block(from),
+            Some(TokenKind::Word(Word::Protect)) => self.protect_block(from),
+            Some(
+                TokenKind::Word(
+                    Word::Return | Word::Yield | Word::Quit | Word::Raise | Word::Assert,
+                ),
+            ) => leave(self.alloc, &self.tokens, from),
+            _ => simple(self.alloc, &self.tokens, from),
+        }
     }
 }
 
@@ -195,7 +203,7 @@ fn optional_expr(
     ensures next { IfOk result (λ read. IsFrom tokens.now.list.now from read.1) }
     ensures refused { IfErr result (IsUnexpected tokens.now.file) }
 {
-    if !begins_expr(tokens, from) {
+    if !begins_expression(tokens.kind(from)) {
         return Ok((None, from));
     }
     let (value, next) = read_expr(alloc, tokens, from)?;

@@ -15,10 +15,12 @@ use Rattle.sa_tree.specs.declared.expr.Expr.{Expr}
 use Rattle.sa_tree.specs.declared.expr.Expr.TheVariants as tree
 use Rattle.sa_parse_expr.specs.declared.grammar.Around.{Around}
 use Rattle.sa_parse_expr.specs.declared.grammar.Around.TheVariants as around
+use Rattle.sa_parse_expr.specs.declared.operators.Precedence.{Precedence}
+use Rattle.sa_parse_expr.specs.declared.operators.Precedence.TheVariants.{Logical, Comparing, Adding, Multiplying}
 use Rattle.sa_parse_expr.specs.Lexemes.{Lexeme, IsWord, IsSign, IsFeature}
 use Rattle.sa_parse_expr.specs.Types.{IsType}
 
--- ---- the operators of each strength
+-- ---- the operators of each precedence
 
 -- "and" | "or"
 pub data IsLogical : Op → Lexeme → Type 0 where
@@ -45,6 +47,13 @@ pub data IsMultiplying : Op → Lexeme → Type 0 where
   slash : {l : Lexeme} → IsSign sign.Slash l → IsMultiplying Div l
   percent : {l : Lexeme} → IsSign sign.Percent l → IsMultiplying Mod l
 
+-- the operators of a precedence
+pub data IsOperator : Precedence → Op → Lexeme → Type 0 where
+  logical : {op : Op} {l : Lexeme} → IsLogical op l → IsOperator Logical op l
+  comparing : {op : Op} {l : Lexeme} → IsComparing op l → IsOperator Comparing op l
+  adding : {op : Op} {l : Lexeme} → IsAdding op l → IsOperator Adding op l
+  multiplying : {op : Op} {l : Lexeme} → IsMultiplying op l → IsOperator Multiplying op l
+
 -- "-" | "~" in front of an operand
 pub data IsPrefix : Op → Lexeme → Type 0 where
   negate : {l : Lexeme} → IsSign sign.Minus l → IsPrefix Negate l
@@ -65,25 +74,21 @@ pub data IsTypeOfNew : List Lexeme → Option Ty → Type 0 where
 -- ---- expressions. What is directly around them says whether a `|` begins an array literal
 
 mutual
-  -- expr = comp {("and" | "or") comp}
+  -- expr = an operation of the weakest operators
   pub data IsExpr : Around → List Lexeme → Expr → Type 0 where
-    comp : {x : Around} {ls : List Lexeme} {e : Expr} → IsComp x ls e → IsExpr x ls e
-    logical : {x : Around} {ls ms : List Lexeme} {o : Lexeme} {op : Op} {a b : Expr} → IsExpr x ls a → IsLogical op o → IsComp x ms b → IsExpr x (ls ++ o ∷ ms) (tree.Binary op a b o.pos)
+    logical_operation : {x : Around} {ls : List Lexeme} {e : Expr} → IsOperation Logical x ls e → IsExpr x ls e
 
-  -- comp = sum {("=" | "/=" | "<" | "<=" | ">" | ">=") sum}
-  pub data IsComp : Around → List Lexeme → Expr → Type 0 where
-    sum : {x : Around} {ls : List Lexeme} {e : Expr} → IsSum x ls e → IsComp x ls e
-    comparing : {x : Around} {ls ms : List Lexeme} {o : Lexeme} {op : Op} {a b : Expr} → IsComp x ls a → IsComparing op o → IsSum x ms b → IsComp x (ls ++ o ∷ ms) (tree.Binary op a b o.pos)
+  -- operation = operand {operator operand}, to the left
+  pub data IsOperation : Precedence → Around → List Lexeme → Expr → Type 0 where
+    operand : {p : Precedence} {x : Around} {ls : List Lexeme} {e : Expr} → IsOperand p x ls e → IsOperation p x ls e
+    operation : {p : Precedence} {x : Around} {ls ms : List Lexeme} {o : Lexeme} {op : Op} {a b : Expr} → IsOperation p x ls a → IsOperator p op o → IsOperand p x ms b → IsOperation p x (ls ++ o ∷ ms) (tree.Binary op a b o.pos)
 
-  -- sum = prod {("+" | "-") prod}
-  pub data IsSum : Around → List Lexeme → Expr → Type 0 where
-    prod : {x : Around} {ls : List Lexeme} {e : Expr} → IsProd x ls e → IsSum x ls e
-    adding : {x : Around} {ls ms : List Lexeme} {o : Lexeme} {op : Op} {a b : Expr} → IsSum x ls a → IsAdding op o → IsProd x ms b → IsSum x (ls ++ o ∷ ms) (tree.Binary op a b o.pos)
-
-  -- prod = unary {("*" | "/" | "%") unary}
-  pub data IsProd : Around → List Lexeme → Expr → Type 0 where
-    unary : {x : Around} {ls : List Lexeme} {e : Expr} → IsUnary x ls e → IsProd x ls e
-    multiplying : {x : Around} {ls ms : List Lexeme} {o : Lexeme} {op : Op} {a b : Expr} → IsProd x ls a → IsMultiplying op o → IsUnary x ms b → IsProd x (ls ++ o ∷ ms) (tree.Binary op a b o.pos)
+  -- an operand of operators of a precedence: an operation of the next stronger ones, or a unary
+  pub data IsOperand : Precedence → Around → List Lexeme → Expr → Type 0 where
+    of_logical : {x : Around} {ls : List Lexeme} {e : Expr} → IsOperation Comparing x ls e → IsOperand Logical x ls e
+    of_comparing : {x : Around} {ls : List Lexeme} {e : Expr} → IsOperation Adding x ls e → IsOperand Comparing x ls e
+    of_adding : {x : Around} {ls : List Lexeme} {e : Expr} → IsOperation Multiplying x ls e → IsOperand Adding x ls e
+    of_multiplying : {x : Around} {ls : List Lexeme} {e : Expr} → IsUnary x ls e → IsOperand Multiplying x ls e
 
   -- unary = ("-" | "~") unary | power
   pub data IsUnary : Around → List Lexeme → Expr → Type 0 where

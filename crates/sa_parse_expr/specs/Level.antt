@@ -14,6 +14,8 @@ use Rattle.sa_tree.specs.declared.refusal.FrontFault.TheVariants.{Refused, NoMem
 use Rattle.sa_tree.specs.declared.rule.Rule.{Rule}
 use Rattle.sa_tree.specs.declared.rule.Rule.TheVariants.{NestedTooDeep, WordNotTaken}
 use Rattle.sa_parse_expr.specs.declared.levels.Counter.{Counter}
+use Rattle.sa_parse_expr.specs.declared.levels.Opener.{Opener}
+use Rattle.sa_parse_expr.specs.declared.levels.Opener.TheVariants as opener
 use Rattle.sa_parse_expr.specs.declared.levels.Step.{Step}
 use Rattle.sa_parse_expr.specs.declared.levels.Step.TheVariants as step
 
@@ -74,31 +76,36 @@ step_of (token.Sign s) = step_of_sign s
 step_of (token.Word w) = step_of_word w
 step_of _ = step.Keep
 
--- a counter that has just been opened, by a `|` or otherwise
-abbrev pub opened : Bool → Counter
-opened of_bar = record { level = 1; of_bar = of_bar }
+-- a counter that has just been opened
+abbrev pub opened : Opener → Counter
+opened o = record { level = 1; opener = o }
 
 -- 1 is added to the innermost counter. Where none is open, one is opened
 abbrev pub added : List Counter → List Counter
-added [] = opened false ∷ []
-added (c ∷ cs) = record { level = c.level + 1; of_bar = c.of_bar } ∷ cs
+added [] = opened opener.Other ∷ []
+added (c ∷ cs) = record { level = c.level + 1; opener = c.opener } ∷ cs
 
 -- the innermost counter is set to 1, if there is one
 abbrev pub set_to_one : List Counter → List Counter
 set_to_one [] = []
-set_to_one (c ∷ cs) = record { level = 1; of_bar = c.of_bar } ∷ cs
+set_to_one (c ∷ cs) = record { level = 1; opener = c.opener } ∷ cs
+
+-- a `|` opened it
+abbrev is_of_bar : Opener → Bool
+is_of_bar opener.Bar = true
+is_of_bar opener.Other = false
 
 -- a `|` closes the counter that a `|` opened, and opens another one elsewhere
 abbrev pub at_bar : List Counter → List Counter
-at_bar [] = opened true ∷ []
-at_bar (c ∷ cs) = if c.of_bar then cs else opened true ∷ c ∷ cs
+at_bar [] = opened opener.Bar ∷ []
+at_bar (c ∷ cs) = if is_of_bar c.opener then cs else opened opener.Bar ∷ c ∷ cs
 
 -- the counters, the innermost one first, after a step
 abbrev pub after : Step → List Counter → List Counter
-after step.Open counters = opened false ∷ counters
+after step.Open counters = opened opener.Other ∷ counters
 after step.Close counters = drop 1 counters
 after step.Add counters = added counters
-after step.AddAndOpen counters = opened false ∷ added counters
+after step.AddAndOpen counters = opened opener.Other ∷ added counters
 after step.Reset counters = set_to_one counters
 after step.Bar counters = at_bar counters
 after step.Clear counters = []
@@ -145,6 +152,6 @@ pub record IsFirstBreach (tokens : List Token) (refusal : Refusal) : Type 0 wher
   pub at : refusal.pos.at ≡ token.start
 
 -- a refusal names the first token of the file that breaks a rule, and the rule
-abbrev pub Refuses : List Token → ℕ → FrontFault → Type 0
-Refuses tokens file (Refused refusal) = IsFirstBreach tokens refusal × (refusal.pos.file ≡ file)
-Refuses tokens file NoMemory = ⊤
+abbrev pub RefusesTokens : List Token → ℕ → FrontFault → Type 0
+RefusesTokens tokens file (Refused refusal) = IsFirstBreach tokens refusal × (refusal.pos.file ≡ file)
+RefusesTokens tokens file NoMemory = ⊤

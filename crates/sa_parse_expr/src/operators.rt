@@ -1,15 +1,17 @@
-//! Expressions of operators: one function for each production of their grammar.
+//! Expressions of operators.
 //!
 //! ```text
-//! expr  = comp {("and" | "or") comp}
-//! comp  = sum {("=" | "/=" | "<" | "<=" | ">" | ">=") sum}
-//! sum   = prod {("+" | "-") prod}
-//! prod  = unary {("*" | "/" | "%") unary}
-//! unary = ("-" | "~") unary | power
-//! power = post ["^" power]
+//! expr    = logical
+//! logical = comp {("and" | "or") comp}
+//! comp    = sum {("=" | "/=" | "<" | "<=" | ">" | ">=") sum}
+//! sum     = prod {("+" | "-") prod}
+//! prod    = unary {("*" | "/" | "%") unary}
+//! unary   = ("-" | "~") unary | power
+//! power   = post ["^" power]
 //! ```
 //!
-//! An operator stands at its sign or word.
+//! The four productions of operators of two operands that go to the left are alike, `operation = operand {operator operand}`,
+//! and have one function; a `Precedence` tells which it reads. An operator stands at its sign or word.
 
 ghost use Rattle.std.specs.Prelude.{◌<◌, ◌≤◌, IfErr, IfOk, OnSome, length};
 ghost use Rattle.sa_parse_expr.specs.Nests.{Nests};
@@ -22,11 +24,36 @@ use sa_tree::{Expr, FrontFault, Op, Pos};
 use sqlite_items::Boxed;
 use std::alloc::{AllocError, Global};
 
+/// How strongly operators of two operands bind that go to the left, from the weakest to the strongest.
+#[derive(Clone, Copy, Debug, PartialEq, Eq)]
+pub(crate) enum Precedence {
+    /// `and` and `or`.
+    Logical,
+    /// `=`, `/=`, `<`, `<=`, `>` and `>=`.
+    Comparing,
+    /// `+` and `-`.
+    Adding,
+    /// `*`, `/` and `%`.
+    Multiplying,
+}
+
 /// The operator of two operands, which stands at this position.
 fn binary(alloc: Global, op: Op, left: Expr, right: Expr, pos: Pos) -> Result<Expr, AllocError> {
     let left = Boxed::new(alloc, left)?;
     let right = Boxed::new(alloc, right)?;
     Ok(Expr::Binary(op, left, right, pos))
+}
+
+/// The operator of this precedence that stands there, if there is one.
+fn operator(precedence: Precedence, tokens: &Tokens<'_>, at: u32) -> Option<Op>
+    ensures { OnSome result (at < length tokens.now.list.now) }
+{
+    match precedence {
+        Precedence::Logical => logical(tokens, at),
+        Precedence::Comparing => comparing(tokens, at),
+        Precedence::Adding => adding(tokens, at),
+        Precedence::Multiplying => multiplying(tokens, at),
+    }
 }
 
 /// `"and" | "or"`
@@ -90,68 +117,57 @@ fn prefix(tokens: &Tokens<'_>, at: u32) -> Option<Op>
 }
 
 impl<F: Fn(Global, &Tokens<'_>, Form, u32) -> Result<(Expr, u32), FrontFault>> Grammar<'_, F> {
-    /// `comp {("and" | "or") comp}`
+    /// `logical`
     pub(crate) fn expr(&self, around: Around, from: u32) -> Result<(Expr, u32), FrontFault>
         requires nested { Nests self.now.from (F.pre self.now.nested) (F.post self.now.nested) }
         requires from { self.now.from ≤ from }
         ensures next { IfOk result (λ read. IsBehind self.now.tokens.list.now from read.1) }
         ensures refused { IfErr result (IsUnexpected self.now.tokens.file) }
     {
-        let (mut left, mut next) = self.comp(around, from)?;
-        'more: while let Some(op) = logical(&self.tokens, next) {
-            let (right, end) = self.comp(around, next + 1)?;
+        self.operation(Precedence::Logical, around, from)
+    }
+
+    /// `operand {operator operand}`
+    #[cycle(operation)]
+    fn operation(
+        &self,
+        precedence: Precedence,
+        around: Around,
+        from: u32,
+    ) -> Result<(Expr, u32), FrontFault>
+        requires nested { Nests self.now.from (F.pre self.now.nested) (F.post self.now.nested) }
+        requires from { self.now.from ≤ from }
+        ensures next { IfOk result (λ read. IsBehind self.now.tokens.list.now from read.1) }
+        ensures refused { IfErr result (IsUnexpected self.now.tokens.file) }
+    {
+        let (mut left, mut next) = self.operand(precedence, around, from)?;
+        'more: while let Some(op) = operator(precedence, &self.tokens, next) {
+            let (right, end) = self.operand(precedence, around, next + 1)?;
             left = binary(self.alloc, op, left, right, self.tokens.pos(next))?;
             next = end;
         }
         Ok((left, next))
     }
 
-    /// `sum {("=" | "/=" | "<" | "<=" | ">" | ">=") sum}`
-    fn comp(&self, around: Around, from: u32) -> Result<(Expr, u32), FrontFault>
+    /// An operand of operators of this precedence: an operation of the next stronger ones, or a unary.
+    #[cycle(operation)]
+    fn operand(
+        &self,
+        precedence: Precedence,
+        around: Around,
+        from: u32,
+    ) -> Result<(Expr, u32), FrontFault>
         requires nested { Nests self.now.from (F.pre self.now.nested) (F.post self.now.nested) }
         requires from { self.now.from ≤ from }
         ensures next { IfOk result (λ read. IsBehind self.now.tokens.list.now from read.1) }
         ensures refused { IfErr result (IsUnexpected self.now.tokens.file) }
     {
-        let (mut left, mut next) = self.sum(around, from)?;
-        'more: while let Some(op) = comparing(&self.tokens, next) {
-            let (right, end) = self.sum(around, next + 1)?;
-            left = binary(self.alloc, op, left, right, self.tokens.pos(next))?;
-            next = end;
+        match precedence {
+            Precedence::Logical => self.operation(Precedence::Comparing, around, from),
+            Precedence::Comparing => self.operation(Precedence::Adding, around, from),
+            Precedence::Adding => self.operation(Precedence::Multiplying, around, from),
+            Precedence::Multiplying => self.unary(around, from),
         }
-        Ok((left, next))
-    }
-
-    /// `prod {("+" | "-") prod}`
-    fn sum(&self, around: Around, from: u32) -> Result<(Expr, u32), FrontFault>
-        requires nested { Nests self.now.from (F.pre self.now.nested) (F.post self.now.nested) }
-        requires from { self.now.from ≤ from }
-        ensures next { IfOk result (λ read. IsBehind self.now.tokens.list.now from read.1) }
-        ensures refused { IfErr result (IsUnexpected self.now.tokens.file) }
-    {
-        let (mut left, mut next) = self.prod(around, from)?;
-        'more: while let Some(op) = adding(&self.tokens, next) {
-            let (right, end) = self.prod(around, next + 1)?;
-            left = binary(self.alloc, op, left, right, self.tokens.pos(next))?;
-            next = end;
-        }
-        Ok((left, next))
-    }
-
-    /// `unary {("*" | "/" | "%") unary}`
-    fn prod(&self, around: Around, from: u32) -> Result<(Expr, u32), FrontFault>
-        requires nested { Nests self.now.from (F.pre self.now.nested) (F.post self.now.nested) }
-        requires from { self.now.from ≤ from }
-        ensures next { IfOk result (λ read. IsBehind self.now.tokens.list.now from read.1) }
-        ensures refused { IfErr result (IsUnexpected self.now.tokens.file) }
-    {
-        let (mut left, mut next) = self.unary(around, from)?;
-        'more: while let Some(op) = multiplying(&self.tokens, next) {
-            let (right, end) = self.unary(around, next + 1)?;
-            left = binary(self.alloc, op, left, right, self.tokens.pos(next))?;
-            next = end;
-        }
-        Ok((left, next))
     }
 
     /// `("-" | "~") unary | power`

@@ -1,10 +1,11 @@
 //! What follows a first: calls on it and indexes, and the arguments of calls. One function for each production.
 //!
 //! ```text
-//! post  = first {"." F [args] | "[" exprs "]"}
-//! args  = "(" arg {"," arg} ")"
-//! arg   = ["out" | "inout"] expr | "_" [":" type]
-//! exprs = expr {"," expr}
+//! post     = first {"." F [args] | "[" exprs "]"}
+//! args     = "(" arg_list ")"
+//! arg_list = arg {"," arg}
+//! arg      = ["out" | "inout"] expr | "_" [":" type]
+//! exprs    = expr {"," expr}
 //! ```
 //!
 //! F is a lower name or an iter name. A call stands at this name, and an index at the first token of the whole form, a
@@ -72,7 +73,18 @@ impl<F: Fn(Global, &Tokens<'_>, Form, u32) -> Result<(Expr, u32), FrontFault>> G
         if !self.tokens.is_sign(from, Sign::LeftParen) {
             return Ok((Items::new(self.alloc), from));
         }
-        let (first, mut next) = self.arg(from + 1)?;
+        let (given, next) = self.arg_list(from + 1)?;
+        Ok((given, self.tokens.after_sign(next, Sign::RightParen)?))
+    }
+
+    /// `arg {"," arg}`
+    fn arg_list(&self, from: u32) -> Result<(Items<Given>, u32), FrontFault>
+        requires nested { Nests self.now.from (F.pre self.now.nested) (F.post self.now.nested) }
+        requires from { self.now.from < from }
+        ensures next { IfOk result (λ read. IsBehind self.now.tokens.list.now from read.1) }
+        ensures refused { IfErr result (IsUnexpected self.now.tokens.file) }
+    {
+        let (first, mut next) = self.arg(from)?;
         let mut args = Vec::new(self.alloc);
         args.push(first)?;
         'more: while self.tokens.is_sign(next, Sign::Comma) {
@@ -81,8 +93,7 @@ impl<F: Fn(Global, &Tokens<'_>, Form, u32) -> Result<(Expr, u32), FrontFault>> G
             next = end;
         }
         args.shrink_to_fit();
-        let args = Items::from_vec(args);
-        Ok((args, self.tokens.after_sign(next, Sign::RightParen)?))
+        Ok((Items::from_vec(args), next))
     }
 
     /// `["out" | "inout"] expr | "_" [":" type]`

@@ -13,8 +13,9 @@ ghost use Rattle.sa_parse_expr.specs.Nests.{Nests};
 ghost use Rattle.sa_parse_expr.specs.Places.{IsBehind, IsFrom, IsUnexpected};
 
 use crate::grammar::{Around, Form, Grammar};
+use crate::starts::begins_type;
 use crate::tokens::Tokens;
-use crate::types::{begins_type, read_type};
+use crate::types::read_type;
 use sa_lex::{Sign, TokenKind, Word};
 use sa_tree::{Expr, FrontFault, Name, Recv, Ty};
 use sqlite_items::Boxed;
@@ -150,7 +151,7 @@ impl<F: Fn(Global, &Tokens<'_>, Form, u32) -> Result<(Expr, u32), FrontFault>> G
         ensures next { IfOk result (λ read. IsBehind self.now.tokens.list.now from read.1) }
         ensures refused { IfErr result (IsUnexpected self.now.tokens.file) }
     {
-        let (class, next) = class_of_new(self.alloc, &self.tokens, from + 1)?;
+        let (class, next) = optional_type(self.alloc, &self.tokens, from + 1)?;
         let (given, next) = self.args(next)?;
         Ok((Expr::Create(class, given, self.tokens.pos(from)), next))
     }
@@ -184,8 +185,8 @@ impl<F: Fn(Global, &Tokens<'_>, Form, u32) -> Result<(Expr, u32), FrontFault>> G
     }
 }
 
-/// `[type]` behind a `#`
-fn class_of_new(
+/// `[type]`
+fn optional_type(
     alloc: Global,
     tokens: &Tokens<'_>,
     from: u32,
@@ -194,11 +195,11 @@ fn class_of_new(
     ensures next { IfOk result (λ read. IsFrom tokens.now.list.now from read.1) }
     ensures refused { IfErr result (IsUnexpected tokens.now.file) }
 {
-    if !begins_type(tokens, from) {
+    if !begins_type(tokens.kind(from)) {
         return Ok((None, from));
     }
-    let (class, next) = read_type(alloc, tokens, from)?;
-    Ok((Some(class), next))
+    let (ty, next) = read_type(alloc, tokens, from)?;
+    Ok((Some(ty), next))
 }
 
 /// `{text}` behind a first text: one text of the bytes of all.
