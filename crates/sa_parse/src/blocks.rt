@@ -25,7 +25,7 @@ ghost use Rattle.std.specs.Prelude.{◌<◌, ◌≤◌, IfErr, IfOk, length};
 ghost use Rattle.sa_parse.specs.Bodies.{NestsBodies};
 ghost use Rattle.sa_parse_expr.specs.Places.{IsBehind, IsFrom, IsUnexpected};
 
-use crate::body::Statements;
+use crate::body::Stmts;
 use crate::names::lower_name;
 use sa_lex::{Sign, Word};
 use sa_parse_expr::{Tokens, read_expr, read_type};
@@ -59,10 +59,7 @@ fn protect_of(body: Items<Stmt>, choice: TypeChoice, pos: Pos) -> Stmt {
     Stmt::Protect(body, choice.branches, choice.rest, pos)
 }
 
-impl<F: Fn(Global, &Tokens<'_>, Word, u32) -> Result<(Items<Stmt>, u32), FrontFault>> Statements<
-    '_,
-    F,
-> {
+impl<F: Fn(Global, &Tokens<'_>, Word, u32) -> Result<(Items<Stmt>, u32), FrontFault>> Stmts<'_, F> {
     /// `"if" arms ending`
     pub(crate) fn if_block(&self, from: u32) -> Result<(Stmt, u32), FrontFault>
         requires nested { NestsBodies self.now.from (F.pre self.now.nested) (F.post self.now.nested) }

@@ -17,7 +17,7 @@ use std::alloc::Global;
 
 /// The productions of a statement that begins behind `from`.
 #[derive(Clone, Copy)]
-pub(crate) struct Statements<'a, F> {
+pub(crate) struct Stmts<'a, F> {
     pub(crate) alloc: Global,
     pub(crate) tokens: Tokens<'a>,
     pub(crate) from: u32,
@@ -25,10 +25,7 @@ pub(crate) struct Statements<'a, F> {
     pub(crate) nested: F,
 }
 
-impl<F: Fn(Global, &Tokens<'_>, Word, u32) -> Result<(Items<Stmt>, u32), FrontFault>> Statements<
-    '_,
-    F,
-> {
+impl<F: Fn(Global, &Tokens<'_>, Word, u32) -> Result<(Items<Stmt>, u32), FrontFault>> Stmts<'_, F> {
     /// `WORD stmts`, nested.
     pub(crate) fn body(&self, word: Word, from: u32) -> Result<(Items<Stmt>, u32), FrontFault>
         requires nested { NestsBodies self.now.from (F.pre self.now.nested) (F.post self.now.nested) }
@@ -51,7 +48,7 @@ pub(crate) fn read_body(
     ensures refused { IfErr result (IsUnexpected tokens.now.file) }
 {
     let next = tokens.after_word(from, word)?;
-    let statements = Statements {
+    let statements = Stmts {
         alloc,
         tokens: *tokens,
         from,

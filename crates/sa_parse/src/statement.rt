@@ -15,7 +15,7 @@ ghost use Rattle.std.specs.Prelude.{◌<◌, ◌≤◌, IfErr, IfOk, length};
 ghost use Rattle.sa_parse.specs.Bodies.{NestsBodies};
 ghost use Rattle.sa_parse_expr.specs.Places.{IsBehind, IsFrom, IsUnexpected};
 
-use crate::body::Statements;
+use crate::body::Stmts;
 use crate::names::{lower_name, lower_names};
 use crate::starts::begins_statement;
 use sa_lex::{Sign, TokenKind, Word};
@@ -24,10 +24,7 @@ use sa_tree::{Expr, FrontFault, Stmt};
 use sqlite_items::Items;
 use std::alloc::Global;
 
-impl<F: Fn(Global, &Tokens<'_>, Word, u32) -> Result<(Items<Stmt>, u32), FrontFault>> Statements<
-    '_,
-    F,
-> {
+impl<F: Fn(Global, &Tokens<'_>, Word, u32) -> Result<(Items<Stmt>, u32), FrontFault>> Stmts<'_, F> {
     /// `[stmt] {";" [stmt]}`
     pub(crate) fn stmts(&self, from: u32) -> Result<(Items<Stmt>, u32), FrontFault>
         requires nested { NestsBodies self.now.from (F.pre self.now.nested) (F.post self.now.nested) }

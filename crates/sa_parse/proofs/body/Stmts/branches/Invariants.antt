@@ -1,6 +1,6 @@
 use Rattle.std.proofs.Common.{length, ◌-◌}
 use Rattle.sa_parse_expr.specs.Places.{IsFrom}
-use Rattle.sa_parse.proofs.body.Statements.stmts.Given as goal
+use Rattle.sa_parse.proofs.body.Stmts.branches.Given as goal
 
 abbrev pub invariant-more : goal.invariant-more
 invariant-more g l = IsFrom l.self.tokens.list.now l.from l.next
