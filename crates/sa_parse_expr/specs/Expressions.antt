@@ -66,10 +66,10 @@ pub data IsTexts : List Lexeme → List ℕ → Type 0 where
   last_text : {l : Lexeme} {bytes : List ℕ} → l.kind ≡ token.Text bytes → IsTexts (l ∷ []) bytes
   more_texts : {l : Lexeme} {ls : List Lexeme} {bytes others : List ℕ} → l.kind ≡ token.Text bytes → IsTexts ls others → IsTexts (l ∷ ls) (bytes ++ others)
 
--- [type] behind a `#`
-pub data IsTypeOfNew : List Lexeme → Option Ty → Type 0 where
-  no_type : IsTypeOfNew [] None
-  of_type : {ls : List Lexeme} {t : Ty} → IsType ls t → IsTypeOfNew ls (Some t)
+-- optional_type = [type]
+pub data IsOptionalType : List Lexeme → Option Ty → Type 0 where
+  no_type : IsOptionalType [] None
+  of_type : {ls : List Lexeme} {t : Ty} → IsType ls t → IsOptionalType ls (Some t)
 
 -- ---- expressions. What is directly around them says whether a `|` begins an array literal
 
@@ -159,7 +159,7 @@ mutual
     new_of : {x : Around} {w : Lexeme} {ls : List Lexeme} {e : Expr} → IsWord word.New w → IsParenthesised ls e → IsFirst x (w ∷ ls) (tree.New (Some e) w.pos)
     implied_call : {x : Around} {ls : List Lexeme} {e : Expr} → IsCall Implied ls e → IsFirst x ls e
     class_call : {x : Around} {ls ms : List Lexeme} {colons : Lexeme} {t : Ty} {e : Expr} → IsType ls t → IsSign sign.DoubleColon colons → IsCall (OfClass t) ms e → IsFirst x (ls ++ colons ∷ ms) e
-    create : {x : Around} {hash : Lexeme} {ls ms : List Lexeme} {of : Option Ty} {given : List Given} → IsSign sign.Hash hash → IsTypeOfNew ls of → IsArgs ms given → IsFirst x (hash ∷ ls ++ ms) (tree.Create of given hash.pos)
+    create : {x : Around} {hash : Lexeme} {ls ms : List Lexeme} {of : Option Ty} {given : List Given} → IsSign sign.Hash hash → IsOptionalType ls of → IsArgs ms given → IsFirst x (hash ∷ ls ++ ms) (tree.Create of given hash.pos)
     items : {opening closing : Lexeme} {ls : List Lexeme} {es : List Expr} → IsSign sign.Bar opening → IsExprs around.Items ls es → IsSign sign.Bar closing → IsFirst around.Open (opening ∷ ls ++ closing ∷ []) (tree.Items es opening.pos)
     bind : {x : Around} {w opening closing : Lexeme} {ls : List Lexeme} {e : Expr} → IsWord word.Bind w → IsSign sign.LeftParen opening → IsPost around.Open ls e → IsSign sign.RightParen closing → IsFirst x (w ∷ opening ∷ ls ++ closing ∷ []) (tree.Bind e w.pos)
     index_on_self : {x : Around} {l : Lexeme} {ls : List Lexeme} {places : List Expr} → IsIndex (l ∷ ls) places → IsFirst x (l ∷ ls) (tree.Index None places l.pos)
