@@ -16,8 +16,8 @@ pub(crate) fn class_types_above(
     let uppers = abstract_types(alloc, program)?;
     let mut above = Vec::new(alloc);
     for ty in 0..program.count() {
-        let row = held(program.row(ty))?;
-        above.push(uppers_of(alloc, program, uppers.as_slice(), &row.ty, Some(ty))?)?;
+        let own = held(program.ty(ty))?;
+        above.push(uppers_of(alloc, program, uppers.as_slice(), own, Some(ty))?)?;
     }
     Ok(above)
 }
@@ -43,8 +43,8 @@ pub(crate) fn uppers_of(
 ) -> Result<Items<u32>, NoMemory> {
     let mut above = Items::new(alloc);
     for upper in uppers {
-        let row = held(program.row(*upper))?;
-        if own != Some(*upper) && program.edges().is_sub(ty, &row.ty) {
+        let upper_ty = held(program.ty(*upper))?;
+        if own != Some(*upper) && program.edges().is_sub(ty, upper_ty) {
             above.push(*upper)?;
         }
     }

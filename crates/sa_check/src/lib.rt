@@ -9,5 +9,4 @@ mod types;
 mod typing;
 mod whole;
 
-pub use sa_check_program::instances;
 pub use whole::check;

@@ -61,7 +61,7 @@ impl ReadyExpr {
     }
 
     /// Whether it has a type by itself.
-    pub fn is_typed(&self) -> bool {
+    pub(crate) fn is_typed(&self) -> bool {
         matches!(self, ReadyExpr::Typed(_, _))
     }
 }

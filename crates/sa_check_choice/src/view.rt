@@ -70,7 +70,7 @@ pub struct Typed {
 pub fn type_of<'a>(view: &'a View<'_>, built: &'a Built, number: u32) -> Option<&'a Ty> {
     let needed = view.program.count();
     if number < needed {
-        return view.program.row(number).map(|row| &row.ty);
+        return view.program.ty(number);
     }
     let (ty, _) = built.bound.get_index((number - needed) as usize)?;
     Some(ty)
@@ -128,14 +128,6 @@ pub fn position(e: &Expr) -> Pos {
     }
 }
 
-/// Whether the expression takes the type that its place wants: `void`, `#(..)` without a type, or an array literal.
-pub fn is_contextual(e: &Expr) -> bool {
-    matches!(
-        e,
-        Expr::Void(_) | Expr::Create(None, _, _) | Expr::Items(_, _)
-    )
-}
-
 /// A value of one type where another one is wanted. A value of an immutable class is widened where an abstract type is
 /// wanted; the position is that of the expression which is widened.
 pub fn widened(
@@ -153,7 +145,7 @@ pub fn widened(
 }
 
 /// Whether a value of the first type is widened where the second type is wanted.
-pub fn is_widening(view: &View<'_>, from: u32, to: u32) -> bool {
+fn is_widening(view: &View<'_>, from: u32, to: u32) -> bool {
     kind_of(view, from) == Kind::Immutable && kind_of(view, to) == Kind::Abstract
 }
 

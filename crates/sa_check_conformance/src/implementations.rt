@@ -6,9 +6,8 @@ use crate::parents::is_abstract;
 use crate::signatures::Signatures;
 use sa_check_program::Program;
 use sa_sig::conforms;
-use sa_subtypes::Edges;
 use sa_tree::{FrontFault, NoMemory, Rule, held};
-use sa_types::{Instance, Sig};
+use sa_types::Sig;
 use sqlite_items::Items;
 use std::alloc::Global;
 
@@ -25,19 +24,6 @@ const MOST_ASKED: usize = 1_000_000;
 pub struct Implementation {
     pub ty: u32,
     pub member: u32,
-}
-
-/// Checks conformance over instances that are all that their headers and features need, where `edges` are those of their
-/// classes.
-///
-/// # Errors
-///
-/// As `check_conformance`.
-pub fn check_edges(alloc: Global, instances: &[Instance], edges: &Edges) -> Result<(), FrontFault> {
-    let program = Program::of_instances(alloc, instances, edges)?;
-    let signatures = Signatures::make(alloc, &program)?;
-    check_conformance(alloc, &program, &signatures)?;
-    Ok(())
 }
 
 /// The members that implement each signature, by rising number of their types; of all signatures together the first
