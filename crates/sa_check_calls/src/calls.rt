@@ -7,7 +7,8 @@ use crate::passing::{PassedArgs, passed, seen_arguments};
 use crate::ready::ReadyArg;
 use crate::receiver::Receiver;
 use sa_check_choice::{
-    Built, ChosenFeature, Place, Reached, Typed, View, bound_callee, bound_name, chosen, first_iter,
+    Built, ChosenFeature, Expected, Place, Reached, Typed, View, bound_callee, bound_name, chosen,
+    first_iter,
 };
 use sa_core::{CalledCore, ExprCore};
 use sa_tree::{FrontFault, Name, NoMemory, Pos, Recv, Rule};
@@ -26,7 +27,7 @@ pub fn call_form(
     receiver: Receiver,
     args: Vec<ReadyArg>,
     pos: Pos,
-    wants: bool,
+    expected: Expected,
 ) -> Result<Typed, FrontFault> {
     if leave_of(on, name).is_some() {
         innermost_loop(place, pos)?;
@@ -41,11 +42,11 @@ pub fn call_form(
         name.as_slice(),
         args,
         pos,
-        wants,
+        expected,
     )
 }
 
-/// A call by name, at a place that wants a result or wants none. It is refused at `pos`:
+/// A call by name, at a place that expects a result or none. It is refused at `pos`:
 ///
 /// - E35, E38: an iter call stands outside a loop, or a protect stands between it and its loop.
 /// - E41: what it is made on is contextual. E12: it is made on a class that isn't concrete.
@@ -63,12 +64,12 @@ pub fn call(
     name: &[u8],
     args: Vec<ReadyArg>,
     pos: Pos,
-    wants: bool,
+    expected: Expected,
 ) -> Result<Typed, FrontFault> {
     if is_iter_name(name) {
-        return iter_call(alloc, view, place, built, on, name, args, pos, wants);
+        return iter_call(alloc, view, place, built, on, name, args, pos, expected);
     }
-    plain_call(alloc, view, built, on, name, args, pos, wants)
+    plain_call(alloc, view, built, on, name, args, pos, expected)
 }
 
 /// A call that is no iter call.
@@ -80,9 +81,18 @@ fn plain_call(
     name: &[u8],
     args: Vec<ReadyArg>,
     pos: Pos,
-    wants: bool,
+    expected: Expected,
 ) -> Result<Typed, FrontFault> {
-    let callee = callee(alloc, view, built, &on, name, args.as_slice(), pos, wants)?;
+    let callee = callee(
+        alloc,
+        view,
+        built,
+        &on,
+        name,
+        args.as_slice(),
+        pos,
+        expected,
+    )?;
     let ChosenFeature {
         reached,
         params,
@@ -110,7 +120,6 @@ pub(crate) fn called_value(
         args,
         iter,
         once: _once,
-        fit: _fit,
     } = passed;
     let iter = first_iter(on.iter(), iter);
     let on = Boxed::new(alloc, on.into_core()?)?;
@@ -131,17 +140,17 @@ pub(crate) fn callee(
     name: &[u8],
     args: &[ReadyArg],
     pos: Pos,
-    wants: bool,
+    expected: Expected,
 ) -> Result<ChosenFeature, FrontFault> {
     let of = on.ty(view, pos)?;
     let seen = seen_arguments(alloc, view, built, args)?;
     let Some(word) = value_name(view, built, on, of) else {
-        return chosen(alloc, view, of, name, seen.as_slice(), wants, pos);
+        return chosen(alloc, view, of, name, seen.as_slice(), expected, pos);
     };
     if name != word {
         return Err(Rule::UnknownName.at(pos).into());
     }
-    bound_callee(alloc, view, built, of, seen.as_slice(), pos, wants)
+    bound_callee(alloc, view, built, of, seen.as_slice(), pos, expected)
 }
 
 /// The name by which a bound value is called, where a call is made on one.

@@ -4,7 +4,7 @@ use crate::calls::callee;
 use crate::passing::{PassedArgs, passed};
 use crate::ready::ReadyArg;
 use crate::receiver::Receiver;
-use sa_check_choice::{Built, ChosenFeature, Place, Typed, View, first_iter};
+use sa_check_choice::{Built, ChosenFeature, Expected, Place, Typed, View, first_iter};
 use sa_core::{CalledCore, ExprCore, SiteCore};
 use sa_tree::{FrontFault, NoMemory, Pos, Rule, held};
 use sqlite_items::Boxed;
@@ -37,10 +37,19 @@ pub(crate) fn iter_call(
     name: &[u8],
     args: Vec<ReadyArg>,
     pos: Pos,
-    wants: bool,
+    expected: Expected,
 ) -> Result<Typed, FrontFault> {
     let owner = innermost_loop(place, pos)?;
-    let callee = callee(alloc, view, built, &on, name, args.as_slice(), pos, wants)?;
+    let callee = callee(
+        alloc,
+        view,
+        built,
+        &on,
+        name,
+        args.as_slice(),
+        pos,
+        expected,
+    )?;
     let passed = passed(alloc, view, built, args, callee.params.as_slice(), pos)?;
     if let Some(inner) = first_iter(on.iter(), passed.once) {
         return Err(Rule::IterInSelfOrOnce.at(inner).into());
@@ -76,7 +85,6 @@ fn iter_value(
         args,
         iter: _iter,
         once: _once,
-        fit: _fit,
     } = passed;
     let on = Boxed::new(alloc, on.into_core()?)?;
     Ok(Typed {

@@ -3,7 +3,7 @@
 use crate::iter::innermost_loop;
 use crate::ready::ReadyArg;
 use crate::settle::settled;
-use sa_check_choice::{Built, Place, View};
+use sa_check_choice::{Built, Expected, Place, View};
 use sa_check_program::BOOL;
 use sa_core::ExprCore;
 use sa_tree::{FrontFault, Name, Pos, Recv, Rule};
@@ -70,7 +70,7 @@ fn test(
     let ReadyArg::Value(value) = arg else {
         return Err(Rule::NoFeatureFits.at(pos).into());
     };
-    let value = settled(alloc, view, built, value, Some(BOOL))?;
+    let value = settled(alloc, view, built, value, Expected::Type(BOOL))?;
     if value.ty != Some(BOOL) {
         return Err(Rule::WrongType.at(pos).into());
     }

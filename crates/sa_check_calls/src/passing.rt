@@ -29,37 +29,22 @@ fn seen_argument(
     built: &Built,
     arg: &ReadyArg,
 ) -> Result<ArgIn, NoMemory> {
+    let ty = seen_type(alloc, view, built, own_type(arg)?)?;
+    Ok(ArgIn {
+        mode: arg.mode(),
+        ty,
+        left: arg.is_left(),
+    })
+}
+
+/// The number of the type that an argument has by itself, if it has one.
+fn own_type(arg: &ReadyArg) -> Result<Option<u32>, NoMemory> {
     match arg {
-        ReadyArg::Value(value) => {
-            let ty = own_type(value)?;
-            seen(alloc, view, built, Mode::In, ty, false)
-        }
-        ReadyArg::Variable(mode, variable) => {
-            seen(alloc, view, built, *mode, Some(variable.ty), false)
-        }
-        ReadyArg::Left(ty) => seen(alloc, view, built, Mode::In, *ty, true),
+        ReadyArg::Value(ReadyExpr::Typed(value, _)) => Ok(Some(held(value.ty)?)),
+        ReadyArg::Value(_) => Ok(None),
+        ReadyArg::Variable(_, variable) => Ok(Some(variable.ty)),
+        ReadyArg::Left(ty) => Ok(*ty),
     }
-}
-
-/// The number of the type that a value has by itself, if it has one.
-fn own_type(value: &ReadyExpr) -> Result<Option<u32>, NoMemory> {
-    match value {
-        ReadyExpr::Typed(value, _) => Ok(Some(held(value.ty)?)),
-        _ => Ok(None),
-    }
-}
-
-/// What the choice sees of an argument whose type has a number, if there is one.
-fn seen(
-    alloc: Global,
-    view: &View<'_>,
-    built: &Built,
-    mode: Mode,
-    number: Option<u32>,
-    left: bool,
-) -> Result<ArgIn, NoMemory> {
-    let ty = seen_type(alloc, view, built, number)?;
-    Ok(ArgIn { mode, ty, left })
 }
 
 /// The type with a number, if there is one.
@@ -83,8 +68,6 @@ pub struct PassedArgs {
     pub iter: Option<Pos>,
     /// The first one in those of `once` parameters.
     pub once: Option<Pos>,
-    /// Whether each contextual one has the type of its parameter.
-    pub fit: bool,
 }
 
 /// An argument at its parameter.
@@ -92,18 +75,22 @@ pub struct PassedArgs {
 struct PassedArg {
     arg: ArgCore,
     iter: Option<Pos>,
+    /// Whether a contextual one has the type of its parameter.
     fits: bool,
 }
 
 impl PassedArgs {
     fn add(&mut self, passed: PassedArg, mode: Mode) -> Result<(), NoMemory> {
-        let PassedArg { arg, iter, fits } = passed;
+        let PassedArg {
+            arg,
+            iter,
+            fits: _fits,
+        } = passed;
         self.args.push(arg)?;
         self.iter = first_iter(self.iter, iter);
         if mode == Mode::Once {
             self.once = first_iter(self.once, iter);
         }
-        self.fit = self.fit && fits;
         Ok(())
     }
 }
@@ -123,14 +110,15 @@ pub fn passed(
         args: Items::new(alloc),
         iter: None,
         once: None,
-        fit: true,
     };
+    let mut fit = true;
     for arg in args {
         let param = *held(params.get(all.args.len()))?;
         let passed = passed_argument(alloc, view, built, arg, param)?;
+        fit = fit && passed.fits;
         all.add(passed, param.mode)?;
     }
-    if !all.fit {
+    if !fit {
         return Err(Rule::NoFeatureFits.at(pos).into());
     }
     Ok(all)

@@ -1,6 +1,6 @@
 //! Forms whose children are typed.
 //!
-//! `void`, `#(..)` without a type and an array literal are contextual: they take the type that their place wants, which may
+//! `void`, `#(..)` without a type and an array literal are contextual: they take the type that their place expects, which may
 //! be known only once the form around them is chosen. What they hold is typed at its place all the same, and the contextual
 //! form alone waits for its type.
 
@@ -31,6 +31,21 @@ pub enum ReadyArg {
     Variable(Mode, Variable),
     /// An argument that a bind leaves open, with the number of its type where one is written.
     Left(Option<u32>),
+}
+
+impl ReadyArg {
+    /// The mode that is written at the argument.
+    pub(crate) fn mode(&self) -> Mode {
+        match self {
+            ReadyArg::Value(_) | ReadyArg::Left(_) => Mode::In,
+            ReadyArg::Variable(mode, _) => *mode,
+        }
+    }
+
+    /// Whether a bind leaves it open.
+    pub fn is_left(&self) -> bool {
+        matches!(self, ReadyArg::Left(_))
+    }
 }
 
 impl ReadyExpr {

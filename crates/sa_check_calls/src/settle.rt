@@ -1,12 +1,12 @@
-//! Contextual forms at the type that their place wants.
+//! Contextual forms at the type that their place expects.
 
 use crate::calls::{called_value, callee};
 use crate::passing::{PassedArgs, passed};
 use crate::ready::{ReadyArg, ReadyExpr};
 use crate::receiver::Receiver;
 use sa_check_choice::{
-    Built, ChosenFeature, Reached, Typed, View, first_iter, is_concrete, is_sub, number_of,
-    type_of, widened,
+    Built, ChosenFeature, Expected, Reached, Typed, View, first_iter, is_concrete, is_sub,
+    number_of, type_of, widened,
 };
 use sa_core::ExprCore;
 use sa_tree::{FrontFault, NoMemory, Pos, Rule, Ty, held};
@@ -16,26 +16,26 @@ use std::alloc::Global;
 /// The class of array literals.
 const ARRAY: &[u8] = b"ARRAY";
 
-/// An expression at the type that its place wants. One that has a type by itself keeps it.
+/// An expression at the type that its place expects. One that has a type by itself keeps it.
 #[cycle(settle)]
 pub fn settled(
     alloc: Global,
     view: &View<'_>,
     built: &Built,
     ready: ReadyExpr,
-    wanted: Option<u32>,
+    expected: Expected,
 ) -> Result<Typed, FrontFault> {
     match ready {
         ReadyExpr::Typed(value, _) => Ok(value),
-        ReadyExpr::Void(pos) => void(wanted, pos),
-        ReadyExpr::Create(args, pos) => create(alloc, view, built, args, wanted, pos),
-        ReadyExpr::Items(items, pos) => array(alloc, view, built, items, wanted, pos),
+        ReadyExpr::Void(pos) => void(expected, pos),
+        ReadyExpr::Create(args, pos) => create(alloc, view, built, args, expected, pos),
+        ReadyExpr::Items(items, pos) => array(alloc, view, built, items, expected, pos),
     }
 }
 
-/// `void`: E41 where no type is wanted.
-fn void(wanted: Option<u32>, pos: Pos) -> Result<Typed, FrontFault> {
-    let Some(ty) = wanted else {
+/// `void`: E41 where no type is expected.
+fn void(expected: Expected, pos: Pos) -> Result<Typed, FrontFault> {
+    let Some(ty) = expected.ty() else {
         return Err(Rule::NoTypeFromContext.at(pos).into());
     };
     Ok(Typed {
@@ -45,17 +45,17 @@ fn void(wanted: Option<u32>, pos: Pos) -> Result<Typed, FrontFault> {
     })
 }
 
-/// `#(..)` without a type: a call of `create` on void of the wanted type, and E41 unless that is a concrete one.
+/// `#(..)` without a type: a call of `create` on void of the expected type, and E41 unless that is a concrete one.
 #[cycle(settle)]
 fn create(
     alloc: Global,
     view: &View<'_>,
     built: &Built,
     args: Vec<ReadyArg>,
-    wanted: Option<u32>,
+    expected: Expected,
     pos: Pos,
 ) -> Result<Typed, FrontFault> {
-    let on = created(view, wanted);
+    let on = created(view, expected);
     let callee = callee(
         alloc,
         view,
@@ -64,16 +64,16 @@ fn create(
         b"create",
         args.as_slice(),
         pos,
-        true,
+        Expected::Value,
     )?;
     let passed = passed(alloc, view, built, args, callee.params.as_slice(), pos)?;
     Ok(made(alloc, callee, on, passed, pos)?)
 }
 
-/// What `#(..)` without a type calls `create` on: nothing that has a type, unless a concrete one is wanted.
-fn created(view: &View<'_>, wanted: Option<u32>) -> Receiver {
-    match wanted {
-        Some(class) if is_concrete(view, class) => Receiver::Class(class),
+/// What `#(..)` without a type calls `create` on: nothing that has a type, unless a concrete one is expected.
+fn created(view: &View<'_>, expected: Expected) -> Receiver {
+    match expected {
+        Expected::Type(class) if is_concrete(view, class) => Receiver::Class(class),
         _ => Receiver::Untyped,
     }
 }
@@ -101,7 +101,7 @@ fn made(
     }
 }
 
-/// A value where a type is wanted, with the number of the type that it has by itself.
+/// A value where a type is expected, with the number of the type that it has by itself.
 #[derive(Drop)]
 pub(crate) struct SettledValue {
     pub core: ExprCore,
@@ -109,7 +109,7 @@ pub(crate) struct SettledValue {
     pub iter: Option<Pos>,
 }
 
-/// An expression as a value of the type that its place wants, to which it is widened.
+/// An expression as a value of the type that its place expects, to which it is widened.
 #[cycle(settle)]
 pub(crate) fn settled_to(
     alloc: Global,
@@ -119,23 +119,23 @@ pub(crate) fn settled_to(
     to: u32,
 ) -> Result<SettledValue, FrontFault> {
     let pos = ready.pos();
-    let Typed { core, ty, iter } = settled(alloc, view, built, ready, Some(to))?;
+    let Typed { core, ty, iter } = settled(alloc, view, built, ready, Expected::Type(to))?;
     let from = held(ty)?;
     let core = widened(alloc, view, core, from, to, pos)?;
     Ok(SettledValue { core, from, iter })
 }
 
-/// An array literal: E41 unless an array is wanted, and E33 unless each element goes to the type of its elements.
+/// An array literal: E41 unless an array is expected, and E33 unless each element goes to the type of its elements.
 #[cycle(settle)]
 fn array(
     alloc: Global,
     view: &View<'_>,
     built: &Built,
     items: Vec<ReadyExpr>,
-    wanted: Option<u32>,
+    expected: Expected,
     pos: Pos,
 ) -> Result<Typed, FrontFault> {
-    let Some((ty, of)) = array_type(view, built, wanted) else {
+    let Some((ty, of)) = array_type(view, built, expected) else {
         return Err(Rule::NoTypeFromContext.at(pos).into());
     };
     let elements = elements(alloc, view, built, items, of)?;
@@ -175,14 +175,14 @@ fn elements(
     };
     for item in items {
         let value = settled_to(alloc, view, built, item, of)?;
-        let goes = is_sub(view, built, value.from, of);
-        all.add(value, goes)?;
+        all.go = all.go && is_sub(view, built, value.from, of);
+        all.add(value)?;
     }
     Ok(all)
 }
 
 impl ArrayElements {
-    fn add(&mut self, value: SettledValue, goes: bool) -> Result<(), NoMemory> {
+    fn add(&mut self, value: SettledValue) -> Result<(), NoMemory> {
         let SettledValue {
             core,
             from: _from,
@@ -190,14 +190,13 @@ impl ArrayElements {
         } = value;
         self.cores.push(core)?;
         self.iter = first_iter(self.iter, iter);
-        self.go = self.go && goes;
         Ok(())
     }
 }
 
-/// The number of a wanted array type and that of its elements' type.
-fn array_type(view: &View<'_>, built: &Built, wanted: Option<u32>) -> Option<(u32, u32)> {
-    let ty = wanted?;
+/// The number of an expected array type and that of its elements' type.
+fn array_type(view: &View<'_>, built: &Built, expected: Expected) -> Option<(u32, u32)> {
+    let ty = expected.ty()?;
     let Ty::Named(name, given, _) = type_of(view, built, ty)? else {
         return None;
     };

@@ -2,7 +2,7 @@
 
 use crate::choice::{ChosenFeature, Param};
 use crate::target::Reached;
-use crate::view::{Built, View, number_of, type_of};
+use crate::view::{Built, Expected, View, number_of, type_of};
 use sa_core::CalledCore;
 use sa_overload::{ArgIn, Cand, fits};
 use sa_tree::{FrontFault, ModeTy, NoMemory, Pos, Rule, Ty, held};
@@ -27,10 +27,10 @@ pub fn bound_callee(
     of: u32,
     seen: &[ArgIn],
     pos: Pos,
-    wants: bool,
+    expected: Expected,
 ) -> Result<ChosenFeature, FrontFault> {
     let described = description(alloc, held(type_of(view, built, of))?)?;
-    if !fits(&described, seen, wants, view.program.edges()) {
+    if !fits(&described, seen, expected.is_result(), view.program.edges()) {
         return Err(Rule::NoFeatureFits.at(pos).into());
     }
     Ok(ChosenFeature {

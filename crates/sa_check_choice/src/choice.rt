@@ -2,7 +2,7 @@
 
 use crate::candidates::{Candidate, candidates, described};
 use crate::target::{Reached, reached_by};
-use crate::view::View;
+use crate::view::{Expected, View};
 use sa_overload::{ArgIn, Cand, Choice, choose, fits};
 use sa_tree::{FrontFault, Mode, NoMemory, Pos, Rule, held};
 use sqlite_items::Items;
@@ -25,8 +25,8 @@ pub struct ChosenFeature {
     pub result: Option<u32>,
 }
 
-/// What a call by name on the type with the number `of` reaches, by the types of its arguments, at a place that wants a
-/// result or wants none. Refused at `pos`:
+/// What a call by name on the type with the number `of` reaches, by the types of its arguments, at a place that expects a
+/// result or none. Refused at `pos`:
 ///
 /// - E30: nothing has the name. E34: only private features have it that aren't seen here.
 /// - E31: none fits. E32: several do, and none of them is the most specific one.
@@ -37,11 +37,11 @@ pub fn chosen(
     of: u32,
     name: &[u8],
     args: &[ArgIn],
-    wants: bool,
+    expected: Expected,
     pos: Pos,
 ) -> Result<ChosenFeature, FrontFault> {
     let call = Call::new(alloc, view, of, name, pos)?;
-    let candidate = call.choice(view, args, wants, pos)?;
+    let candidate = call.choice(view, args, expected, pos)?;
     Ok(described_choice(alloc, view, of, candidate)?)
 }
 
@@ -56,8 +56,8 @@ pub fn bound_candidate(
     pos: Pos,
 ) -> Result<Candidate, FrontFault> {
     let call = Call::new(alloc, view, of, name, pos)?;
-    let wants = call.has_result(view, args);
-    call.choice(view, args, wants, pos)
+    let expected = call.result_expected(view, args);
+    call.choice(view, args, expected, pos)
 }
 
 /// What is reached by a call on a type that has chosen a candidate.
@@ -103,13 +103,14 @@ impl Call {
         })
     }
 
-    /// Whether one that gives a result fits.
-    fn has_result(&self, view: &View<'_>, args: &[ArgIn]) -> bool {
+    /// What a bind expects of its head: a result where one that gives a result fits.
+    fn result_expected(&self, view: &View<'_>, args: &[ArgIn]) -> Expected {
         let edges = view.program.edges();
-        self.described
-            .as_slice()
-            .iter()
-            .any(|cand| fits(cand, args, true, edges))
+        let described = self.described.as_slice();
+        if described.iter().any(|cand| fits(cand, args, true, edges)) {
+            return Expected::Value;
+        }
+        Expected::Nothing
     }
 
     /// The chosen one: E31, E32, E41.
@@ -117,20 +118,20 @@ impl Call {
         &self,
         view: &View<'_>,
         args: &[ArgIn],
-        wants: bool,
+        expected: Expected,
         pos: Pos,
     ) -> Result<Candidate, FrontFault> {
         let described = self.described.as_slice();
         if described.len() >= u32::MAX as usize {
             return Err(FrontFault::NoMemory);
         }
-        let place = match choose(described, args, wants, view.program.edges()) {
+        let place = match choose(described, args, expected.is_result(), view.program.edges()) {
             Choice::One(place) => place as usize,
             Choice::NoneFits => return Err(Rule::NoFeatureFits.at(pos).into()),
             Choice::Several(_, _) => return Err(Rule::SeveralFeaturesFit.at(pos).into()),
         };
         let cand = held(described.get(place))?;
-        if !have_one_context(view, described, cand, args, wants) {
+        if !have_one_context(view, described, cand, args, expected) {
             return Err(Rule::NoTypeFromContext.at(pos).into());
         }
         Ok(*held(self.candidates.get(place))?)
@@ -143,14 +144,14 @@ fn have_one_context(
     described: &[Cand],
     chosen: &Cand,
     args: &[ArgIn],
-    wants: bool,
+    expected: Expected,
 ) -> bool {
     if !args.iter().any(is_contextual) {
         return true;
     }
     let edges = view.program.edges();
     for cand in described {
-        if fits(cand, args, wants, edges) && !is_one_context(cand, chosen, args) {
+        if fits(cand, args, expected.is_result(), edges) && !is_one_context(cand, chosen, args) {
             return false;
         }
     }

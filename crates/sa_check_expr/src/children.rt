@@ -1,16 +1,16 @@
 //! The children of a form, typed from left to right before the form itself.
 //!
-//! `void`, `#(..)` without a type and an array literal are contextual: they take the type that their place wants, which may
+//! `void`, `#(..)` without a type and an array literal are contextual: they take the type that their place expects, which may
 //! be known only once the form around them is chosen. What they hold is typed at its place all the same, and the contextual
 //! form alone waits for its type.
 
 use crate::rows::typed;
 use sa_check_calls::{ReadyArg, ReadyExpr};
-use sa_check_choice::{Built, Place, Variable, View, position, variable_named, written};
+use sa_check_choice::{Built, Expected, Place, Variable, View, position, variable_named, written};
 use sa_tree::{Expr, FrontFault, Given, Mode, Pos, Rule, Ty, held};
 use std::alloc::Global;
 
-/// Types an expression for a place that wants a result, or the children of a contextual one.
+/// Types an expression for a place that expects a result, or the children of a contextual one.
 #[cycle(typed)]
 pub fn ready(
     alloc: Global,
@@ -22,7 +22,7 @@ pub fn ready(
     match e {
         Expr::Void(pos) => Ok(ReadyExpr::Void(*pos)),
         Expr::Create(None, args, pos) => {
-            let args = arguments(alloc, view, place, built, args.as_slice(), false)?;
+            let args = arguments(alloc, view, place, built, args.as_slice(), GivenTo::Call)?;
             Ok(ReadyExpr::Create(args, *pos))
         }
         Expr::Items(items, pos) => {
@@ -30,7 +30,7 @@ pub fn ready(
             Ok(ReadyExpr::Items(items, *pos))
         }
         _ => {
-            let value = typed(alloc, view, place, built, e, true, None)?;
+            let value = typed(alloc, view, place, built, e, Expected::Value)?;
             Ok(ReadyExpr::Typed(value, position(e)))
         }
     }
@@ -52,7 +52,14 @@ pub fn ready_all(
     Ok(all)
 }
 
-/// Types the arguments of a call, or of the head of a bind, from left to right.
+/// What arguments are given to. A bind may leave some of them open.
+#[derive(Clone, Copy, PartialEq, Eq)]
+pub(crate) enum GivenTo {
+    Call,
+    BindHead,
+}
+
+/// Types arguments from left to right.
 #[cycle(typed)]
 pub(crate) fn arguments(
     alloc: Global,
@@ -60,11 +67,11 @@ pub(crate) fn arguments(
     place: &Place,
     built: &mut Built,
     args: &[Given],
-    is_head: bool,
+    given_to: GivenTo,
 ) -> Result<Vec<ReadyArg>, FrontFault> {
     let mut all = Vec::new(alloc);
     for given in args {
-        all.push(argument(alloc, view, place, built, given, is_head)?)?;
+        all.push(argument(alloc, view, place, built, given, given_to)?)?;
     }
     Ok(all)
 }
@@ -81,10 +88,10 @@ fn argument(
     place: &Place,
     built: &mut Built,
     given: &Given,
-    is_head: bool,
+    given_to: GivenTo,
 ) -> Result<ReadyArg, FrontFault> {
     match given {
-        Given::Left(ty, pos) => open_argument(view, ty, *pos, is_head),
+        Given::Left(ty, pos) => open_argument(view, ty, *pos, given_to),
         Given::Value(Mode::In | Mode::Once, e) => {
             let value = ready(alloc, view, place, built, e)?;
             Ok(ReadyArg::Value(value))
@@ -112,9 +119,9 @@ fn open_argument(
     view: &View<'_>,
     ty: &Option<Ty>,
     pos: Pos,
-    is_head: bool,
+    given_to: GivenTo,
 ) -> Result<ReadyArg, FrontFault> {
-    if !is_head {
+    if given_to == GivenTo::Call {
         return Err(Rule::BadBind.at(pos).into());
     }
     match ty {

@@ -2,7 +2,7 @@
 
 use sa_check_calls::{ReadyArg, ReadyExpr, Receiver, call_form, settled};
 use sa_check_choice::{
-    Built, Place, Typed, View, character, exception, int, me, text, truth, written,
+    Built, Expected, Place, Typed, View, character, exception, int, me, text, truth, written,
 };
 use sa_check_forms::{
     binary, bind_form, connected, create, index, is_void, new_array, new_object, unary,
@@ -20,7 +20,7 @@ pub(crate) fn without_inside(
     place: &Place,
     built: &Built,
     e: &Expr,
-    wanted: Option<u32>,
+    expected: Expected,
 ) -> Result<Typed, FrontFault> {
     match e {
         Expr::Int(value, _) => Ok(int(*value)?),
@@ -28,7 +28,7 @@ pub(crate) fn without_inside(
         Expr::Char(value, _) => Ok(character(*value)),
         Expr::Text(value, _) => Ok(text(alloc, value)?),
         Expr::Me(_) => Ok(me(view)),
-        Expr::Void(pos) => settled(alloc, view, built, ReadyExpr::Void(*pos), wanted),
+        Expr::Void(pos) => settled(alloc, view, built, ReadyExpr::Void(*pos), expected),
         Expr::Exception(pos) => exception(place, *pos),
         Expr::New(_, pos) => new_object(view, *pos),
         _ => Err(FrontFault::NoMemory),
@@ -54,16 +54,16 @@ pub(crate) fn array_object(
     new_array(alloc, view, length?, pos)
 }
 
-/// `#(..)` without a type, at the type that its place wants.
+/// `#(..)` without a type, at the type that its place expects.
 pub(crate) fn object_here(
     alloc: Global,
     view: &View<'_>,
     built: &Built,
     args: Inside<Vec<ReadyArg>>,
-    wanted: Option<u32>,
+    expected: Expected,
     pos: Pos,
 ) -> Result<Typed, FrontFault> {
-    settled(alloc, view, built, ReadyExpr::Create(args?, pos), wanted)
+    settled(alloc, view, built, ReadyExpr::Create(args?, pos), expected)
 }
 
 /// `#C(..)`
@@ -75,22 +75,22 @@ pub(crate) fn object_of(
     class: &Ty,
     args: Inside<Vec<ReadyArg>>,
     pos: Pos,
-    wants: bool,
+    expected: Expected,
 ) -> Result<Typed, FrontFault> {
     let class = written(view, class);
-    create(alloc, view, place, built, class, args?, pos, wants)
+    create(alloc, view, place, built, class, args?, pos, expected)
 }
 
-/// An array literal, at the type that its place wants.
+/// An array literal, at the type that its place expects.
 pub(crate) fn array(
     alloc: Global,
     view: &View<'_>,
     built: &Built,
     items: Inside<Vec<ReadyExpr>>,
-    wanted: Option<u32>,
+    expected: Expected,
     pos: Pos,
 ) -> Result<Typed, FrontFault> {
-    settled(alloc, view, built, ReadyExpr::Items(items?, pos), wanted)
+    settled(alloc, view, built, ReadyExpr::Items(items?, pos), expected)
 }
 
 /// A call by name that isn't a variable.
@@ -104,10 +104,10 @@ pub(crate) fn called(
     receiver: Inside<Receiver>,
     args: Inside<Vec<ReadyArg>>,
     pos: Pos,
-    wants: bool,
+    expected: Expected,
 ) -> Result<Typed, FrontFault> {
     call_form(
-        alloc, view, place, built, on, name, receiver?, args?, pos, wants,
+        alloc, view, place, built, on, name, receiver?, args?, pos, expected,
     )
 }
 
@@ -133,9 +133,11 @@ pub(crate) fn operated(
     at: Pos,
     right: Inside<ReadyExpr>,
     pos: Pos,
-    wants: bool,
+    expected: Expected,
 ) -> Result<Typed, FrontFault> {
-    binary(alloc, view, place, built, op, left?, at, right?, pos, wants)
+    binary(
+        alloc, view, place, built, op, left?, at, right?, pos, expected,
+    )
 }
 
 /// `-` and `~` in front of an operand.
@@ -147,9 +149,9 @@ pub(crate) fn signed(
     op: Op,
     of: Inside<Receiver>,
     pos: Pos,
-    wants: bool,
+    expected: Expected,
 ) -> Result<Typed, FrontFault> {
-    unary(alloc, view, place, built, op, of?, pos, wants)
+    unary(alloc, view, place, built, op, of?, pos, expected)
 }
 
 /// `e[..]` and `[..]`
@@ -161,9 +163,9 @@ pub(crate) fn indexed(
     of: Inside<Receiver>,
     places: Inside<Vec<ReadyExpr>>,
     pos: Pos,
-    wants: bool,
+    expected: Expected,
 ) -> Result<Typed, FrontFault> {
-    index(alloc, view, place, built, of?, places?, pos, wants)
+    index(alloc, view, place, built, of?, places?, pos, expected)
 }
 
 /// `bind(..)` of a call by name.

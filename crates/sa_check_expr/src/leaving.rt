@@ -1,6 +1,6 @@
 //! `while!`, `until!` and `break!` as statements.
 
-use crate::children::arguments;
+use crate::children::{GivenTo, arguments};
 use sa_check_calls::{leave_form, leave_of};
 use sa_check_choice::{Built, Place, View};
 use sa_core::ExprCore;
@@ -26,7 +26,7 @@ pub fn leave(
     let Some(number) = leave_of(on, name) else {
         return Ok(None);
     };
-    let args = arguments(alloc, view, place, built, args.as_slice(), false)?;
+    let args = arguments(alloc, view, place, built, args.as_slice(), GivenTo::Call)?;
     let test = leave_form(alloc, view, place, built, number, args, *pos)?;
     Ok(Some((number, test)))
 }

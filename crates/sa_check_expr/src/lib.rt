@@ -13,7 +13,8 @@ pub use leaving::leave;
 pub use part::parts;
 pub use receiver::operand;
 pub use rows::typed;
-pub use sa_check_calls::{ReadyArg, ReadyExpr, Receiver, call, settled};
+pub use sa_check_calls::{ReadyArg, ReadyExpr, Receiver, call, is_iter_name, settled};
 pub use sa_check_choice::{
-    Built, Place, Typed, Variable, View, is_sub, position, variable_named, widened, written,
+    Built, Expected, Place, Typed, Variable, View, is_sub, position, variable_named, widened,
+    written,
 };

@@ -1,10 +1,10 @@
 //! The children of an expression without the expression itself, for a place that its row isn't asked at.
 
-use crate::children::{arguments, ready, ready_all};
+use crate::children::{GivenTo, arguments, ready, ready_all};
 use crate::inside::{both, done};
 use crate::receiver::receiver_of;
 use crate::rows::typed;
-use sa_check_choice::{Built, Place, View};
+use sa_check_choice::{Built, Expected, Place, View};
 use sa_check_program::{BOOL, INT};
 use sa_tree::{Expr, FrontFault, Op};
 use std::alloc::Global;
@@ -29,22 +29,22 @@ pub fn parts(
         Expr::Exception(_) => Ok(()),
         Expr::New(None, _) => Ok(()),
         Expr::New(Some(length), _) => {
-            done(typed(alloc, view, place, built, length.get(), true, Some(INT)))
+            done(typed(alloc, view, place, built, length.get(), Expected::Type(INT)))
         }
         Expr::IsVoid(of, _) => done(ready(alloc, view, place, built, of.get())),
         Expr::Unary(_, of, _) => done(ready(alloc, view, place, built, of.get())),
         Expr::Create(_, args, _) => {
-            done(arguments(alloc, view, place, built, args.as_slice(), false))
+            done(arguments(alloc, view, place, built, args.as_slice(), GivenTo::Call))
         }
         Expr::Items(items, _) => done(ready_all(alloc, view, place, built, items.as_slice())),
         Expr::Call(on, _, args, _) => {
             let on = receiver_of(alloc, view, place, built, on);
-            let args = arguments(alloc, view, place, built, args.as_slice(), false);
+            let args = arguments(alloc, view, place, built, args.as_slice(), GivenTo::Call);
             both(on, args)
         }
         Expr::Binary(Op::And | Op::Or, one, other, _) => {
-            let one = typed(alloc, view, place, built, one.get(), true, Some(BOOL));
-            let other = typed(alloc, view, place, built, other.get(), true, Some(BOOL));
+            let one = typed(alloc, view, place, built, one.get(), Expected::Type(BOOL));
+            let other = typed(alloc, view, place, built, other.get(), Expected::Type(BOOL));
             both(one, other)
         }
         Expr::Binary(_, one, other, _) => {
@@ -76,7 +76,14 @@ fn head_parts(
     match head {
         Expr::Call(on, _, args, _) => {
             let on = receiver_of(alloc, view, place, built, on);
-            let args = arguments(alloc, view, place, built, args.as_slice(), true);
+            let args = arguments(
+                alloc,
+                view,
+                place,
+                built,
+                args.as_slice(),
+                GivenTo::BindHead,
+            );
             both(on, args)
         }
         _ => parts(alloc, view, place, built, head),

@@ -165,7 +165,6 @@ fn bound_value(
         args,
         iter,
         once: _once,
-        fit: _fit,
     } = passed;
     let iter = first_iter(on.iter(), iter);
     let on = Boxed::new(alloc, on.into_core()?)?;
@@ -224,7 +223,7 @@ fn open_params(
 ) -> Result<Items<ModeTy>, NoMemory> {
     let mut open = Items::new(alloc);
     for (arg, param) in args.iter().zip(params) {
-        if matches!(arg, ReadyArg::Left(_)) {
+        if arg.is_left() {
             let ty = param.ty.copy(alloc)?;
             open.push(ModeTy {
                 mode: param.mode,

@@ -1,7 +1,7 @@
 //! New objects, those that a class creates, and the test for void.
 
 use sa_check_calls::{ReadyArg, ReadyExpr, Receiver, call};
-use sa_check_choice::{Built, Place, Typed, View, kind_of, of_type};
+use sa_check_choice::{Built, Expected, Place, Typed, View, kind_of, of_type};
 use sa_check_program::{BOOL, INT};
 use sa_core::ExprCore;
 use sa_tree::{FrontFault, Kind, Pos, Rule, held};
@@ -51,11 +51,13 @@ pub fn create(
     class: Option<u32>,
     args: Vec<ReadyArg>,
     pos: Pos,
-    wants: bool,
+    expected: Expected,
 ) -> Result<Typed, FrontFault> {
     let class = held(class)?;
     let on = Receiver::Class(class);
-    call(alloc, view, place, built, on, b"create", args, pos, wants)
+    call(
+        alloc, view, place, built, on, b"create", args, pos, expected,
+    )
 }
 
 /// `void(e)`: E41 where the expression is contextual.

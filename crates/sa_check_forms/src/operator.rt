@@ -6,7 +6,7 @@
 
 use crate::swapped::swapped;
 use sa_check_calls::{ReadyArg, ReadyExpr, Receiver, call};
-use sa_check_choice::{Built, Place, Typed, View, first_iter, kind_of};
+use sa_check_choice::{Built, Expected, Place, Typed, View, first_iter, kind_of};
 use sa_check_program::BOOL;
 use sa_core::ExprCore;
 use sa_tree::{FrontFault, Kind, NoMemory, Op, Pos, Rule};
@@ -69,7 +69,7 @@ pub fn unary(
     op: Op,
     of: Receiver,
     pos: Pos,
-    wants: bool,
+    expected: Expected,
 ) -> Result<Typed, FrontFault> {
     let none = Vec::new(alloc);
     call(
@@ -81,7 +81,7 @@ pub fn unary(
         called_name(op),
         none,
         pos,
-        wants,
+        expected,
     )
 }
 
@@ -94,10 +94,10 @@ pub fn index(
     of: Receiver,
     places: Vec<ReadyExpr>,
     pos: Pos,
-    wants: bool,
+    expected: Expected,
 ) -> Result<Typed, FrontFault> {
     let args = values(alloc, places)?;
-    call(alloc, view, place, built, of, b"aget", args, pos, wants)
+    call(alloc, view, place, built, of, b"aget", args, pos, expected)
 }
 
 /// Arguments that are values.
@@ -121,18 +121,18 @@ pub fn binary(
     at: Pos,
     other: ReadyExpr,
     pos: Pos,
-    wants: bool,
+    expected: Expected,
 ) -> Result<Typed, FrontFault> {
     let of = one.ty(view, pos)?;
     let name = called_name(op);
     if !is_derived(op) || has_feature(view, of, name) {
-        return called(alloc, view, place, built, one, name, other, pos, wants);
+        return called(alloc, view, place, built, one, name, other, pos, expected);
     }
     if op == Op::Gt {
-        return swapped(alloc, view, built, one, at, other, pos, wants);
+        return swapped(alloc, view, built, one, at, other, pos, expected);
     }
     let opposite = opposite(alloc, view, place, built, op, one, at, other, pos)?;
-    negated(alloc, view, place, built, opposite, pos, wants)
+    negated(alloc, view, place, built, opposite, pos, expected)
 }
 
 /// The comparison whose opposite `<=`, `>=` or `/=` means.
@@ -148,9 +148,29 @@ fn opposite(
     pos: Pos,
 ) -> Result<Typed, FrontFault> {
     match op {
-        Op::Leq => swapped(alloc, view, built, one, at, other, pos, true),
-        Op::Geq => called(alloc, view, place, built, one, b"is_lt", other, pos, true),
-        _ => called(alloc, view, place, built, one, b"is_eq", other, pos, true),
+        Op::Leq => swapped(alloc, view, built, one, at, other, pos, Expected::Value),
+        Op::Geq => called(
+            alloc,
+            view,
+            place,
+            built,
+            one,
+            b"is_lt",
+            other,
+            pos,
+            Expected::Value,
+        ),
+        _ => called(
+            alloc,
+            view,
+            place,
+            built,
+            one,
+            b"is_eq",
+            other,
+            pos,
+            Expected::Value,
+        ),
     }
 }
 
@@ -177,11 +197,11 @@ fn called(
     name: &[u8],
     arg: ReadyExpr,
     pos: Pos,
-    wants: bool,
+    expected: Expected,
 ) -> Result<Typed, FrontFault> {
     let mut args = Vec::new(alloc);
     args.push(ReadyArg::Value(arg))?;
-    call(alloc, view, place, built, on, name, args, pos, wants)
+    call(alloc, view, place, built, on, name, args, pos, expected)
 }
 
 /// The call of `not` on a comparison: E33 unless this gives BOOL.
@@ -192,7 +212,7 @@ fn negated(
     built: &mut Built,
     compared: Typed,
     pos: Pos,
-    wants: bool,
+    expected: Expected,
 ) -> Result<Typed, FrontFault> {
     if compared.ty != Some(BOOL) {
         return Err(Rule::WrongType.at(pos).into());
@@ -209,6 +229,6 @@ fn negated(
         called_name(Op::Not),
         none,
         pos,
-        wants,
+        expected,
     )
 }

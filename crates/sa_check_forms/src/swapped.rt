@@ -1,7 +1,9 @@
 //! Comparisons that are called on their second operand.
 
 use sa_check_calls::{ReadyExpr, Receiver};
-use sa_check_choice::{Built, Typed, View, chosen, first_iter, kind_of, type_of, widened};
+use sa_check_choice::{
+    Built, Expected, Typed, View, chosen, first_iter, kind_of, type_of, widened,
+};
 use sa_check_program::BOOL;
 use sa_core::{CalledCore, ExprCore, Target};
 use sa_overload::ArgIn;
@@ -24,12 +26,9 @@ pub(crate) fn swapped(
     at: Pos,
     other: ReadyExpr,
     pos: Pos,
-    wants: bool,
+    expected: Expected,
 ) -> Result<Typed, FrontFault> {
-    let less = less_of(alloc, view, built, &one, &other, wants, pos)?;
-    if !less.gives_bool {
-        return Err(Rule::WrongType.at(pos).into());
-    }
+    let less = less_of(alloc, view, built, &one, &other, expected, pos)?;
     Ok(call_of(alloc, view, less, one, at, other, pos)?)
 }
 
@@ -40,7 +39,7 @@ fn less_of(
     built: &Built,
     one: &Receiver,
     other: &ReadyExpr,
-    wants: bool,
+    expected: Expected,
     pos: Pos,
 ) -> Result<Comparison, FrontFault> {
     let Receiver::Value(one, _) = one else {
@@ -55,7 +54,7 @@ fn less_of(
         built,
         held(other.ty)?,
         held(one.ty)?,
-        wants,
+        expected,
         pos,
     )
 }
@@ -100,33 +99,34 @@ struct Comparison {
     from: u32,
     /// The number of its parameter's type.
     param: u32,
-    gives_bool: bool,
 }
 
-/// The `is_lt` that is chosen on a type for an argument of another one.
+/// The `is_lt` that is chosen on a type for an argument of another one: E33 unless it gives BOOL.
 fn less(
     alloc: Global,
     view: &View<'_>,
     built: &Built,
     of: u32,
     from: u32,
-    wants: bool,
+    expected: Expected,
     pos: Pos,
 ) -> Result<Comparison, FrontFault> {
     if kind_of(view, of) == Kind::Abstract {
         return Err(none_on_abstract(view, of).at(pos).into());
     }
     let arg = argument(alloc, view, built, from)?;
-    let less = chosen(alloc, view, of, IS_LT, &[arg], wants, pos)?;
+    let less = chosen(alloc, view, of, IS_LT, &[arg], expected, pos)?;
     let Some(CalledCore::Static(target, _)) = less.reached.called() else {
         return Err(FrontFault::NoMemory);
     };
+    if less.result != Some(BOOL) {
+        return Err(Rule::WrongType.at(pos).into());
+    }
     let param = held(less.params.get(0))?;
     Ok(Comparison {
         target,
         from,
         param: param.ty,
-        gives_bool: less.result == Some(BOOL),
     })
 }
 

@@ -4,8 +4,8 @@ use crate::draft::Draft;
 use crate::leave::{leave_assigned, leave_of};
 use crate::value::fitting;
 use sa_check_expr::{
-    Built, ReadyArg, ReadyExpr, Receiver, Variable, View, call, operand, position, ready, typed,
-    variable_named, written,
+    Built, Expected, ReadyArg, ReadyExpr, Receiver, Variable, View, call, operand, position, ready,
+    typed, variable_named, written,
 };
 use sa_core::StmtCore;
 use sa_tree::{Expr, FrontFault, Kind, Name, Part, Pos, Recv, Rule, held};
@@ -118,7 +118,7 @@ fn assign_variable(
     pos: Pos,
 ) -> Result<StmtCore, FrontFault> {
     let ty = variable.ty;
-    let made = typed(alloc, view, &draft.place, built, value, true, Some(ty))?;
+    let made = typed(alloc, view, &draft.place, built, value, Expected::Type(ty))?;
     if variable.narrowed {
         return Err(Rule::TypecaseVariable.at(pos).into());
     }
@@ -145,7 +145,17 @@ fn assign_feature(
     let mut args = Vec::new(alloc);
     args.push(ReadyArg::Value(made))?;
     let name = name.as_slice();
-    let done = call(alloc, view, &draft.place, built, on, name, args, pos, false)?;
+    let done = call(
+        alloc,
+        view,
+        &draft.place,
+        built,
+        on,
+        name,
+        args,
+        pos,
+        Expected::Nothing,
+    )?;
     Ok(StmtCore::Do(done.core))
 }
 
@@ -167,7 +177,17 @@ fn assign_changed(
     let mut args = Vec::new(alloc);
     args.push(ReadyArg::Value(value))?;
     let name = name.as_slice();
-    let made = call(alloc, view, &draft.place, built, on, name, args, pos, true)?;
+    let made = call(
+        alloc,
+        view,
+        &draft.place,
+        built,
+        on,
+        name,
+        args,
+        pos,
+        Expected::Value,
+    )?;
     if variable.narrowed {
         return Err(Rule::TypecaseVariable.at(pos).into());
     }
@@ -243,7 +263,7 @@ fn assign_element(
         b"aset",
         args,
         pos,
-        false,
+        Expected::Nothing,
     )?;
     Ok(StmtCore::Do(done.core))
 }

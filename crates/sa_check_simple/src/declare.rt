@@ -3,7 +3,7 @@
 use crate::copy::copy;
 use crate::draft::Draft;
 use crate::value::{fitting, untyped_value};
-use sa_check_expr::{Built, View, position, typed, written};
+use sa_check_expr::{Built, Expected, View, position, typed, written};
 use sa_core::{ExprCore, StmtCore, expr_nodes};
 use sa_tree::{Expr, FrontFault, Local, NoMemory, Pos, Ty, held};
 use sqlite_items::Items;
@@ -67,7 +67,7 @@ fn declare_typed(
     cores: &mut Items<StmtCore>,
 ) -> Result<(), FrontFault> {
     let ty = held(written(view, ty))?;
-    let value = typed(alloc, view, &draft.place, built, e, true, Some(ty))?;
+    let value = typed(alloc, view, &draft.place, built, e, Expected::Type(ty))?;
     let numbers = declare_names(alloc, draft, names, ty)?;
     let core = fitting(alloc, view, built, value, ty, position(e), form)?;
     let_each(alloc, draft, numbers, core, cores)

@@ -1,9 +1,9 @@
 //! `return` and `yield`, which give a value back.
 
-use crate::draft::Draft;
+use crate::draft::{Draft, FeatureKind};
 use crate::leave::in_iter;
 use crate::value::fitting;
-use sa_check_expr::{Built, Typed, View, position, ready, typed};
+use sa_check_expr::{Built, Expected, Typed, View, position, ready, typed};
 use sa_core::{ExprCore, StmtCore};
 use sa_tree::{Expr, FrontFault, Pos, Rule};
 use std::alloc::Global;
@@ -50,7 +50,7 @@ pub(crate) fn yield_value(
 
 /// Whether a form may stand here that a routine alone has.
 fn in_routine(draft: &Draft, pos: Pos) -> Result<(), FrontFault> {
-    if draft.iter {
+    if draft.kind == FeatureKind::Iter {
         return Err(Rule::OutOfPlace.at(pos).into());
     }
     Ok(())
@@ -64,8 +64,8 @@ fn gives_none(draft: &Draft, pos: Pos) -> Result<(), FrontFault> {
     Ok(())
 }
 
-/// The expression that is given back, whose place wants the type of the feature's result. Where the feature has none, it
-/// wants no type, and what is typed isn't kept: the form is refused after it.
+/// The expression that is given back, whose place expects the type of the feature's result. Where the feature has none, it
+/// expects no type, and what is typed isn't kept: the form is refused after it.
 fn result_value(
     alloc: Global,
     view: &View<'_>,
@@ -73,11 +73,11 @@ fn result_value(
     built: &mut Built,
     e: &Expr,
 ) -> Result<Option<Typed>, FrontFault> {
-    if draft.result.is_none() {
+    let Some(ty) = draft.result else {
         let _e = ready(alloc, view, &draft.place, built, e)?;
         return Ok(None);
-    }
-    let made = typed(alloc, view, &draft.place, built, e, true, draft.result)?;
+    };
+    let made = typed(alloc, view, &draft.place, built, e, Expected::Type(ty))?;
     Ok(Some(made))
 }
 

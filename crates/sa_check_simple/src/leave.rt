@@ -1,8 +1,10 @@
 //! Statements that leave or stop: `quit`, `raise`, `assert`, `while! := b`, and an expression as a statement.
 
-use crate::draft::Draft;
+use crate::draft::{Draft, FeatureKind};
 use crate::value::{entry, test, untyped_value};
-use sa_check_expr::{Built, View, leave, parts, position, ready, settled, typed, widened};
+use sa_check_expr::{
+    Built, Expected, View, leave, parts, position, ready, settled, typed, widened,
+};
 use sa_check_program::{BOOL, OB};
 use sa_core::{ExprCore, StmtCore};
 use sa_tree::{Expr, FaultKind, FrontFault, Name, Op, Pos, Recv, Rule, held};
@@ -20,7 +22,7 @@ pub(crate) fn quit(draft: &Draft, pos: Pos) -> Result<StmtCore, FrontFault> {
 
 /// Whether a form may stand here that an iter alone has, and no protect.
 pub(crate) fn in_iter(draft: &Draft, pos: Pos) -> Result<(), FrontFault> {
-    if !draft.iter {
+    if draft.kind == FeatureKind::Routine {
         return Err(Rule::OutOfPlace.at(pos).into());
     }
     if draft.place.guard > 0 {
@@ -53,11 +55,11 @@ pub(crate) fn assert_true(
     e: &Expr,
     pos: Pos,
 ) -> Result<StmtCore, FrontFault> {
-    let (core, is_bool) = test(alloc, view, &draft.place, built, e)?;
-    if !is_bool {
+    let test = test(alloc, view, &draft.place, built, e)?;
+    if test.ty != Some(BOOL) {
         return Err(Rule::WrongType.at(pos).into());
     }
-    asserted(alloc, core, pos)
+    asserted(alloc, test.core, pos)
 }
 
 /// Nothing where a test is true, and else a stop.
@@ -84,7 +86,7 @@ pub(crate) fn expression(
         parts(alloc, view, &draft.place, built, e)?;
         return Err(Rule::WrongType.at(position(e)).into());
     }
-    let made = typed(alloc, view, &draft.place, built, e, false, None)?;
+    let made = typed(alloc, view, &draft.place, built, e, Expected::Nothing)?;
     Ok(StmtCore::Do(made.core))
 }
 
@@ -123,7 +125,7 @@ pub(crate) fn leave_assigned(
 ) -> Result<StmtCore, FrontFault> {
     let value = ready(alloc, view, &draft.place, built, value)?;
     can_leave(draft, number, pos)?;
-    let test = settled(alloc, view, built, value, Some(BOOL))?;
+    let test = settled(alloc, view, built, value, Expected::Type(BOOL))?;
     if test.ty != Some(BOOL) {
         return Err(Rule::WrongType.at(pos).into());
     }

@@ -1,13 +1,15 @@
-//! The expressions of a statement: those that want a type, and those that go to one.
+//! The expressions of a statement: those that expect a type, and those that go to one.
 
-use sa_check_expr::{Built, Place, ReadyExpr, Typed, View, is_sub, ready, typed, widened};
+use sa_check_expr::{
+    Built, Expected, Place, ReadyExpr, Typed, View, is_sub, ready, typed, widened,
+};
 use sa_check_program::BOOL;
 use sa_core::{ExprCore, StmtCore, TestCore};
 use sa_tree::{Expr, FrontFault, NoMemory, Pos, Rule, held};
 use sqlite_items::Items;
 use std::alloc::Global;
 
-/// An expression whose place wants a result and no type. A contextual one is refused, as the form at a position, once the
+/// An expression whose place expects a result and no type. A contextual one is refused, as the form at a position, once the
 /// expressions in it are typed.
 pub(crate) fn untyped_value(
     alloc: Global,
@@ -32,7 +34,7 @@ pub fn with_type(value: ReadyExpr, form: Pos) -> Result<Typed, FrontFault> {
     }
 }
 
-/// A test, and whether it is a BOOL.
+/// A test, whose place expects a BOOL.
 ///
 /// # Errors
 ///
@@ -43,12 +45,11 @@ pub fn test(
     place: &Place,
     built: &mut Built,
     e: &Expr,
-) -> Result<(ExprCore, bool), FrontFault> {
-    let test = typed(alloc, view, place, built, e, true, Some(BOOL))?;
-    Ok((test.core, test.ty == Some(BOOL)))
+) -> Result<Typed, FrontFault> {
+    typed(alloc, view, place, built, e, Expected::Type(BOOL))
 }
 
-/// The value of an expression, which stands at a position, where a type is wanted.
+/// The value of an expression, which stands at a position, where a type is expected.
 ///
 /// # Errors
 ///

@@ -1,7 +1,9 @@
 //! `case`: the value is evaluated once, into a variable without a name, and compared by `is_eq` in order.
 
 use crate::statement::statements;
-use sa_check_expr::{Built, ReadyArg, ReadyExpr, Receiver, Typed, View, call, ready, ready_all};
+use sa_check_expr::{
+    Built, Expected, ReadyArg, ReadyExpr, Receiver, Typed, View, call, ready, ready_all,
+};
 use sa_check_program::{BOOL, OB};
 use sa_check_simple::{Draft, with_type};
 use sa_core::{ExprCore, StmtCore, TestCore};
@@ -187,7 +189,7 @@ fn comparison(
         b"is_eq",
         args,
         pos,
-        true,
+        Expected::Value,
     )?;
     if test.ty != Some(BOOL) {
         return Err(Rule::WrongType.at(pos).into());

@@ -1,8 +1,8 @@
 //! Features: a routine or an iter with its body, and a shared with its initialiser.
 
 use crate::statement::statements;
-use sa_check_expr::{Built, View, position, typed, written};
-use sa_check_simple::{Draft, fitting};
+use sa_check_expr::{Built, Expected, Place, View, position, typed, written};
+use sa_check_simple::{Draft, FeatureKind, fitting};
 use sa_core::{ExprCore, FeatureCore, SharedCore, StmtCore};
 use sa_tree::{Expr, FaultKind, Feature, Formal, FrontFault, Mode, Part, Pos, Rule, Stmt, held};
 use sqlite_items::Items;
@@ -27,14 +27,14 @@ pub fn body(
     built: &mut Built,
     f: &Feature,
 ) -> Result<FeatureCore, FrontFault> {
-    let iter = f.name.name.as_slice().ends_with(b"!");
-    let mut draft = Draft::new(alloc, iter, result_of(view, f)?);
+    let kind = FeatureKind::of_name(&f.name.name);
+    let mut draft = Draft::new(alloc, kind, result_of(view, f)?);
     let modes = formals(alloc, view, &mut draft, f.formals.as_slice())?;
     let body = whole_body(alloc, view, &mut draft, built, f)?;
     within_limits(&draft, modes.as_slice(), f.name.pos)?;
     Ok(FeatureCore {
         class: view.class,
-        iter,
+        iter: kind == FeatureKind::Iter,
         modes,
         vars: draft.vars,
         result: draft.result,
@@ -53,7 +53,7 @@ fn whole_body(
     f: &Feature,
 ) -> Result<Items<StmtCore>, FrontFault> {
     let mut body = statements(alloc, view, draft, built, body_of(f))?;
-    if draft.result.is_some() && !draft.iter {
+    if draft.result.is_some() && draft.kind == FeatureKind::Routine {
         body.push(StmtCore::Stop(FaultKind::NoReturn.number(), f.name.pos))?;
     }
     Ok(body)
@@ -91,7 +91,7 @@ fn start(
     }
 }
 
-/// An initialiser, whose place wants the type of the shared.
+/// An initialiser, whose place expects the type of the shared.
 fn initialiser(
     alloc: Global,
     view: &View<'_>,
@@ -100,8 +100,8 @@ fn initialiser(
     e: &Expr,
     name: Pos,
 ) -> Result<ExprCore, FrontFault> {
-    let outside = Draft::new(alloc, false, None);
-    let value = typed(alloc, view, &outside.place, built, e, true, Some(ty))?;
+    let outside = Place::new(alloc);
+    let value = typed(alloc, view, &outside, built, e, Expected::Type(ty))?;
     fitting(alloc, view, built, value, ty, position(e), name)
 }
 
