@@ -4,7 +4,7 @@
 use indexmap::IndexMap;
 use sa_check_program::Program;
 use sa_subtypes::Edges;
-use sa_tree::{Kind, Mode, ModeTy, NoMemory, Ty, held};
+use sa_tree::{Mode, ModeTy, NoMemory, Ty, held};
 use sqlite_items::{Boxed, Items};
 use std::alloc::{AllocError, Global};
 
@@ -26,7 +26,7 @@ pub(crate) fn class_types_above(
 pub(crate) fn abstract_types(alloc: Global, program: &Program<'_>) -> Result<Vec<u32>, NoMemory> {
     let mut numbers = Vec::new(alloc);
     for ty in 0..program.count() {
-        if matches!(program.kind(ty), Some(Kind::Abstract)) {
+        if program.is_abstract(ty) {
             numbers.push(ty)?;
         }
     }

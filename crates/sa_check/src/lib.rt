@@ -4,7 +4,6 @@
 mod above;
 mod limits;
 mod sigs;
-mod target;
 mod types;
 mod typing;
 mod whole;

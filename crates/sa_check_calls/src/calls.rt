@@ -2,7 +2,7 @@
 
 use crate::constant::constant;
 use crate::iter::{innermost_loop, is_iter_name, iter_call};
-use crate::leaving::leave_of;
+use crate::leaving::LoopExit;
 use crate::passing::{PassedArgs, passed, seen_arguments};
 use crate::ready::ReadyArg;
 use crate::receiver::Receiver;
@@ -29,7 +29,7 @@ pub fn call_form(
     pos: Pos,
     expected: Expected,
 ) -> Result<Typed, FrontFault> {
-    if leave_of(on, name).is_some() {
+    if LoopExit::of_call(on, name).is_some() {
         innermost_loop(place, pos)?;
         return Err(Rule::NoFeatureFits.at(pos).into());
     }

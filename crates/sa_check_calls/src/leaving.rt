@@ -5,35 +5,49 @@ use crate::ready::ReadyArg;
 use crate::settle::settled;
 use sa_check_choice::{Built, Expected, Place, View};
 use sa_check_program::BOOL;
-use sa_core::ExprCore;
+use sa_core::{ExprCore, StmtCore};
 use sa_tree::{FrontFault, Name, Pos, Recv, Rule};
 use std::alloc::Global;
 
-/// The number of `break!`.
-const BREAK: u8 = 0;
+/// What leaves the innermost loop.
+#[derive(Clone, Copy, Debug, PartialEq, Eq)]
+pub enum LoopExit {
+    Break,
+    While,
+    Until,
+}
 
-/// The number of `while!`.
-const WHILE: u8 = 1;
-
-/// The number of `until!`.
-const UNTIL: u8 = 2;
-
-/// The number of a call that leaves a loop, if the call is one, made on nothing that is written: 0 of `break!`, 1 of
-/// `while!` and 2 of `until!`.
-pub fn leave_of(on: &Recv, name: &Name) -> Option<u8> {
-    if !matches!(on, Recv::Implied) {
-        return None;
+impl LoopExit {
+    /// What a call does that is made on nothing that is written, by its name, if it leaves a loop.
+    pub fn of_name(name: &Name) -> Option<LoopExit> {
+        match name.as_slice() {
+            b"break!" => Some(LoopExit::Break),
+            b"while!" => Some(LoopExit::While),
+            b"until!" => Some(LoopExit::Until),
+            _ => None,
+        }
     }
-    match name.as_slice() {
-        b"break!" => Some(BREAK),
-        b"while!" => Some(WHILE),
-        b"until!" => Some(UNTIL),
-        _ => None,
+
+    /// What a call does, by what it is made on and its name, if it leaves a loop.
+    pub fn of_call(on: &Recv, name: &Name) -> Option<LoopExit> {
+        match on {
+            Recv::Implied => LoopExit::of_name(name),
+            Recv::Of(_) | Recv::OfClass(_) => None,
+        }
+    }
+
+    /// Its number in the typed tree.
+    fn number(self) -> u8 {
+        match self {
+            LoopExit::Break => 0,
+            LoopExit::While => 1,
+            LoopExit::Until => 2,
+        }
     }
 }
 
-/// What leaves the innermost loop, as a statement, by its number, with its arguments typed: the test of `while!` and
-/// `until!`. It is refused at its name:
+/// The statement that leaves the innermost loop, with its arguments typed: the test of `while!` and `until!`. It is refused
+/// at `pos`:
 ///
 /// - E35, E38: it stands outside a loop, or a protect stands between it and its loop.
 /// - E31: `break!` has an argument, or another one hasn't exactly one.
@@ -43,19 +57,22 @@ pub fn leave_form(
     view: &View<'_>,
     place: &Place,
     built: &Built,
-    number: u8,
+    exit: LoopExit,
     args: Vec<ReadyArg>,
     pos: Pos,
-) -> Result<Option<ExprCore>, FrontFault> {
+) -> Result<StmtCore, FrontFault> {
     innermost_loop(place, pos)?;
     let mut args = args;
     let only = args.pop();
-    if !args.is_empty() || only.is_none() != (number == BREAK) {
+    if !args.is_empty() || only.is_none() != (exit == LoopExit::Break) {
         return Err(Rule::NoFeatureFits.at(pos).into());
     }
     match only {
-        None => Ok(None),
-        Some(arg) => Ok(Some(test(alloc, view, built, arg, pos)?)),
+        None => Ok(StmtCore::Leave(exit.number(), None)),
+        Some(arg) => {
+            let test = test(alloc, view, built, arg, pos)?;
+            Ok(StmtCore::Leave(exit.number(), Some(test)))
+        }
     }
 }
 

@@ -12,8 +12,8 @@ mod settle;
 
 pub use calls::{call, call_form};
 pub use iter::is_iter_name;
-pub use leaving::{leave_form, leave_of};
+pub use leaving::{LoopExit, leave_form};
 pub use passing::{PassedArgs, passed, seen_arguments};
-pub use ready::{ReadyArg, ReadyExpr};
+pub use ready::{ReadyArg, ReadyExpr, only_argument};
 pub use receiver::Receiver;
 pub use settle::settled;

@@ -7,6 +7,7 @@
 use sa_check_choice::{Typed, Variable};
 use sa_core::ExprCore;
 use sa_tree::{Mode, NoMemory, Pos};
+use std::alloc::Global;
 
 /// An expression whose children are typed.
 #[cycle(ready)]
@@ -79,4 +80,11 @@ impl ReadyExpr {
     pub(crate) fn is_typed(&self) -> bool {
         matches!(self, ReadyExpr::Typed(_, _))
     }
+}
+
+/// A value as the only argument of a call. It fails only where memory runs out.
+pub fn only_argument(alloc: Global, value: ReadyExpr) -> Result<Vec<ReadyArg>, NoMemory> {
+    let mut args = Vec::new(alloc);
+    args.push(ReadyArg::Value(value))?;
+    Ok(args)
 }

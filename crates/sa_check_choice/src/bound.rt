@@ -29,7 +29,7 @@ pub fn bound_callee(
     pos: Pos,
     expected: Expected,
 ) -> Result<ChosenFeature, FrontFault> {
-    let described = description(alloc, held(type_of(view, built, of))?)?;
+    let described = described_type(alloc, held(type_of(view, built, of))?)?;
     if !fits(&described, seen, expected.is_result(), view.program.edges()) {
         return Err(Rule::NoFeatureFits.at(pos).into());
     }
@@ -41,7 +41,7 @@ pub fn bound_callee(
 }
 
 /// A bound type as the choice sees it.
-fn description(alloc: Global, ty: &Ty) -> Result<Cand, NoMemory> {
+fn described_type(alloc: Global, ty: &Ty) -> Result<Cand, NoMemory> {
     match ty {
         Ty::Rout(args, gives, _) | Ty::Iter(args, gives, _) => Ok(Cand {
             args: copied_args(alloc, args.as_slice())?,

@@ -2,7 +2,7 @@
 
 use crate::view::View;
 use sa_overload::Cand;
-use sa_tree::{FrontFault, Kind, NoMemory, Pos, Rule, held};
+use sa_tree::{FrontFault, NoMemory, Pos, Rule, held};
 use sa_types::Sig;
 use sqlite_items::Items;
 use std::alloc::Global;
@@ -27,7 +27,7 @@ pub(crate) fn candidates(
     name: &[u8],
     pos: Pos,
 ) -> Result<Items<Candidate>, FrontFault> {
-    if matches!(view.program.kind(of), Some(Kind::Abstract)) {
+    if view.program.is_abstract(of) {
         return signatures(alloc, view, view.signatures.named(of, name), pos);
     }
     features(alloc, view, of, view.program.named(of, name), pos)
@@ -66,7 +66,7 @@ fn features(
     if places.is_empty() {
         return Err(Rule::UnknownName.at(pos).into());
     }
-    let is_own = is_own_class(view, of);
+    let is_own = view.program.is_same_class(view.class, of);
     let mut found = Items::new(alloc);
     for place in places {
         let member = held(view.program.member(of, *place))?;
@@ -82,14 +82,6 @@ fn features(
         return Err(Rule::PrivateFeature.at(pos).into());
     }
     Ok(found)
-}
-
-/// Whether a type is an instance of the class whose code is typed, whatever its parameters are.
-fn is_own_class(view: &View<'_>, of: u32) -> bool {
-    match (view.program.class(view.class), view.program.class(of)) {
-        (Some(own), Some(class)) => own.name.name == class.name.name,
-        _ => false,
-    }
 }
 
 /// The candidates as the choice sees them.

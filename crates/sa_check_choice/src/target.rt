@@ -1,12 +1,12 @@
-//! What a chosen feature or signature is when the program runs.
+//! What a feature or a signature is when the program runs.
 
 use crate::candidates::Candidate;
 use crate::constant::constant_value;
 use crate::view::View;
-use sa_check_program::{Member, Side};
+use sa_check_program::{Program, Side};
 use sa_core::{CalledCore, ExprCore, Target};
 use sa_prelude::builtin;
-use sa_tree::{Feature, NoMemory, Part, held};
+use sa_tree::{NoMemory, Part, held};
 use std::alloc::Global;
 
 /// What a call reaches.
@@ -47,31 +47,27 @@ fn feature_reached(
     of: u32,
     member: u32,
 ) -> Result<Reached, NoMemory> {
-    let member = held(view.program.member(of, member))?;
-    let class = held(view.program.class(of))?;
-    let feature = held(class.features.get(member.feature as usize))?;
-    if matches!(feature.part, Part::Const(_, _)) {
-        let value = held(view.consts.value(of, member.feature))?;
+    let feature = held(view.program.member(of, member))?.feature;
+    if let Some(value) = view.consts.value(of, feature) {
         return Ok(Reached::Value(constant_value(alloc, value)?));
     }
-    let target = held(target(view, of, member, feature))?;
+    let target = held(member_target(view.program, of, member))?;
     Ok(Reached::Called(CalledCore::Static(target, of)))
 }
 
-/// What a feature of a concrete type is, which is no const.
-fn target(view: &View<'_>, of: u32, member: &Member, feature: &Feature) -> Option<Target> {
+/// What a member of a concrete type is when the program runs, by its place. A const is nothing that can be called.
+pub fn member_target(program: &Program<'_>, ty: u32, place: u32) -> Option<Target> {
+    let member = program.member(ty, place)?;
+    let feature = program.feature(ty, member.feature)?;
     match &feature.part {
-        Part::Routine(_) => {
-            let number = view.program.body_number(of, member.feature)?;
-            Some(Target::Feature(number))
-        }
+        Part::Routine(_) => Some(Target::Feature(program.body_number(ty, member.feature)?)),
         Part::Builtin(class, name) => {
             let args = u32::try_from(feature.formals.len()).ok()?;
             let found = builtin(class.as_slice(), name.as_slice(), args)?;
             Some(Target::Builtin(found.number))
         }
-        Part::Attr => attribute(member.side, view.program.slot_of(of, member.feature)?),
-        Part::Shared(_) => shared(member.side, view.program.shared_number(of, member.feature)?),
+        Part::Attr => attribute(member.side, program.slot_of(ty, member.feature)?),
+        Part::Shared(_) => shared(member.side, program.shared_number(ty, member.feature)?),
         Part::Const(_, _) | Part::Signature | Part::Stub => None,
     }
 }

@@ -97,10 +97,7 @@ fn refusal(program: &Program<'_>, places: &Places, place: usize) -> FrontFault {
     let Some(((class, feature), _)) = places.get_index(place) else {
         return FrontFault::NoMemory;
     };
-    let Some(class) = program.class(*class) else {
-        return FrontFault::NoMemory;
-    };
-    match class.features.get(*feature as usize) {
+    match program.feature(*class, *feature) {
         None => FrontFault::NoMemory,
         Some(feature) => Rule::NotConstant.at(feature.name.pos).into(),
     }

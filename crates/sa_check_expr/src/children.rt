@@ -1,8 +1,5 @@
-//! The children of a form, typed from left to right before the form itself.
-//!
-//! `void`, `#(..)` without a type and an array literal are contextual: they take the type that their place expects, which may
-//! be known only once the form around them is chosen. What they hold is typed at its place all the same, and the contextual
-//! form alone waits for its type.
+//! The children of a form, typed from left to right before the form itself. Of a contextual form only the children are typed
+//! here: it waits for the type that its place expects (`ReadyExpr`).
 
 use crate::rows::typed;
 use sa_check_calls::{ReadyArg, ReadyExpr};

@@ -13,7 +13,9 @@ pub use leaving::leave;
 pub use part::parts;
 pub use receiver::operand;
 pub use rows::typed;
-pub use sa_check_calls::{ReadyArg, ReadyExpr, Receiver, call, is_iter_name, settled};
+pub use sa_check_calls::{
+    LoopExit, ReadyArg, ReadyExpr, Receiver, call, is_iter_name, leave_form, only_argument,
+};
 pub use sa_check_choice::{
     Built, Expected, Place, Typed, Variable, View, is_sub, position, variable_named, widened,
     written,

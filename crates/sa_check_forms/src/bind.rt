@@ -1,7 +1,7 @@
 //! Binds: a call some of whose arguments are given later.
 
 use sa_check_calls::{
-    PassedArgs, ReadyArg, Receiver, is_iter_name, leave_of, passed, seen_arguments,
+    LoopExit, PassedArgs, ReadyArg, Receiver, is_iter_name, passed, seen_arguments,
 };
 use sa_check_choice::{
     Built, Candidate, Place, Typed, View, bound_candidate, described_choice, description,
@@ -52,7 +52,7 @@ fn is_bindable(place: &Place, head: &Expr) -> bool {
         return false;
     };
     variable_named(place, head).is_none()
-        && leave_of(on, name).is_none()
+        && LoopExit::of_call(on, name).is_none()
         && !matches!(name.as_slice(), b"call" | b"call!")
 }
 

@@ -5,11 +5,11 @@
 //! `~(a < b)` and `a /= b` means `~(a = b)`. Operands are evaluated from left to right all the same.
 
 use crate::swapped::swapped;
-use sa_check_calls::{ReadyArg, ReadyExpr, Receiver, call};
-use sa_check_choice::{Built, Expected, Place, Typed, View, first_iter, kind_of};
+use sa_check_calls::{ReadyArg, ReadyExpr, Receiver, call, only_argument};
+use sa_check_choice::{Built, Expected, Place, Typed, View, first_iter};
 use sa_check_program::BOOL;
 use sa_core::ExprCore;
-use sa_tree::{FrontFault, Kind, NoMemory, Op, Pos, Rule};
+use sa_tree::{FrontFault, NoMemory, Op, Pos, Rule};
 use sqlite_items::Boxed;
 use std::alloc::Global;
 
@@ -181,7 +181,7 @@ fn is_derived(op: Op) -> bool {
 
 /// Whether the class of a type has a feature or a signature with a name, seen or not.
 fn has_feature(view: &View<'_>, of: u32, name: &[u8]) -> bool {
-    if kind_of(view, of) == Kind::Abstract {
+    if view.program.is_abstract(of) {
         return !view.signatures.named(of, name).is_empty();
     }
     !view.program.named(of, name).is_empty()
@@ -199,8 +199,7 @@ fn called(
     pos: Pos,
     expected: Expected,
 ) -> Result<Typed, FrontFault> {
-    let mut args = Vec::new(alloc);
-    args.push(ReadyArg::Value(arg))?;
+    let args = only_argument(alloc, arg)?;
     call(alloc, view, place, built, on, name, args, pos, expected)
 }
 

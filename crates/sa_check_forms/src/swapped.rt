@@ -1,13 +1,11 @@
 //! Comparisons that are called on their second operand.
 
 use sa_check_calls::{ReadyExpr, Receiver};
-use sa_check_choice::{
-    Built, Expected, Typed, View, chosen, first_iter, kind_of, type_of, widened,
-};
+use sa_check_choice::{Built, Expected, Typed, View, chosen, first_iter, type_of, widened};
 use sa_check_program::BOOL;
 use sa_core::{CalledCore, ExprCore, Target};
 use sa_overload::ArgIn;
-use sa_tree::{FrontFault, Kind, Mode, NoMemory, Pos, Rule, held};
+use sa_tree::{FrontFault, Mode, NoMemory, Pos, Rule, held};
 use sqlite_items::Boxed;
 use std::alloc::Global;
 
@@ -111,7 +109,7 @@ fn less(
     expected: Expected,
     pos: Pos,
 ) -> Result<Comparison, FrontFault> {
-    if kind_of(view, of) == Kind::Abstract {
+    if view.program.is_abstract(of) {
         return Err(none_on_abstract(view, of).at(pos).into());
     }
     let arg = argument(alloc, view, built, from)?;

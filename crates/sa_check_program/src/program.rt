@@ -9,7 +9,7 @@ use crate::walk::needed_types;
 use sa_check_classes::{MAIN, Member};
 use sa_graph::word;
 use sa_subtypes::Edges;
-use sa_tree::{Class, Flat, FrontFault, Kind, NoMemory, Ty, held};
+use sa_tree::{Class, Feature, Flat, FrontFault, Kind, NoMemory, Ty, held};
 use sa_types::{Sig, Substitution};
 use sqlite_items::Items;
 use std::alloc::Global;
@@ -98,6 +98,22 @@ impl<'a> Program<'a> {
         Some(self.list.class(ty)?.kind)
     }
 
+    /// Whether a type is abstract.
+    pub fn is_abstract(&self, ty: u32) -> bool {
+        matches!(self.kind(ty), Some(Kind::Abstract))
+    }
+
+    /// Whether two types are instances of one class, whatever its parameters are.
+    pub fn is_same_class(&self, one: u32, other: u32) -> bool {
+        if one == other {
+            return true;
+        }
+        match (self.class(one), self.class(other)) {
+            (Some(one), Some(other)) => one.name.name == other.name.name,
+            _ => false,
+        }
+    }
+
     /// The number of a type without parameters or SAME.
     pub fn number(&self, ty: &Ty) -> Option<u32> {
         self.list.number(ty)
@@ -136,6 +152,11 @@ impl<'a> Program<'a> {
         self.members(ty).get(place as usize)
     }
 
+    /// A feature of a type's class by its place.
+    pub fn feature(&self, ty: u32, place: u32) -> Option<&Feature> {
+        self.class(ty)?.features.get(place as usize)
+    }
+
     /// The places of the members with a name, in order. A bound type has none.
     pub fn named(&self, ty: u32, name: &[u8]) -> &[u32] {
         match self.list.table(ty) {
@@ -158,7 +179,7 @@ impl<'a> Program<'a> {
     pub fn signature(&self, alloc: Global, ty: u32, place: u32) -> Result<Sig, NoMemory> {
         let class = held(self.list.class(ty))?;
         let member = held(self.member(ty, place))?;
-        let feature = held(class.features.get(member.feature as usize))?;
+        let feature = held(self.feature(ty, member.feature))?;
         let own = held(self.ty(ty))?;
         let by = Substitution::make(alloc, class.params.as_slice(), given(own), own)?;
         signature_of(alloc, feature, member, &by)

@@ -1,11 +1,11 @@
 //! Assignments: to a variable, to an attribute of an immutable object, by a call, or to an element.
 
 use crate::draft::Draft;
-use crate::leave::{leave_assigned, leave_of};
+use crate::leave::leave_assigned;
 use crate::value::fitting;
 use sa_check_expr::{
-    Built, Expected, ReadyArg, ReadyExpr, Receiver, Variable, View, call, operand, position, ready,
-    typed, variable_named, written,
+    Built, Expected, LoopExit, ReadyArg, ReadyExpr, Receiver, Variable, View, call, only_argument,
+    operand, position, ready, typed, variable_named, written,
 };
 use sa_core::StmtCore;
 use sa_tree::{Expr, FrontFault, Kind, Name, Part, Pos, Recv, Rule, held};
@@ -91,8 +91,8 @@ fn assign_implied(
     if let Some(variable) = draft.seen(name) {
         return assign_variable(alloc, view, draft, built, variable, value, pos);
     }
-    if let Some(number) = leave_of(name) {
-        return leave_assigned(alloc, view, draft, built, number, value, pos);
+    if let Some(exit) = LoopExit::of_name(name) {
+        return leave_assigned(alloc, view, draft, built, exit, value, pos);
     }
     assign_feature(
         alloc,
@@ -142,8 +142,7 @@ fn assign_feature(
     if is_attribute_of_immutable(view, &on, name) {
         return assign_changed(alloc, view, draft, built, on, changed, name, made, pos);
     }
-    let mut args = Vec::new(alloc);
-    args.push(ReadyArg::Value(made))?;
+    let args = only_argument(alloc, made)?;
     let name = name.as_slice();
     let done = call(
         alloc,
@@ -174,8 +173,7 @@ fn assign_changed(
     let Some(variable) = changed else {
         return Err(Rule::NotAssignable.at(pos).into());
     };
-    let mut args = Vec::new(alloc);
-    args.push(ReadyArg::Value(value))?;
+    let args = only_argument(alloc, value)?;
     let name = name.as_slice();
     let made = call(
         alloc,
@@ -229,10 +227,7 @@ fn is_attribute(view: &View<'_>, ty: u32, place: u32) -> bool {
     let Some(member) = view.program.member(ty, place) else {
         return false;
     };
-    let Some(class) = view.program.class(ty) else {
-        return false;
-    };
-    match class.features.get(member.feature as usize) {
+    match view.program.feature(ty, member.feature) {
         None => false,
         Some(feature) => matches!(feature.part, Part::Attr),
     }

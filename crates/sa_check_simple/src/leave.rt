@@ -3,16 +3,14 @@
 use crate::draft::{Draft, FeatureKind};
 use crate::value::{entry, test, untyped_value};
 use sa_check_expr::{
-    Built, Expected, View, leave, parts, position, ready, settled, typed, widened,
+    Built, Expected, LoopExit, View, leave, leave_form, only_argument, parts, position, ready,
+    typed, widened,
 };
 use sa_check_program::{BOOL, OB};
 use sa_core::{ExprCore, StmtCore};
-use sa_tree::{Expr, FaultKind, FrontFault, Name, Op, Pos, Recv, Rule, held};
+use sa_tree::{Expr, FaultKind, FrontFault, Op, Pos, Recv, Rule, held};
 use sqlite_items::Items;
 use std::alloc::Global;
-
-/// The number of `break!` among the names that leave a loop.
-const BREAK: u8 = 0;
 
 /// `quit`, in an iter alone, and in no protect.
 pub(crate) fn quit(draft: &Draft, pos: Pos) -> Result<StmtCore, FrontFault> {
@@ -79,8 +77,8 @@ pub(crate) fn expression(
     built: &mut Built,
     e: &Expr,
 ) -> Result<StmtCore, FrontFault> {
-    if let Some((number, test)) = leave(alloc, view, &draft.place, built, e)? {
-        return Ok(StmtCore::Leave(number, test));
+    if let Some(left) = leave(alloc, view, &draft.place, built, e)? {
+        return Ok(left);
     }
     if !can_stand_alone(draft, e) {
         parts(alloc, view, &draft.place, built, e)?;
@@ -103,45 +101,17 @@ fn can_stand_alone(draft: &Draft, e: &Expr) -> bool {
     }
 }
 
-/// The number of a name that leaves the innermost loop.
-pub(crate) fn leave_of(name: &Name) -> Option<u8> {
-    match name.as_slice() {
-        b"break!" => Some(BREAK),
-        b"while!" => Some(1),
-        b"until!" => Some(2),
-        _ => None,
-    }
-}
-
-/// `while! := b`, which is `while!(b)`. `break!` takes no argument.
+/// `while! := b`, which is `while!(b)`.
 pub(crate) fn leave_assigned(
     alloc: Global,
     view: &View<'_>,
     draft: &Draft,
     built: &mut Built,
-    number: u8,
+    exit: LoopExit,
     value: &Expr,
     pos: Pos,
 ) -> Result<StmtCore, FrontFault> {
     let value = ready(alloc, view, &draft.place, built, value)?;
-    can_leave(draft, number, pos)?;
-    let test = settled(alloc, view, built, value, Expected::Type(BOOL))?;
-    if test.ty != Some(BOOL) {
-        return Err(Rule::WrongType.at(pos).into());
-    }
-    Ok(StmtCore::Leave(number, Some(test.core)))
-}
-
-/// Whether a name with an argument leaves a loop here: it stands in one, no protect stands between, and it isn't `break!`.
-fn can_leave(draft: &Draft, number: u8, pos: Pos) -> Result<(), FrontFault> {
-    if draft.place.loops == 0 {
-        return Err(Rule::IterOutsideLoop.at(pos).into());
-    }
-    if draft.place.guard > draft.place.loops {
-        return Err(Rule::NotAllowedInProtect.at(pos).into());
-    }
-    if number == BREAK {
-        return Err(Rule::NoFeatureFits.at(pos).into());
-    }
-    Ok(())
+    let args = only_argument(alloc, value)?;
+    leave_form(alloc, view, &draft.place, built, exit, args, pos)
 }

@@ -2,7 +2,7 @@
 
 use crate::statement::statements;
 use sa_check_expr::{
-    Built, Expected, ReadyArg, ReadyExpr, Receiver, Typed, View, call, ready, ready_all,
+    Built, Expected, ReadyExpr, Receiver, Typed, View, call, only_argument, ready, ready_all,
 };
 use sa_check_program::{BOOL, OB};
 use sa_check_simple::{Draft, with_type};
@@ -177,8 +177,7 @@ fn comparison(
     value: ReadyExpr,
 ) -> Result<ExprCore, FrontFault> {
     let on = variable_receiver(variable, built.sites.len());
-    let mut args = Vec::new(alloc);
-    args.push(ReadyArg::Value(value))?;
+    let args = only_argument(alloc, value)?;
     let pos = variable.pos;
     let test = call(
         alloc,
