@@ -7,8 +7,8 @@ use crate::passing::{PassedArgs, passed, seen_arguments};
 use crate::ready::ReadyArg;
 use crate::receiver::Receiver;
 use sa_check_choice::{
-    Built, ChosenFeature, Expected, Place, Reached, Typed, View, bound_callee, bound_name, chosen,
-    first_iter,
+    Built, ChosenFeature, Context, Expected, Reached, Typed, View, bound_callee, bound_name,
+    chosen, first_iter,
 };
 use sa_core::{CalledCore, ExprCore};
 use sa_tree::{FrontFault, Name, NoMemory, Pos, Recv, Rule};
@@ -18,9 +18,7 @@ use std::alloc::Global;
 /// A call by name that is no variable, made on `on`, with what stands inside it typed. `while!`, `until!` and `break!` give no result, so that as expressions they are
 /// refused: E35, E38, E31.
 pub fn call_form(
-    alloc: Global,
-    view: &View<'_>,
-    place: &Place,
+    context: Context<'_>,
     built: &mut Built,
     on: &Recv,
     name: &Name,
@@ -30,13 +28,11 @@ pub fn call_form(
     expected: Expected,
 ) -> Result<Typed, FrontFault> {
     if LoopExit::of_call(on, name).is_some() {
-        innermost_loop(place, pos)?;
+        innermost_loop(context.place, pos)?;
         return Err(Rule::NoFeatureFits.at(pos).into());
     }
     call(
-        alloc,
-        view,
-        place,
+        context,
         built,
         receiver,
         name.as_slice(),
@@ -56,9 +52,7 @@ pub fn call_form(
 ///
 /// A contextual argument is refused by its own rules where it doesn't go to the type of its parameter.
 pub fn call(
-    alloc: Global,
-    view: &View<'_>,
-    place: &Place,
+    context: Context<'_>,
     built: &mut Built,
     on: Receiver,
     name: &[u8],
@@ -67,14 +61,13 @@ pub fn call(
     expected: Expected,
 ) -> Result<Typed, FrontFault> {
     if is_iter_name(name) {
-        return iter_call(alloc, view, place, built, on, name, args, pos, expected);
+        return iter_call(context, built, on, name, args, pos, expected);
     }
-    plain_call(alloc, view, built, on, name, args, pos, expected)
+    plain_call(context.view, built, on, name, args, pos, expected)
 }
 
 /// A call that is no iter call.
 fn plain_call(
-    alloc: Global,
     view: &View<'_>,
     built: &mut Built,
     on: Receiver,
@@ -83,16 +76,7 @@ fn plain_call(
     pos: Pos,
     expected: Expected,
 ) -> Result<Typed, FrontFault> {
-    let callee = callee(
-        alloc,
-        view,
-        built,
-        &on,
-        name,
-        args.as_slice(),
-        pos,
-        expected,
-    )?;
+    let callee = callee(view, built, &on, name, args.as_slice(), pos, expected)?;
     let ChosenFeature {
         reached,
         params,
@@ -101,8 +85,8 @@ fn plain_call(
     match reached {
         Reached::Value(value) => Ok(constant(built, on, value, ty)),
         Reached::Called(called) => {
-            let passed = passed(alloc, view, built, args, params.as_slice(), pos)?;
-            Ok(called_value(alloc, called, on, passed, ty, pos)?)
+            let passed = passed(view, built, args, params.as_slice(), pos)?;
+            Ok(called_value(view.alloc, called, on, passed, ty, pos)?)
         }
     }
 }
@@ -133,7 +117,6 @@ pub(crate) fn called_value(
 /// What a call reaches, by the types of what it is made on and of its arguments. On a bound value E30 of another name than
 /// that of its kind.
 pub(crate) fn callee(
-    alloc: Global,
     view: &View<'_>,
     built: &Built,
     on: &Receiver,
@@ -143,14 +126,14 @@ pub(crate) fn callee(
     expected: Expected,
 ) -> Result<ChosenFeature, FrontFault> {
     let of = on.ty(view, pos)?;
-    let seen = seen_arguments(alloc, view, built, args)?;
+    let seen = seen_arguments(view, built, args)?;
     let Some(word) = value_name(view, built, on, of) else {
-        return chosen(alloc, view, of, name, seen.as_slice(), expected, pos);
+        return chosen(view, of, name, seen.as_slice(), expected, pos);
     };
     if name != word {
         return Err(Rule::UnknownName.at(pos).into());
     }
-    bound_callee(alloc, view, built, of, seen.as_slice(), pos, expected)
+    bound_callee(view, built, of, seen.as_slice(), pos, expected)
 }
 
 /// The name by which a bound value is called, where a call is made on one.

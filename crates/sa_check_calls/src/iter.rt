@@ -4,7 +4,7 @@ use crate::calls::callee;
 use crate::passing::{PassedArgs, passed};
 use crate::ready::ReadyArg;
 use crate::receiver::Receiver;
-use sa_check_choice::{Built, ChosenFeature, Expected, Place, Typed, View, first_iter};
+use sa_check_choice::{Built, ChosenFeature, Context, Expected, Place, Typed, first_iter};
 use sa_core::{CalledCore, ExprCore, SiteCore};
 use sa_tree::{FrontFault, NoMemory, Pos, Rule, held};
 use sqlite_items::Boxed;
@@ -29,9 +29,7 @@ pub(crate) fn innermost_loop(place: &Place, pos: Pos) -> Result<u32, FrontFault>
 
 /// An iter call, which is no head of a bind. It is refused as `call` says.
 pub(crate) fn iter_call(
-    alloc: Global,
-    view: &View<'_>,
-    place: &Place,
+    context: Context<'_>,
     built: &mut Built,
     on: Receiver,
     name: &[u8],
@@ -39,10 +37,9 @@ pub(crate) fn iter_call(
     pos: Pos,
     expected: Expected,
 ) -> Result<Typed, FrontFault> {
-    let owner = innermost_loop(place, pos)?;
+    let owner = innermost_loop(context.place, pos)?;
     let callee = callee(
-        alloc,
-        view,
+        context.view,
         built,
         &on,
         name,
@@ -50,11 +47,11 @@ pub(crate) fn iter_call(
         pos,
         expected,
     )?;
-    let passed = passed(alloc, view, built, args, callee.params.as_slice(), pos)?;
+    let passed = passed(context.view, built, args, callee.params.as_slice(), pos)?;
     if let Some(inner) = first_iter(on.iter(), passed.once) {
         return Err(Rule::IterInSelfOrOnce.at(inner).into());
     }
-    Ok(at_site(alloc, built, owner, callee, on, passed, pos)?)
+    Ok(at_site(context.view.alloc, built, owner, callee, on, passed, pos)?)
 }
 
 /// The iter call at a new site, which belongs to the loop with the number `owner`.

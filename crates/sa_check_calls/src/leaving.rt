@@ -3,11 +3,10 @@
 use crate::iter::innermost_loop;
 use crate::ready::ReadyArg;
 use crate::settle::settled;
-use sa_check_choice::{Built, Expected, Place, View};
+use sa_check_choice::{Built, Context, Expected, View};
 use sa_check_program::BOOL;
 use sa_core::{ExprCore, StmtCore};
 use sa_tree::{FrontFault, Name, Pos, Recv, Rule};
-use std::alloc::Global;
 
 /// What leaves the innermost loop.
 #[derive(Clone, Copy, Debug, PartialEq, Eq)]
@@ -53,15 +52,13 @@ impl LoopExit {
 /// - E31: `break!` has an argument, or another one hasn't exactly one.
 /// - E33: its argument isn't a BOOL.
 pub fn leave_form(
-    alloc: Global,
-    view: &View<'_>,
-    place: &Place,
+    context: Context<'_>,
     built: &Built,
     exit: LoopExit,
     args: Vec<ReadyArg>,
     pos: Pos,
 ) -> Result<StmtCore, FrontFault> {
-    innermost_loop(place, pos)?;
+    innermost_loop(context.place, pos)?;
     let mut args = args;
     let only = args.pop();
     if !args.is_empty() || only.is_none() != (exit == LoopExit::Break) {
@@ -70,24 +67,18 @@ pub fn leave_form(
     match only {
         None => Ok(StmtCore::Leave(exit.number(), None)),
         Some(arg) => {
-            let test = test(alloc, view, built, arg, pos)?;
+            let test = test(context.view, built, arg, pos)?;
             Ok(StmtCore::Leave(exit.number(), Some(test)))
         }
     }
 }
 
 /// The test of `while!` and `until!`: E31 of an argument that the call writes, E33 unless it is a BOOL.
-fn test(
-    alloc: Global,
-    view: &View<'_>,
-    built: &Built,
-    arg: ReadyArg,
-    pos: Pos,
-) -> Result<ExprCore, FrontFault> {
+fn test(view: &View<'_>, built: &Built, arg: ReadyArg, pos: Pos) -> Result<ExprCore, FrontFault> {
     let ReadyArg::Value(value) = arg else {
         return Err(Rule::NoFeatureFits.at(pos).into());
     };
-    let value = settled(alloc, view, built, value, Expected::Type(BOOL))?;
+    let value = settled(view, built, value, Expected::Type(BOOL))?;
     if value.ty != Some(BOOL) {
         return Err(Rule::WrongType.at(pos).into());
     }

@@ -7,29 +7,22 @@ use sa_core::ArgCore;
 use sa_overload::ArgIn;
 use sa_tree::{FrontFault, Mode, NoMemory, Pos, Rule, Ty, held};
 use sqlite_items::Items;
-use std::alloc::Global;
 
 /// What the choice sees of the arguments of a call. A contextual one has no type yet.
 pub fn seen_arguments(
-    alloc: Global,
     view: &View<'_>,
     built: &Built,
     args: &[ReadyArg],
 ) -> Result<Items<ArgIn>, NoMemory> {
-    let mut seen = Items::new(alloc);
+    let mut seen = Items::new(view.alloc);
     for arg in args {
-        seen.push(seen_argument(alloc, view, built, arg)?)?;
+        seen.push(seen_argument(view, built, arg)?)?;
     }
     Ok(seen)
 }
 
-fn seen_argument(
-    alloc: Global,
-    view: &View<'_>,
-    built: &Built,
-    arg: &ReadyArg,
-) -> Result<ArgIn, NoMemory> {
-    let ty = seen_type(alloc, view, built, own_type(arg)?)?;
+fn seen_argument(view: &View<'_>, built: &Built, arg: &ReadyArg) -> Result<ArgIn, NoMemory> {
+    let ty = seen_type(view, built, own_type(arg)?)?;
     Ok(ArgIn {
         mode: arg.mode(),
         ty,
@@ -48,15 +41,10 @@ fn own_type(arg: &ReadyArg) -> Result<Option<u32>, NoMemory> {
 }
 
 /// The type with a number, if there is one.
-fn seen_type(
-    alloc: Global,
-    view: &View<'_>,
-    built: &Built,
-    number: Option<u32>,
-) -> Result<Option<Ty>, NoMemory> {
+fn seen_type(view: &View<'_>, built: &Built, number: Option<u32>) -> Result<Option<Ty>, NoMemory> {
     match number {
         None => Ok(None),
-        Some(number) => Ok(Some(held(type_of(view, built, number))?.copy(alloc)?)),
+        Some(number) => Ok(Some(held(type_of(view, built, number))?.copy(view.alloc)?)),
     }
 }
 
@@ -99,7 +87,6 @@ impl PassedArgs {
 /// has another type than its parameter doesn't fit any more: E31 at the call.
 #[cycle(settle)]
 pub fn passed(
-    alloc: Global,
     view: &View<'_>,
     built: &Built,
     args: Vec<ReadyArg>,
@@ -107,14 +94,14 @@ pub fn passed(
     pos: Pos,
 ) -> Result<PassedArgs, FrontFault> {
     let mut all = PassedArgs {
-        args: Items::new(alloc),
+        args: Items::new(view.alloc),
         iter: None,
         once: None,
     };
     let mut fit = true;
     for arg in args {
         let param = *held(params.get(all.args.len()))?;
-        let passed = passed_argument(alloc, view, built, arg, param)?;
+        let passed = passed_argument(view, built, arg, param)?;
         fit = fit && passed.fits;
         all.add(passed, param.mode)?;
     }
@@ -126,14 +113,13 @@ pub fn passed(
 
 #[cycle(settle)]
 fn passed_argument(
-    alloc: Global,
     view: &View<'_>,
     built: &Built,
     arg: ReadyArg,
     param: Param,
 ) -> Result<PassedArg, FrontFault> {
     match arg {
-        ReadyArg::Value(value) => passed_value(alloc, view, built, value, param),
+        ReadyArg::Value(value) => passed_value(view, built, value, param),
         ReadyArg::Variable(_, variable) => Ok(PassedArg {
             arg: ArgCore::Variable(param.mode, variable.number),
             iter: None,
@@ -149,14 +135,13 @@ fn passed_argument(
 
 #[cycle(settle)]
 fn passed_value(
-    alloc: Global,
     view: &View<'_>,
     built: &Built,
     value: ReadyExpr,
     param: Param,
 ) -> Result<PassedArg, FrontFault> {
     let is_typed = value.is_typed();
-    let value = settled_to(alloc, view, built, value, param.ty)?;
+    let value = settled_to(view, built, value, param.ty)?;
     Ok(PassedArg {
         arg: ArgCore::Value(param.mode, value.core),
         iter: value.iter,

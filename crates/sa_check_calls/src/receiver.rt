@@ -4,7 +4,6 @@ use crate::ready::ReadyExpr;
 use sa_check_choice::{Typed, View, is_concrete};
 use sa_core::ExprCore;
 use sa_tree::{FrontFault, NoMemory, Pos, Rule, held};
-use std::alloc::Global;
 
 /// What a call is made on, its children typed.
 #[derive(Drop)]

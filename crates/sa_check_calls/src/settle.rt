@@ -19,7 +19,6 @@ const ARRAY: &[u8] = b"ARRAY";
 /// An expression at the type that its place expects. One that has a type by itself keeps it.
 #[cycle(settle)]
 pub fn settled(
-    alloc: Global,
     view: &View<'_>,
     built: &Built,
     ready: ReadyExpr,
@@ -28,8 +27,8 @@ pub fn settled(
     match ready {
         ReadyExpr::Typed(value, _) => Ok(value),
         ReadyExpr::Void(pos) => void(expected, pos),
-        ReadyExpr::Create(args, pos) => create(alloc, view, built, args, expected, pos),
-        ReadyExpr::Items(items, pos) => array(alloc, view, built, items, expected, pos),
+        ReadyExpr::Create(args, pos) => create(view, built, args, expected, pos),
+        ReadyExpr::Items(items, pos) => array(view, built, items, expected, pos),
     }
 }
 
@@ -48,7 +47,6 @@ fn void(expected: Expected, pos: Pos) -> Result<Typed, FrontFault> {
 /// `#(..)` without a type: a call of `create` on void of the expected type, and E41 unless that is a concrete one.
 #[cycle(settle)]
 fn create(
-    alloc: Global,
     view: &View<'_>,
     built: &Built,
     args: Vec<ReadyArg>,
@@ -57,7 +55,6 @@ fn create(
 ) -> Result<Typed, FrontFault> {
     let on = created(view, expected);
     let callee = callee(
-        alloc,
         view,
         built,
         &on,
@@ -66,8 +63,8 @@ fn create(
         pos,
         Expected::Value,
     )?;
-    let passed = passed(alloc, view, built, args, callee.params.as_slice(), pos)?;
-    Ok(made(alloc, callee, on, passed, pos)?)
+    let passed = passed(view, built, args, callee.params.as_slice(), pos)?;
+    Ok(made(view.alloc, callee, on, passed, pos)?)
 }
 
 /// What `#(..)` without a type calls `create` on: nothing that has a type, unless a concrete one is expected.
@@ -112,23 +109,21 @@ pub(crate) struct SettledValue {
 /// An expression as a value of the type that its place expects, to which it is widened.
 #[cycle(settle)]
 pub(crate) fn settled_to(
-    alloc: Global,
     view: &View<'_>,
     built: &Built,
     ready: ReadyExpr,
     to: u32,
 ) -> Result<SettledValue, FrontFault> {
     let pos = ready.pos();
-    let Typed { core, ty, iter } = settled(alloc, view, built, ready, Expected::Type(to))?;
+    let Typed { core, ty, iter } = settled(view, built, ready, Expected::Type(to))?;
     let from = held(ty)?;
-    let core = widened(alloc, view, core, from, to, pos)?;
+    let core = widened(view, core, from, to, pos)?;
     Ok(SettledValue { core, from, iter })
 }
 
 /// An array literal: E41 unless an array is expected, and E33 unless each element goes to the type of its elements.
 #[cycle(settle)]
 fn array(
-    alloc: Global,
     view: &View<'_>,
     built: &Built,
     items: Vec<ReadyExpr>,
@@ -138,7 +133,7 @@ fn array(
     let Some((ty, of)) = array_type(view, built, expected) else {
         return Err(Rule::NoTypeFromContext.at(pos).into());
     };
-    let elements = elements(alloc, view, built, items, of)?;
+    let elements = elements(view, built, items, of)?;
     if !elements.go {
         return Err(Rule::WrongType.at(pos).into());
     }
@@ -162,19 +157,18 @@ struct ArrayElements {
 /// The elements of an array literal whose elements have the type with the number `of`.
 #[cycle(settle)]
 fn elements(
-    alloc: Global,
     view: &View<'_>,
     built: &Built,
     items: Vec<ReadyExpr>,
     of: u32,
 ) -> Result<ArrayElements, FrontFault> {
     let mut all = ArrayElements {
-        cores: Items::new(alloc),
+        cores: Items::new(view.alloc),
         iter: None,
         go: true,
     };
     for item in items {
-        let value = settled_to(alloc, view, built, item, of)?;
+        let value = settled_to(view, built, item, of)?;
         all.go = all.go && is_sub(view, built, value.from, of);
         all.add(value)?;
     }

@@ -21,7 +21,6 @@ pub fn bound_name(view: &View<'_>, built: &Built, of: u32) -> Option<&'static [u
 /// What a call of a bound value of the type with the number `of` reaches: E31 unless number, modes, presence of a result
 /// and types fit.
 pub fn bound_callee(
-    alloc: Global,
     view: &View<'_>,
     built: &Built,
     of: u32,
@@ -29,13 +28,13 @@ pub fn bound_callee(
     pos: Pos,
     expected: Expected,
 ) -> Result<ChosenFeature, FrontFault> {
-    let described = described_type(alloc, held(type_of(view, built, of))?)?;
+    let described = described_type(view.alloc, held(type_of(view, built, of))?)?;
     if !fits(&described, seen, expected.is_result(), view.program.edges()) {
         return Err(Rule::NoFeatureFits.at(pos).into());
     }
     Ok(ChosenFeature {
         reached: Reached::Called(CalledCore::Bound),
-        params: params(alloc, view, built, described.args.as_slice())?,
+        params: params(view, built, described.args.as_slice())?,
         result: number_of_result(view, built, &described.result)?,
     })
 }
@@ -67,13 +66,8 @@ fn copied_result(alloc: Global, gives: &Option<Boxed<Ty>>) -> Result<Option<Ty>,
     }
 }
 
-fn params(
-    alloc: Global,
-    view: &View<'_>,
-    built: &Built,
-    args: &[ModeTy],
-) -> Result<Items<Param>, NoMemory> {
-    let mut params = Items::new(alloc);
+fn params(view: &View<'_>, built: &Built, args: &[ModeTy]) -> Result<Items<Param>, NoMemory> {
+    let mut params = Items::new(view.alloc);
     for arg in args {
         let ty = held(number_of(view, built, &arg.ty))?;
         params.push(Param { mode: arg.mode, ty })?;

@@ -6,7 +6,6 @@ use crate::view::{Expected, View};
 use sa_overload::{ArgIn, Cand, Choice, choose, fits};
 use sa_tree::{FrontFault, Mode, NoMemory, Pos, Rule, held};
 use sqlite_items::Items;
-use std::alloc::Global;
 
 /// A parameter of what is called.
 #[derive(Clone, Copy, Debug, PartialEq, Eq)]
@@ -32,7 +31,6 @@ pub struct ChosenFeature {
 /// - E31: none fits. E32: several do, and none of them is the most specific one.
 /// - E41: those that fit have several types where an argument has none, which is a contextual one.
 pub fn chosen(
-    alloc: Global,
     view: &View<'_>,
     of: u32,
     name: &[u8],
@@ -40,41 +38,39 @@ pub fn chosen(
     expected: Expected,
     pos: Pos,
 ) -> Result<ChosenFeature, FrontFault> {
-    let call = Call::new(alloc, view, of, name, pos)?;
+    let call = Call::new(view, of, name, pos)?;
     let candidate = call.choice(view, args, expected, pos)?;
-    Ok(described_choice(alloc, view, of, candidate)?)
+    Ok(described_choice(view, of, candidate)?)
 }
 
 /// What the candidate is that a bind's head chooses: one with a result where one fits, and else one without. It is
 /// refused as `chosen` refuses.
 pub fn bound_candidate(
-    alloc: Global,
     view: &View<'_>,
     of: u32,
     name: &[u8],
     args: &[ArgIn],
     pos: Pos,
 ) -> Result<Candidate, FrontFault> {
-    let call = Call::new(alloc, view, of, name, pos)?;
+    let call = Call::new(view, of, name, pos)?;
     let expected = call.result_expected(view, args);
     call.choice(view, args, expected, pos)
 }
 
 /// What is reached by a call on a type that has chosen a candidate.
 pub fn described_choice(
-    alloc: Global,
     view: &View<'_>,
     of: u32,
     candidate: Candidate,
 ) -> Result<ChosenFeature, NoMemory> {
     let member = held(view.program.member(candidate.from, candidate.member))?;
-    let mut params = Items::new(alloc);
+    let mut params = Items::new(view.alloc);
     for (place, mode) in member.modes.as_slice().iter().enumerate() {
         let ty = held(view.program.argument(candidate.from, member, place))?;
         params.push(Param { mode: *mode, ty })?;
     }
     Ok(ChosenFeature {
-        reached: reached_by(alloc, view, of, candidate)?,
+        reached: reached_by(view, of, candidate)?,
         params,
         result: view.program.result(candidate.from, member),
     })
@@ -88,15 +84,9 @@ struct Call {
 }
 
 impl Call {
-    fn new(
-        alloc: Global,
-        view: &View<'_>,
-        of: u32,
-        name: &[u8],
-        pos: Pos,
-    ) -> Result<Call, FrontFault> {
-        let candidates = candidates(alloc, view, of, name, pos)?;
-        let described = described(alloc, view, candidates.as_slice())?;
+    fn new(view: &View<'_>, of: u32, name: &[u8], pos: Pos) -> Result<Call, FrontFault> {
+        let candidates = candidates(view, of, name, pos)?;
+        let described = described(view, candidates.as_slice())?;
         Ok(Call {
             candidates,
             described,

@@ -17,6 +17,6 @@ pub use literal::{character, exception, int, me, of_type, text, truth};
 pub use target::{Reached, member_target};
 pub use variables::{variable_named, variable_value};
 pub use view::{
-    Built, Expected, Place, Typed, Variable, View, first_iter, is_concrete, is_sub, kind_of,
-    number_of, position, type_of, widened, written,
+    Built, Context, Expected, Place, Typed, Variable, View, first_iter, is_concrete, is_sub,
+    kind_of, number_of, position, type_of, widened, written,
 };

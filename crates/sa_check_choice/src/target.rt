@@ -7,7 +7,6 @@ use sa_check_program::{Program, Side};
 use sa_core::{CalledCore, ExprCore, Target};
 use sa_prelude::builtin;
 use sa_tree::{NoMemory, Part, held};
-use std::alloc::Global;
 
 /// What a call reaches.
 #[derive(Drop)]
@@ -29,27 +28,21 @@ impl Reached {
 
 /// What a call on a type reaches by its candidate. A signature is dispatched by the receiver's class.
 pub(crate) fn reached_by(
-    alloc: Global,
     view: &View<'_>,
     of: u32,
     candidate: Candidate,
 ) -> Result<Reached, NoMemory> {
     match candidate.signature {
         Some(signature) => Ok(Reached::Called(CalledCore::Dispatch(signature))),
-        None => feature_reached(alloc, view, of, candidate.member),
+        None => feature_reached(view, of, candidate.member),
     }
 }
 
 /// What a call of a concrete type's member reaches.
-fn feature_reached(
-    alloc: Global,
-    view: &View<'_>,
-    of: u32,
-    member: u32,
-) -> Result<Reached, NoMemory> {
+fn feature_reached(view: &View<'_>, of: u32, member: u32) -> Result<Reached, NoMemory> {
     let feature = held(view.program.member(of, member))?.feature;
     if let Some(value) = view.consts.value(of, feature) {
-        return Ok(Reached::Value(constant_value(alloc, value)?));
+        return Ok(Reached::Value(constant_value(view.alloc, value)?));
     }
     let target = held(member_target(view.program, of, member))?;
     Ok(Reached::Called(CalledCore::Static(target, of)))

@@ -15,6 +15,7 @@ use std::alloc::Global;
 /// What is the same for all forms of one feature.
 #[derive(Clone, Copy)]
 pub struct View<'a> {
+    pub alloc: Global,
     pub program: &'a Program<'a>,
     pub signatures: &'a Signatures,
     pub consts: &'a ConstTable,
@@ -86,6 +87,20 @@ impl Expected {
             Expected::Nothing | Expected::Value => None,
             Expected::Type(ty) => Some(ty),
         }
+    }
+}
+
+/// What typing a form reads: the tables, and where the form stands.
+#[derive(Clone, Copy)]
+pub struct Context<'a> {
+    pub view: &'a View<'a>,
+    pub place: &'a Place,
+}
+
+impl View<'_> {
+    /// The same at a place of the feature.
+    pub fn at<'b>(&'b self, place: &'b Place) -> Context<'b> {
+        Context { view: self, place }
     }
 }
 
@@ -173,7 +188,6 @@ pub fn position(e: &Expr) -> Pos {
 /// A value of one type where another one is wanted. A value of an immutable class is widened where an abstract type is
 /// wanted; the position is that of the expression which is widened.
 pub fn widened(
-    alloc: Global,
     view: &View<'_>,
     value: ExprCore,
     from: u32,
@@ -183,7 +197,7 @@ pub fn widened(
     if !is_widening(view, from, to) {
         return Ok(value);
     }
-    Ok(ExprCore::Widen(from, Boxed::new(alloc, value)?, pos))
+    Ok(ExprCore::Widen(from, Boxed::new(view.alloc, value)?, pos))
 }
 
 /// Whether a value of the first type is widened where the second type is wanted.

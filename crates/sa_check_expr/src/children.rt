@@ -3,31 +3,26 @@
 
 use crate::rows::typed;
 use sa_check_calls::{ReadyArg, ReadyExpr};
-use sa_check_choice::{Built, Expected, Place, Variable, View, position, variable_named, written};
+use sa_check_choice::{
+    Built, Context, Expected, Variable, View, position, variable_named, written,
+};
 use sa_tree::{Expr, FrontFault, Given, Mode, Pos, Rule, Ty, held};
-use std::alloc::Global;
 
 /// Types an expression for a place that expects a result, or the children of a contextual one.
 #[cycle(typed)]
-pub fn ready(
-    alloc: Global,
-    view: &View<'_>,
-    place: &Place,
-    built: &mut Built,
-    e: &Expr,
-) -> Result<ReadyExpr, FrontFault> {
+pub fn ready(context: Context<'_>, built: &mut Built, e: &Expr) -> Result<ReadyExpr, FrontFault> {
     match e {
         Expr::Void(pos) => Ok(ReadyExpr::Void(*pos)),
         Expr::Create(None, args, pos) => {
-            let args = arguments(alloc, view, place, built, args.as_slice(), GivenTo::Call)?;
+            let args = arguments(context, built, args.as_slice(), GivenTo::Call)?;
             Ok(ReadyExpr::Create(args, *pos))
         }
         Expr::Items(items, pos) => {
-            let items = ready_all(alloc, view, place, built, items.as_slice())?;
+            let items = ready_all(context, built, items.as_slice())?;
             Ok(ReadyExpr::Items(items, *pos))
         }
         _ => {
-            let value = typed(alloc, view, place, built, e, Expected::Value)?;
+            let value = typed(context, built, e, Expected::Value)?;
             Ok(ReadyExpr::Typed(value, position(e)))
         }
     }
@@ -36,15 +31,13 @@ pub fn ready(
 /// Types expressions from left to right, as `ready` does each of them.
 #[cycle(typed)]
 pub fn ready_all(
-    alloc: Global,
-    view: &View<'_>,
-    place: &Place,
+    context: Context<'_>,
     built: &mut Built,
     list: &[Expr],
 ) -> Result<Vec<ReadyExpr>, FrontFault> {
-    let mut all = Vec::new(alloc);
+    let mut all = Vec::new(context.view.alloc);
     for e in list {
-        all.push(ready(alloc, view, place, built, e)?)?;
+        all.push(ready(context, built, e)?)?;
     }
     Ok(all)
 }
@@ -59,16 +52,14 @@ pub(crate) enum GivenTo {
 /// Types arguments from left to right.
 #[cycle(typed)]
 pub(crate) fn arguments(
-    alloc: Global,
-    view: &View<'_>,
-    place: &Place,
+    context: Context<'_>,
     built: &mut Built,
     args: &[Given],
     given_to: GivenTo,
 ) -> Result<Vec<ReadyArg>, FrontFault> {
-    let mut all = Vec::new(alloc);
+    let mut all = Vec::new(context.view.alloc);
     for given in args {
-        all.push(argument(alloc, view, place, built, given, given_to)?)?;
+        all.push(argument(context, built, given, given_to)?)?;
     }
     Ok(all)
 }
@@ -80,24 +71,22 @@ pub(crate) fn arguments(
 /// - E42: the call writes it, and it is the variable of a typecase in one of its branches.
 #[cycle(typed)]
 fn argument(
-    alloc: Global,
-    view: &View<'_>,
-    place: &Place,
+    context: Context<'_>,
     built: &mut Built,
     given: &Given,
     given_to: GivenTo,
 ) -> Result<ReadyArg, FrontFault> {
     match given {
-        Given::Left(ty, pos) => open_argument(view, ty, *pos, given_to),
+        Given::Left(ty, pos) => open_argument(context.view, ty, *pos, given_to),
         Given::Value(Mode::In | Mode::Once, e) => {
-            let value = ready(alloc, view, place, built, e)?;
+            let value = ready(context, built, e)?;
             Ok(ReadyArg::Value(value))
         }
         Given::Value(mode, e) => {
-            if let Some(variable) = variable_named(place, e) {
+            if let Some(variable) = variable_named(context.place, e) {
                 return written_argument(*mode, variable, position(e));
             }
-            let _inside = ready(alloc, view, place, built, e)?;
+            let _inside = ready(context, built, e)?;
             Err(Rule::NotAssignable.at(position(e)).into())
         }
     }

@@ -2,7 +2,7 @@
 
 use sa_check_calls::{ReadyArg, ReadyExpr, Receiver, call_form, settled};
 use sa_check_choice::{
-    Built, Expected, Place, Typed, View, character, exception, int, me, text, truth, written,
+    Built, Context, Expected, Typed, View, character, exception, int, me, text, truth, written,
 };
 use sa_check_forms::{
     binary, bind_form, connected, create, index, is_void, new_array, new_object, unary,
@@ -15,9 +15,7 @@ type Inside<T> = Result<T, FrontFault>;
 
 /// A form that holds no expressions. The others are no such form.
 pub(crate) fn without_inside(
-    alloc: Global,
-    view: &View<'_>,
-    place: &Place,
+    context: Context<'_>,
     built: &Built,
     e: &Expr,
     expected: Expected,
@@ -26,11 +24,11 @@ pub(crate) fn without_inside(
         Expr::Int(value, _) => Ok(int(*value)?),
         Expr::Bool(value, _) => Ok(truth(*value)),
         Expr::Char(value, _) => Ok(character(*value)),
-        Expr::Text(value, _) => Ok(text(alloc, value)?),
-        Expr::Me(_) => Ok(me(view)),
-        Expr::Void(pos) => settled(alloc, view, built, ReadyExpr::Void(*pos), expected),
-        Expr::Exception(pos) => exception(place, *pos),
-        Expr::New(_, pos) => new_object(view, *pos),
+        Expr::Text(value, _) => Ok(text(context.view.alloc, value)?),
+        Expr::Me(_) => Ok(me(context.view)),
+        Expr::Void(pos) => settled(context.view, built, ReadyExpr::Void(*pos), expected),
+        Expr::Exception(pos) => exception(context.place, *pos),
+        Expr::New(_, pos) => new_object(context.view, *pos),
         _ => Err(FrontFault::NoMemory),
     }
 }
@@ -46,58 +44,51 @@ pub(crate) fn void_test(
 
 /// `new(n)`
 pub(crate) fn array_object(
-    alloc: Global,
     view: &View<'_>,
     length: Inside<Typed>,
     pos: Pos,
 ) -> Result<Typed, FrontFault> {
-    new_array(alloc, view, length?, pos)
+    new_array(view, length?, pos)
 }
 
 /// `#(..)` without a type, at the type that its place expects.
 pub(crate) fn object_here(
-    alloc: Global,
     view: &View<'_>,
     built: &Built,
     args: Inside<Vec<ReadyArg>>,
     expected: Expected,
     pos: Pos,
 ) -> Result<Typed, FrontFault> {
-    settled(alloc, view, built, ReadyExpr::Create(args?, pos), expected)
+    settled(view, built, ReadyExpr::Create(args?, pos), expected)
 }
 
 /// `#C(..)`
 pub(crate) fn object_of(
-    alloc: Global,
-    view: &View<'_>,
-    place: &Place,
+    context: Context<'_>,
     built: &mut Built,
     class: &Ty,
     args: Inside<Vec<ReadyArg>>,
     pos: Pos,
     expected: Expected,
 ) -> Result<Typed, FrontFault> {
-    let class = written(view, class);
-    create(alloc, view, place, built, class, args?, pos, expected)
+    let class = written(context.view, class);
+    create(context, built, class, args?, pos, expected)
 }
 
 /// An array literal, at the type that its place expects.
 pub(crate) fn array(
-    alloc: Global,
     view: &View<'_>,
     built: &Built,
     items: Inside<Vec<ReadyExpr>>,
     expected: Expected,
     pos: Pos,
 ) -> Result<Typed, FrontFault> {
-    settled(alloc, view, built, ReadyExpr::Items(items?, pos), expected)
+    settled(view, built, ReadyExpr::Items(items?, pos), expected)
 }
 
 /// A call by name that isn't a variable.
 pub(crate) fn called(
-    alloc: Global,
-    view: &View<'_>,
-    place: &Place,
+    context: Context<'_>,
     built: &mut Built,
     on: &Recv,
     name: &Name,
@@ -106,9 +97,7 @@ pub(crate) fn called(
     pos: Pos,
     expected: Expected,
 ) -> Result<Typed, FrontFault> {
-    call_form(
-        alloc, view, place, built, on, name, receiver?, args?, pos, expected,
-    )
+    call_form(context, built, on, name, receiver?, args?, pos, expected)
 }
 
 /// `and` and `or`
@@ -124,9 +113,7 @@ pub(crate) fn joined(
 
 /// Another operator of two operands, of which the left one stands at `at`.
 pub(crate) fn operated(
-    alloc: Global,
-    view: &View<'_>,
-    place: &Place,
+    context: Context<'_>,
     built: &mut Built,
     op: Op,
     left: Inside<Receiver>,
@@ -135,44 +122,36 @@ pub(crate) fn operated(
     pos: Pos,
     expected: Expected,
 ) -> Result<Typed, FrontFault> {
-    binary(
-        alloc, view, place, built, op, left?, at, right?, pos, expected,
-    )
+    binary(context, built, op, left?, at, right?, pos, expected)
 }
 
 /// `-` and `~` in front of an operand.
 pub(crate) fn signed(
-    alloc: Global,
-    view: &View<'_>,
-    place: &Place,
+    context: Context<'_>,
     built: &mut Built,
     op: Op,
     of: Inside<Receiver>,
     pos: Pos,
     expected: Expected,
 ) -> Result<Typed, FrontFault> {
-    unary(alloc, view, place, built, op, of?, pos, expected)
+    unary(context, built, op, of?, pos, expected)
 }
 
 /// `e[..]` and `[..]`
 pub(crate) fn indexed(
-    alloc: Global,
-    view: &View<'_>,
-    place: &Place,
+    context: Context<'_>,
     built: &mut Built,
     of: Inside<Receiver>,
     places: Inside<Vec<ReadyExpr>>,
     pos: Pos,
     expected: Expected,
 ) -> Result<Typed, FrontFault> {
-    index(alloc, view, place, built, of?, places?, pos, expected)
+    index(context, built, of?, places?, pos, expected)
 }
 
 /// `bind(..)` of a call by name.
 pub(crate) fn bound(
-    alloc: Global,
-    view: &View<'_>,
-    place: &Place,
+    context: Context<'_>,
     built: &mut Built,
     head: &Expr,
     name: &Name,
@@ -180,7 +159,7 @@ pub(crate) fn bound(
     args: Inside<Vec<ReadyArg>>,
     pos: Pos,
 ) -> Result<Typed, FrontFault> {
-    bind_form(alloc, view, place, built, head, name, receiver?, args?, pos)
+    bind_form(context, built, head, name, receiver?, args?, pos)
 }
 
 /// That a part is typed.

@@ -2,10 +2,9 @@
 
 use crate::children::{GivenTo, arguments};
 use sa_check_calls::{LoopExit, leave_form};
-use sa_check_choice::{Built, Place, View};
+use sa_check_choice::{Built, Context};
 use sa_core::StmtCore;
 use sa_tree::{Expr, FrontFault};
-use std::alloc::Global;
 
 /// The statement that leaves the innermost loop: `break!`, or `while!` or `until!` with their test. None where the expression
 /// is none of them. It is refused at its name, after what is refused inside it:
@@ -14,9 +13,7 @@ use std::alloc::Global;
 /// - E31: `break!` has an argument, or another one hasn't exactly one.
 /// - E33: its argument isn't a BOOL.
 pub fn leave(
-    alloc: Global,
-    view: &View<'_>,
-    place: &Place,
+    context: Context<'_>,
     built: &mut Built,
     e: &Expr,
 ) -> Result<Option<StmtCore>, FrontFault> {
@@ -26,6 +23,6 @@ pub fn leave(
     let Some(exit) = LoopExit::of_call(on, name) else {
         return Ok(None);
     };
-    let args = arguments(alloc, view, place, built, args.as_slice(), GivenTo::Call)?;
-    Ok(Some(leave_form(alloc, view, place, built, exit, args, *pos)?))
+    let args = arguments(context, built, args.as_slice(), GivenTo::Call)?;
+    Ok(Some(leave_form(context, built, exit, args, *pos)?))
 }

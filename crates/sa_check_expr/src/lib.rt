@@ -17,6 +17,6 @@ pub use sa_check_calls::{
     LoopExit, ReadyArg, ReadyExpr, Receiver, call, is_iter_name, leave_form, only_argument,
 };
 pub use sa_check_choice::{
-    Built, Expected, Place, Typed, Variable, View, is_sub, position, variable_named, widened,
-    written,
+    Built, Context, Expected, Place, Typed, Variable, View, is_sub, position, variable_named,
+    widened, written,
 };

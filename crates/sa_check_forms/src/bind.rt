@@ -4,7 +4,7 @@ use sa_check_calls::{
     LoopExit, PassedArgs, ReadyArg, Receiver, is_iter_name, passed, seen_arguments,
 };
 use sa_check_choice::{
-    Built, Candidate, Place, Typed, View, bound_candidate, described_choice, description,
+    Built, Candidate, Context, Place, Typed, View, bound_candidate, described_choice, description,
     first_iter, number_of, position, variable_named,
 };
 use sa_core::{CalledCore, ExprCore};
@@ -21,9 +21,7 @@ use std::alloc::Global;
 ///
 /// The head is refused at its name as another call is, but that it may stand outside a loop and within a protect.
 pub fn bind_form(
-    alloc: Global,
-    view: &View<'_>,
-    place: &Place,
+    context: Context<'_>,
     built: &mut Built,
     head: &Expr,
     name: &Name,
@@ -31,12 +29,11 @@ pub fn bind_form(
     args: Vec<ReadyArg>,
     pos: Pos,
 ) -> Result<Typed, FrontFault> {
-    if !is_bindable(place, head) || writes(args.as_slice()) {
+    if !is_bindable(context.place, head) || writes(args.as_slice()) {
         return Err(Rule::BadBind.at(pos).into());
     }
     bind(
-        alloc,
-        view,
+        context.view,
         built,
         receiver,
         name.as_slice(),
@@ -73,7 +70,6 @@ struct Head {
 
 /// The bound value of a head that stands at `at`.
 fn bind(
-    alloc: Global,
     view: &View<'_>,
     built: &mut Built,
     on: Receiver,
@@ -82,14 +78,13 @@ fn bind(
     at: Pos,
     pos: Pos,
 ) -> Result<Typed, FrontFault> {
-    let head = head_of(alloc, view, built, &on, name, args.as_slice(), at, pos)?;
-    let passed = head_passed(alloc, view, built, head, args, at)?;
-    Ok(bound_value(alloc, head, on, passed, pos)?)
+    let head = head_of(view, built, &on, name, args.as_slice(), at, pos)?;
+    let passed = head_passed(view, built, head, args, at)?;
+    Ok(bound_value(view.alloc, head, on, passed, pos)?)
 }
 
 /// What a head chooses: E45 where that is a const.
 fn head_of(
-    alloc: Global,
     view: &View<'_>,
     built: &mut Built,
     on: &Receiver,
@@ -99,11 +94,11 @@ fn head_of(
     pos: Pos,
 ) -> Result<Head, FrontFault> {
     let of = on.ty(view, at)?;
-    let candidate = head_candidate(alloc, view, built, of, name, args, at)?;
-    let Some(called) = head_called(alloc, view, of, candidate)? else {
+    let candidate = head_candidate(view, built, of, name, args, at)?;
+    let Some(called) = head_called(view, of, candidate)? else {
         return Err(Rule::BadBind.at(pos).into());
     };
-    let ty = bound_number(alloc, view, built, name, args, candidate, pos)?;
+    let ty = bound_number(view, built, name, args, candidate, pos)?;
     Ok(Head {
         of,
         candidate,
@@ -114,7 +109,6 @@ fn head_of(
 
 /// The candidate that a head chooses.
 fn head_candidate(
-    alloc: Global,
     view: &View<'_>,
     built: &Built,
     of: u32,
@@ -122,35 +116,29 @@ fn head_candidate(
     args: &[ReadyArg],
     at: Pos,
 ) -> Result<Candidate, FrontFault> {
-    let seen = seen_arguments(alloc, view, built, args)?;
-    bound_candidate(alloc, view, of, name, seen.as_slice(), at)
+    let seen = seen_arguments(view, built, args)?;
+    bound_candidate(view, of, name, seen.as_slice(), at)
 }
 
 /// What a candidate calls. A const calls nothing.
 fn head_called(
-    alloc: Global,
     view: &View<'_>,
     of: u32,
     candidate: Candidate,
 ) -> Result<Option<CalledCore>, NoMemory> {
-    Ok(
-        described_choice(alloc, view, of, candidate)?
-            .reached
-            .called(),
-    )
+    Ok(described_choice(view, of, candidate)?.reached.called())
 }
 
 /// The arguments of a head at the parameters of what it calls.
 fn head_passed(
-    alloc: Global,
     view: &View<'_>,
     built: &Built,
     head: Head,
     args: Vec<ReadyArg>,
     at: Pos,
 ) -> Result<PassedArgs, FrontFault> {
-    let choice = described_choice(alloc, view, head.of, head.candidate)?;
-    passed(alloc, view, built, args, choice.params.as_slice(), at)
+    let choice = described_choice(view, head.of, head.candidate)?;
+    passed(view, built, args, choice.params.as_slice(), at)
 }
 
 /// The bind of what the head calls.
@@ -177,7 +165,6 @@ fn bound_value(
 
 /// The number of the type of a bound value.
 fn bound_number(
-    alloc: Global,
     view: &View<'_>,
     built: &mut Built,
     name: &[u8],
@@ -185,14 +172,13 @@ fn bound_number(
     candidate: Candidate,
     pos: Pos,
 ) -> Result<u32, NoMemory> {
-    let ty = bound_type(alloc, view, name, args, candidate, pos)?;
+    let ty = bound_type(view, name, args, candidate, pos)?;
     number_of_bound(view, built, ty)
 }
 
 /// The type of a bound value at the position of its bind: over the open arguments in order, each with the mode and the type
 /// of its parameter. The types keep the positions at which the candidate writes them.
 fn bound_type(
-    alloc: Global,
     view: &View<'_>,
     name: &[u8],
     args: &[ReadyArg],
@@ -202,11 +188,11 @@ fn bound_type(
     let Cand {
         args: params,
         result: gives,
-    } = description(alloc, view, candidate)?;
-    let open = open_params(alloc, args, params.as_slice())?;
+    } = description(view, candidate)?;
+    let open = open_params(view.alloc, args, params.as_slice())?;
     let gives = match gives {
         None => None,
-        Some(ty) => Some(Boxed::new(alloc, ty)?),
+        Some(ty) => Some(Boxed::new(view.alloc, ty)?),
     };
     if is_iter_name(name) {
         Ok(Ty::Iter(open, gives, pos))

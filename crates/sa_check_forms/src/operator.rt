@@ -6,7 +6,7 @@
 
 use crate::swapped::swapped;
 use sa_check_calls::{ReadyArg, ReadyExpr, Receiver, call, only_argument};
-use sa_check_choice::{Built, Expected, Place, Typed, View, first_iter};
+use sa_check_choice::{Built, Context, Expected, Typed, View, first_iter};
 use sa_check_program::BOOL;
 use sa_core::ExprCore;
 use sa_tree::{FrontFault, NoMemory, Op, Pos, Rule};
@@ -62,42 +62,28 @@ pub fn connected(
 
 /// `-` and `~`: a call on the operand.
 pub fn unary(
-    alloc: Global,
-    view: &View<'_>,
-    place: &Place,
+    context: Context<'_>,
     built: &mut Built,
     op: Op,
     of: Receiver,
     pos: Pos,
     expected: Expected,
 ) -> Result<Typed, FrontFault> {
-    let none = Vec::new(alloc);
-    call(
-        alloc,
-        view,
-        place,
-        built,
-        of,
-        called_name(op),
-        none,
-        pos,
-        expected,
-    )
+    let none = Vec::new(context.view.alloc);
+    call(context, built, of, called_name(op), none, pos, expected)
 }
 
 /// `e[..]` and `[..]`: a call of `aget`.
 pub fn index(
-    alloc: Global,
-    view: &View<'_>,
-    place: &Place,
+    context: Context<'_>,
     built: &mut Built,
     of: Receiver,
     places: Vec<ReadyExpr>,
     pos: Pos,
     expected: Expected,
 ) -> Result<Typed, FrontFault> {
-    let args = values(alloc, places)?;
-    call(alloc, view, place, built, of, b"aget", args, pos, expected)
+    let args = values(context.view.alloc, places)?;
+    call(context, built, of, b"aget", args, pos, expected)
 }
 
 /// Arguments that are values.
@@ -112,9 +98,7 @@ fn values(alloc: Global, list: Vec<ReadyExpr>) -> Result<Vec<ReadyArg>, NoMemory
 /// An operator of two operands that isn't `and` or `or`, of which the left one stands at `at`. E41 where what is called on
 /// is contextual, and the refusals of the call.
 pub fn binary(
-    alloc: Global,
-    view: &View<'_>,
-    place: &Place,
+    context: Context<'_>,
     built: &mut Built,
     op: Op,
     one: Receiver,
@@ -123,23 +107,21 @@ pub fn binary(
     pos: Pos,
     expected: Expected,
 ) -> Result<Typed, FrontFault> {
-    let of = one.ty(view, pos)?;
+    let of = one.ty(context.view, pos)?;
     let name = called_name(op);
-    if !is_derived(op) || has_feature(view, of, name) {
-        return called(alloc, view, place, built, one, name, other, pos, expected);
+    if !is_derived(op) || has_feature(context.view, of, name) {
+        return called(context, built, one, name, other, pos, expected);
     }
     if op == Op::Gt {
-        return swapped(alloc, view, built, one, at, other, pos, expected);
+        return swapped(context.view, built, one, at, other, pos, expected);
     }
-    let opposite = opposite(alloc, view, place, built, op, one, at, other, pos)?;
-    negated(alloc, view, place, built, opposite, pos, expected)
+    let opposite = opposite(context, built, op, one, at, other, pos)?;
+    negated(context, built, opposite, pos, expected)
 }
 
 /// The comparison whose opposite `<=`, `>=` or `/=` means.
 fn opposite(
-    alloc: Global,
-    view: &View<'_>,
-    place: &Place,
+    context: Context<'_>,
     built: &mut Built,
     op: Op,
     one: Receiver,
@@ -148,29 +130,9 @@ fn opposite(
     pos: Pos,
 ) -> Result<Typed, FrontFault> {
     match op {
-        Op::Leq => swapped(alloc, view, built, one, at, other, pos, Expected::Value),
-        Op::Geq => called(
-            alloc,
-            view,
-            place,
-            built,
-            one,
-            b"is_lt",
-            other,
-            pos,
-            Expected::Value,
-        ),
-        _ => called(
-            alloc,
-            view,
-            place,
-            built,
-            one,
-            b"is_eq",
-            other,
-            pos,
-            Expected::Value,
-        ),
+        Op::Leq => swapped(context.view, built, one, at, other, pos, Expected::Value),
+        Op::Geq => called(context, built, one, b"is_lt", other, pos, Expected::Value),
+        _ => called(context, built, one, b"is_eq", other, pos, Expected::Value),
     }
 }
 
@@ -189,9 +151,7 @@ fn has_feature(view: &View<'_>, of: u32, name: &[u8]) -> bool {
 
 /// A call with one argument.
 fn called(
-    alloc: Global,
-    view: &View<'_>,
-    place: &Place,
+    context: Context<'_>,
     built: &mut Built,
     on: Receiver,
     name: &[u8],
@@ -199,15 +159,13 @@ fn called(
     pos: Pos,
     expected: Expected,
 ) -> Result<Typed, FrontFault> {
-    let args = only_argument(alloc, arg)?;
-    call(alloc, view, place, built, on, name, args, pos, expected)
+    let args = only_argument(context.view.alloc, arg)?;
+    call(context, built, on, name, args, pos, expected)
 }
 
 /// The call of `not` on a comparison: E33 unless this gives BOOL.
 fn negated(
-    alloc: Global,
-    view: &View<'_>,
-    place: &Place,
+    context: Context<'_>,
     built: &mut Built,
     compared: Typed,
     pos: Pos,
@@ -218,11 +176,9 @@ fn negated(
     }
     let sites = built.sites.len();
     let on = Receiver::Value(compared, sites);
-    let none = Vec::new(alloc);
+    let none = Vec::new(context.view.alloc);
     call(
-        alloc,
-        view,
-        place,
+        context,
         built,
         on,
         called_name(Op::Not),

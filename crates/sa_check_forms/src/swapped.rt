@@ -7,7 +7,6 @@ use sa_core::{CalledCore, ExprCore, Target};
 use sa_overload::ArgIn;
 use sa_tree::{FrontFault, Mode, NoMemory, Pos, Rule, held};
 use sqlite_items::Boxed;
-use std::alloc::Global;
 
 /// The feature that is called.
 const IS_LT: &[u8] = b"is_lt";
@@ -17,7 +16,6 @@ const IS_LT: &[u8] = b"is_lt";
 /// E41 where one of them is contextual, the refusals of the call, where an abstract type of the second operand has no
 /// feature that fits, and E33 unless the called feature gives BOOL.
 pub(crate) fn swapped(
-    alloc: Global,
     view: &View<'_>,
     built: &Built,
     one: Receiver,
@@ -26,13 +24,12 @@ pub(crate) fn swapped(
     pos: Pos,
     expected: Expected,
 ) -> Result<Typed, FrontFault> {
-    let less = less_of(alloc, view, built, &one, &other, expected, pos)?;
-    Ok(call_of(alloc, view, less, one, at, other, pos)?)
+    let less = less_of(view, built, &one, &other, expected, pos)?;
+    Ok(call_of(view, less, one, at, other, pos)?)
 }
 
 /// The `is_lt` that is called on the second operand, where both have a type by themselves.
 fn less_of(
-    alloc: Global,
     view: &View<'_>,
     built: &Built,
     one: &Receiver,
@@ -46,20 +43,11 @@ fn less_of(
     let ReadyExpr::Typed(other, _) = other else {
         return Err(Rule::NoTypeFromContext.at(pos).into());
     };
-    less(
-        alloc,
-        view,
-        built,
-        held(other.ty)?,
-        held(one.ty)?,
-        expected,
-        pos,
-    )
+    less(view, built, held(other.ty)?, held(one.ty)?, expected, pos)
 }
 
 /// The call of `is_lt` on the second operand, with the first as its argument.
 fn call_of(
-    alloc: Global,
     view: &View<'_>,
     less: Comparison,
     one: Receiver,
@@ -68,8 +56,8 @@ fn call_of(
     pos: Pos,
 ) -> Result<Typed, NoMemory> {
     let iter = first_iter(one.iter(), other.iter());
-    let arg = passed_operand(alloc, view, less, one, at)?;
-    let on = Boxed::new(alloc, other.into_core()?)?;
+    let arg = passed_operand(view, less, one, at)?;
+    let on = Boxed::new(view.alloc, other.into_core()?)?;
     Ok(Typed {
         core: ExprCore::Swapped(less.target, arg, on, pos),
         ty: Some(BOOL),
@@ -79,14 +67,13 @@ fn call_of(
 
 /// The first operand as the argument.
 fn passed_operand(
-    alloc: Global,
     view: &View<'_>,
     less: Comparison,
     one: Receiver,
     at: Pos,
 ) -> Result<Boxed<ExprCore>, NoMemory> {
-    let arg = widened(alloc, view, one.into_core()?, less.from, less.param, at)?;
-    Ok(Boxed::new(alloc, arg)?)
+    let arg = widened(view, one.into_core()?, less.from, less.param, at)?;
+    Ok(Boxed::new(view.alloc, arg)?)
 }
 
 /// The `is_lt` of a concrete class that is called.
@@ -101,7 +88,6 @@ struct Comparison {
 
 /// The `is_lt` that is chosen on a type for an argument of another one: E33 unless it gives BOOL.
 fn less(
-    alloc: Global,
     view: &View<'_>,
     built: &Built,
     of: u32,
@@ -112,8 +98,8 @@ fn less(
     if view.program.is_abstract(of) {
         return Err(none_on_abstract(view, of).at(pos).into());
     }
-    let arg = argument(alloc, view, built, from)?;
-    let less = chosen(alloc, view, of, IS_LT, &[arg], expected, pos)?;
+    let arg = argument(view, built, from)?;
+    let less = chosen(view, of, IS_LT, &[arg], expected, pos)?;
     let Some(CalledCore::Static(target, _)) = less.reached.called() else {
         return Err(FrontFault::NoMemory);
     };
@@ -138,11 +124,11 @@ fn none_on_abstract(view: &View<'_>, of: u32) -> Rule {
 }
 
 /// An argument with a type.
-fn argument(alloc: Global, view: &View<'_>, built: &Built, number: u32) -> Result<ArgIn, NoMemory> {
+fn argument(view: &View<'_>, built: &Built, number: u32) -> Result<ArgIn, NoMemory> {
     let ty = held(type_of(view, built, number))?;
     Ok(ArgIn {
         mode: Mode::In,
-        ty: Some(ty.copy(alloc)?),
+        ty: Some(ty.copy(view.alloc)?),
         left: false,
     })
 }

@@ -10,11 +10,9 @@ use sa_check_expr::{
 use sa_core::StmtCore;
 use sa_tree::{Expr, FrontFault, Kind, Name, Part, Pos, Recv, Rule, held};
 use sqlite_items::Boxed;
-use std::alloc::Global;
 
 /// `target := value`, at the position of its sign.
 pub(crate) fn assign(
-    alloc: Global,
     view: &View<'_>,
     draft: &Draft,
     built: &mut Built,
@@ -24,15 +22,15 @@ pub(crate) fn assign(
 ) -> Result<StmtCore, FrontFault> {
     match target {
         Expr::Call(on, name, args, _) if args.is_empty() => {
-            assign_name(alloc, view, draft, built, on, name, value, pos)
+            assign_name(view, draft, built, on, name, value, pos)
         }
         Expr::Index(of, places, _) => {
-            let on = indexed(alloc, view, draft, built, of)?;
-            assign_element(alloc, view, draft, built, on, places.as_slice(), value, pos)
+            let on = indexed(view, draft, built, of)?;
+            assign_element(view, draft, built, on, places.as_slice(), value, pos)
         }
         _ => {
-            let _target = ready(alloc, view, &draft.place, built, target)?;
-            let _value = ready(alloc, view, &draft.place, built, value)?;
+            let _target = ready(view.at(&draft.place), built, target)?;
+            let _value = ready(view.at(&draft.place), built, value)?;
             Err(Rule::NotAssignable.at(pos).into())
         }
     }
@@ -40,7 +38,6 @@ pub(crate) fn assign(
 
 /// What an index is made on.
 fn indexed(
-    alloc: Global,
     view: &View<'_>,
     draft: &Draft,
     built: &mut Built,
@@ -48,13 +45,12 @@ fn indexed(
 ) -> Result<Receiver, FrontFault> {
     match of {
         None => Ok(Receiver::Own),
-        Some(of) => operand(alloc, view, &draft.place, built, of.get()),
+        Some(of) => operand(view.at(&draft.place), built, of.get()),
     }
 }
 
 /// `x := e`, `r.f := e` or `C::f := e`.
 fn assign_name(
-    alloc: Global,
     view: &View<'_>,
     draft: &Draft,
     built: &mut Built,
@@ -64,23 +60,22 @@ fn assign_name(
     pos: Pos,
 ) -> Result<StmtCore, FrontFault> {
     match on {
-        Recv::Implied => assign_implied(alloc, view, draft, built, name, value, pos),
+        Recv::Implied => assign_implied(view, draft, built, name, value, pos),
         Recv::Of(of) => {
             let of = of.get();
-            let on = operand(alloc, view, &draft.place, built, of)?;
+            let on = operand(view.at(&draft.place), built, of)?;
             let changed = variable_named(&draft.place, of);
-            assign_feature(alloc, view, draft, built, on, changed, name, value, pos)
+            assign_feature(view, draft, built, on, changed, name, value, pos)
         }
         Recv::OfClass(ty) => {
             let on = Receiver::Class(held(written(view, ty))?);
-            assign_feature(alloc, view, draft, built, on, None, name, value, pos)
+            assign_feature(view, draft, built, on, None, name, value, pos)
         }
     }
 }
 
 /// `x := e`: a variable, what leaves a loop, or else a call on self.
 fn assign_implied(
-    alloc: Global,
     view: &View<'_>,
     draft: &Draft,
     built: &mut Built,
@@ -89,27 +84,16 @@ fn assign_implied(
     pos: Pos,
 ) -> Result<StmtCore, FrontFault> {
     if let Some(variable) = draft.seen(name) {
-        return assign_variable(alloc, view, draft, built, variable, value, pos);
+        return assign_variable(view, draft, built, variable, value, pos);
     }
     if let Some(exit) = LoopExit::of_name(name) {
-        return leave_assigned(alloc, view, draft, built, exit, value, pos);
+        return leave_assigned(view, draft, built, exit, value, pos);
     }
-    assign_feature(
-        alloc,
-        view,
-        draft,
-        built,
-        Receiver::Own,
-        None,
-        name,
-        value,
-        pos,
-    )
+    assign_feature(view, draft, built, Receiver::Own, None, name, value, pos)
 }
 
 /// `x := e` for a variable: it isn't narrowed, and the value goes to its type.
 fn assign_variable(
-    alloc: Global,
     view: &View<'_>,
     draft: &Draft,
     built: &mut Built,
@@ -118,17 +102,16 @@ fn assign_variable(
     pos: Pos,
 ) -> Result<StmtCore, FrontFault> {
     let ty = variable.ty;
-    let made = typed(alloc, view, &draft.place, built, value, Expected::Type(ty))?;
+    let made = typed(view.at(&draft.place), built, value, Expected::Type(ty))?;
     if variable.narrowed {
         return Err(Rule::TypecaseVariable.at(pos).into());
     }
-    let core = fitting(alloc, view, built, made, ty, position(value), pos)?;
+    let core = fitting(view, built, made, ty, position(value), pos)?;
     Ok(StmtCore::Let(variable.number, core))
 }
 
 /// `r.f := e` is the call `r.f(e)`, but for an attribute of an immutable class.
 fn assign_feature(
-    alloc: Global,
     view: &View<'_>,
     draft: &Draft,
     built: &mut Built,
@@ -138,16 +121,14 @@ fn assign_feature(
     value: &Expr,
     pos: Pos,
 ) -> Result<StmtCore, FrontFault> {
-    let made = ready(alloc, view, &draft.place, built, value)?;
+    let made = ready(view.at(&draft.place), built, value)?;
     if is_attribute_of_immutable(view, &on, name) {
-        return assign_changed(alloc, view, draft, built, on, changed, name, made, pos);
+        return assign_changed(view, draft, built, on, changed, name, made, pos);
     }
-    let args = only_argument(alloc, made)?;
+    let args = only_argument(view.alloc, made)?;
     let name = name.as_slice();
     let done = call(
-        alloc,
-        view,
-        &draft.place,
+        view.at(&draft.place),
         built,
         on,
         name,
@@ -160,7 +141,6 @@ fn assign_feature(
 
 /// `r.f := e` for an attribute of an immutable class: it is `r := r.f(e)`, so r is a variable.
 fn assign_changed(
-    alloc: Global,
     view: &View<'_>,
     draft: &Draft,
     built: &mut Built,
@@ -173,12 +153,10 @@ fn assign_changed(
     let Some(variable) = changed else {
         return Err(Rule::NotAssignable.at(pos).into());
     };
-    let args = only_argument(alloc, value)?;
+    let args = only_argument(view.alloc, value)?;
     let name = name.as_slice();
     let made = call(
-        alloc,
-        view,
-        &draft.place,
+        view.at(&draft.place),
         built,
         on,
         name,
@@ -189,7 +167,7 @@ fn assign_changed(
     if variable.narrowed {
         return Err(Rule::TypecaseVariable.at(pos).into());
     }
-    let core = fitting(alloc, view, built, made, variable.ty, pos, pos)?;
+    let core = fitting(view, built, made, variable.ty, pos, pos)?;
     Ok(StmtCore::Let(variable.number, core))
 }
 
@@ -235,7 +213,6 @@ fn is_attribute(view: &View<'_>, ty: u32, place: u32) -> bool {
 
 /// `r[i] := e` is the call `r.aset(i, e)`.
 fn assign_element(
-    alloc: Global,
     view: &View<'_>,
     draft: &Draft,
     built: &mut Built,
@@ -244,15 +221,13 @@ fn assign_element(
     value: &Expr,
     pos: Pos,
 ) -> Result<StmtCore, FrontFault> {
-    let mut args = Vec::new(alloc);
+    let mut args = Vec::new(view.alloc);
     for e in places {
-        args.push(ReadyArg::Value(ready(alloc, view, &draft.place, built, e)?))?;
+        args.push(ReadyArg::Value(ready(view.at(&draft.place), built, e)?))?;
     }
-    args.push(ReadyArg::Value(ready(alloc, view, &draft.place, built, value)?))?;
+    args.push(ReadyArg::Value(ready(view.at(&draft.place), built, value)?))?;
     let done = call(
-        alloc,
-        view,
-        &draft.place,
+        view.at(&draft.place),
         built,
         on,
         b"aset",

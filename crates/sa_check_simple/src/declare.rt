@@ -15,7 +15,6 @@ pub const MOST_NODES: u32 = 200_000;
 
 /// A declaration, by its names, its type and its initialiser.
 pub(crate) fn declare(
-    alloc: Global,
     view: &View<'_>,
     draft: &mut Draft,
     built: &mut Built,
@@ -29,17 +28,16 @@ pub(crate) fn declare(
     };
     let form = first.pos;
     let Some(ty) = ty else {
-        return declare_by_value(alloc, view, draft, built, names, form, value, cores);
+        return declare_by_value(view, draft, built, names, form, value, cores);
     };
     match value {
-        None => declare_void(alloc, view, draft, names, ty, cores),
-        Some(e) => declare_typed(alloc, view, draft, built, names, form, ty, e, cores),
+        None => declare_void(view, draft, names, ty, cores),
+        Some(e) => declare_typed(view, draft, built, names, form, ty, e, cores),
     }
 }
 
 /// `x, y:T`: each is void of its type, each time that the statement is done.
 fn declare_void(
-    alloc: Global,
     view: &View<'_>,
     draft: &mut Draft,
     names: &[Local],
@@ -48,7 +46,7 @@ fn declare_void(
 ) -> Result<(), FrontFault> {
     let ty = held(written(view, ty))?;
     for local in names {
-        let number = draft.declare(alloc, local, ty)?;
+        let number = draft.declare(view.alloc, local, ty)?;
         cores.push(StmtCore::Let(number, ExprCore::VoidOf(ty)))?;
     }
     Ok(())
@@ -56,7 +54,6 @@ fn declare_void(
 
 /// `x, y:T := e`. The names aren't seen in the initialiser, which stands once for each of them.
 fn declare_typed(
-    alloc: Global,
     view: &View<'_>,
     draft: &mut Draft,
     built: &mut Built,
@@ -67,15 +64,14 @@ fn declare_typed(
     cores: &mut Items<StmtCore>,
 ) -> Result<(), FrontFault> {
     let ty = held(written(view, ty))?;
-    let value = typed(alloc, view, &draft.place, built, e, Expected::Type(ty))?;
-    let numbers = declare_names(alloc, draft, names, ty)?;
-    let core = fitting(alloc, view, built, value, ty, position(e), form)?;
-    let_each(alloc, draft, numbers, core, cores)
+    let value = typed(view.at(&draft.place), built, e, Expected::Type(ty))?;
+    let numbers = declare_names(view.alloc, draft, names, ty)?;
+    let core = fitting(view, built, value, ty, position(e), form)?;
+    let_each(view.alloc, draft, numbers, core, cores)
 }
 
 /// `x ::= e`: the variable has the type of the initialiser.
 fn declare_by_value(
-    alloc: Global,
     view: &View<'_>,
     draft: &mut Draft,
     built: &mut Built,
@@ -87,10 +83,10 @@ fn declare_by_value(
     let Some(e) = value else {
         return Ok(());
     };
-    let value = untyped_value(alloc, view, &draft.place, built, e, form)?;
+    let value = untyped_value(view.at(&draft.place), built, e, form)?;
     let ty = held(value.ty)?;
-    let numbers = declare_names(alloc, draft, names, ty)?;
-    let_each(alloc, draft, numbers, value.core, cores)
+    let numbers = declare_names(view.alloc, draft, names, ty)?;
+    let_each(view.alloc, draft, numbers, value.core, cores)
 }
 
 /// Declares the names as variables of a type, and gives their numbers.

@@ -6,11 +6,9 @@ use crate::value::fitting;
 use sa_check_expr::{Built, Expected, Typed, View, position, ready, typed};
 use sa_core::{ExprCore, StmtCore};
 use sa_tree::{Expr, FrontFault, Pos, Rule};
-use std::alloc::Global;
 
 /// `return` and `return e`, in a routine alone.
 pub(crate) fn return_value(
-    alloc: Global,
     view: &View<'_>,
     draft: &Draft,
     built: &mut Built,
@@ -22,15 +20,14 @@ pub(crate) fn return_value(
         gives_none(draft, pos)?;
         return Ok(StmtCore::Return(None));
     };
-    let made = result_value(alloc, view, draft, built, e)?;
+    let made = result_value(view, draft, built, e)?;
     in_routine(draft, pos)?;
-    let core = given_back(alloc, view, draft, built, made, position(e), pos)?;
+    let core = given_back(view, draft, built, made, position(e), pos)?;
     Ok(StmtCore::Return(Some(core)))
 }
 
 /// `yield` and `yield e`, in an iter alone, and in no protect.
 pub(crate) fn yield_value(
-    alloc: Global,
     view: &View<'_>,
     draft: &Draft,
     built: &mut Built,
@@ -42,9 +39,9 @@ pub(crate) fn yield_value(
         gives_none(draft, pos)?;
         return Ok(StmtCore::Yield(None));
     };
-    let made = result_value(alloc, view, draft, built, e)?;
+    let made = result_value(view, draft, built, e)?;
     in_iter(draft, pos)?;
-    let core = given_back(alloc, view, draft, built, made, position(e), pos)?;
+    let core = given_back(view, draft, built, made, position(e), pos)?;
     Ok(StmtCore::Yield(Some(core)))
 }
 
@@ -67,23 +64,21 @@ fn gives_none(draft: &Draft, pos: Pos) -> Result<(), FrontFault> {
 /// The expression that is given back, whose place expects the type of the feature's result. Where the feature has none, it
 /// expects no type, and what is typed isn't kept: the form is refused after it.
 fn result_value(
-    alloc: Global,
     view: &View<'_>,
     draft: &Draft,
     built: &mut Built,
     e: &Expr,
 ) -> Result<Option<Typed>, FrontFault> {
     let Some(ty) = draft.result else {
-        let _e = ready(alloc, view, &draft.place, built, e)?;
+        let _e = ready(view.at(&draft.place), built, e)?;
         return Ok(None);
     };
-    let made = typed(alloc, view, &draft.place, built, e, Expected::Type(ty))?;
+    let made = typed(view.at(&draft.place), built, e, Expected::Type(ty))?;
     Ok(Some(made))
 }
 
 /// The value of the expression at a position, which has a subtype of the type of the feature's result.
 fn given_back(
-    alloc: Global,
     view: &View<'_>,
     draft: &Draft,
     built: &Built,
@@ -97,5 +92,5 @@ fn given_back(
     let Some(ty) = draft.result else {
         return Err(Rule::WrongType.at(form).into());
     };
-    fitting(alloc, view, built, made, ty, at, form)
+    fitting(view, built, made, ty, at, form)
 }

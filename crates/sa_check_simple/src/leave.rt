@@ -31,33 +31,31 @@ pub(crate) fn in_iter(draft: &Draft, pos: Pos) -> Result<(), FrontFault> {
 
 /// `raise e`, whose value goes to `$OB`.
 pub(crate) fn raise(
-    alloc: Global,
     view: &View<'_>,
     draft: &Draft,
     built: &mut Built,
     e: &Expr,
     pos: Pos,
 ) -> Result<StmtCore, FrontFault> {
-    let value = untyped_value(alloc, view, &draft.place, built, e, pos)?;
+    let value = untyped_value(view.at(&draft.place), built, e, pos)?;
     let ty = held(value.ty)?;
-    let core = widened(alloc, view, value.core, ty, OB, position(e))?;
+    let core = widened(view, value.core, ty, OB, position(e))?;
     Ok(StmtCore::Raise(core, pos))
 }
 
 /// `assert e`: the program stops where the test is false.
 pub(crate) fn assert_true(
-    alloc: Global,
     view: &View<'_>,
     draft: &Draft,
     built: &mut Built,
     e: &Expr,
     pos: Pos,
 ) -> Result<StmtCore, FrontFault> {
-    let test = test(alloc, view, &draft.place, built, e)?;
+    let test = test(view.at(&draft.place), built, e)?;
     if test.ty != Some(BOOL) {
         return Err(Rule::WrongType.at(pos).into());
     }
-    asserted(alloc, test.core, pos)
+    asserted(view.alloc, test.core, pos)
 }
 
 /// Nothing where a test is true, and else a stop.
@@ -71,20 +69,19 @@ fn asserted(alloc: Global, test: ExprCore, pos: Pos) -> Result<StmtCore, FrontFa
 
 /// An expression as a statement: a call, an index, `#` or an operator other than `and` and `or`, without a result.
 pub(crate) fn expression(
-    alloc: Global,
     view: &View<'_>,
     draft: &Draft,
     built: &mut Built,
     e: &Expr,
 ) -> Result<StmtCore, FrontFault> {
-    if let Some(left) = leave(alloc, view, &draft.place, built, e)? {
+    if let Some(left) = leave(view.at(&draft.place), built, e)? {
         return Ok(left);
     }
     if !can_stand_alone(draft, e) {
-        parts(alloc, view, &draft.place, built, e)?;
+        parts(view.at(&draft.place), built, e)?;
         return Err(Rule::WrongType.at(position(e)).into());
     }
-    let made = typed(alloc, view, &draft.place, built, e, Expected::Nothing)?;
+    let made = typed(view.at(&draft.place), built, e, Expected::Nothing)?;
     Ok(StmtCore::Do(made.core))
 }
 
@@ -103,7 +100,6 @@ fn can_stand_alone(draft: &Draft, e: &Expr) -> bool {
 
 /// `while! := b`, which is `while!(b)`.
 pub(crate) fn leave_assigned(
-    alloc: Global,
     view: &View<'_>,
     draft: &Draft,
     built: &mut Built,
@@ -111,7 +107,7 @@ pub(crate) fn leave_assigned(
     value: &Expr,
     pos: Pos,
 ) -> Result<StmtCore, FrontFault> {
-    let value = ready(alloc, view, &draft.place, built, value)?;
-    let args = only_argument(alloc, value)?;
-    leave_form(alloc, view, &draft.place, built, exit, args, pos)
+    let value = ready(view.at(&draft.place), built, value)?;
+    let args = only_argument(view.alloc, value)?;
+    leave_form(view.at(&draft.place), built, exit, args, pos)
 }

@@ -1,7 +1,7 @@
 //! The expressions of a statement: those that expect a type, and those that go to one.
 
 use sa_check_expr::{
-    Built, Expected, Place, ReadyExpr, Typed, View, is_sub, ready, typed, widened,
+    Built, Context, Expected, ReadyExpr, Typed, View, is_sub, ready, typed, widened,
 };
 use sa_check_program::BOOL;
 use sa_core::{ExprCore, StmtCore, TestCore};
@@ -12,14 +12,12 @@ use std::alloc::Global;
 /// An expression whose place expects a result and no type. A contextual one is refused, as the form at a position, once the
 /// expressions in it are typed.
 pub(crate) fn untyped_value(
-    alloc: Global,
-    view: &View<'_>,
-    place: &Place,
+    context: Context<'_>,
     built: &mut Built,
     e: &Expr,
     form: Pos,
 ) -> Result<Typed, FrontFault> {
-    with_type(ready(alloc, view, place, built, e)?, form)
+    with_type(ready(context, built, e)?, form)
 }
 
 /// An expression that has a type by itself.
@@ -39,14 +37,8 @@ pub fn with_type(value: ReadyExpr, form: Pos) -> Result<Typed, FrontFault> {
 /// # Errors
 ///
 /// The first refusal by the rules of expressions; `NoMemory`.
-pub fn test(
-    alloc: Global,
-    view: &View<'_>,
-    place: &Place,
-    built: &mut Built,
-    e: &Expr,
-) -> Result<Typed, FrontFault> {
-    typed(alloc, view, place, built, e, Expected::Type(BOOL))
+pub fn test(context: Context<'_>, built: &mut Built, e: &Expr) -> Result<Typed, FrontFault> {
+    typed(context, built, e, Expected::Type(BOOL))
 }
 
 /// The value of an expression, which stands at a position, where a type is expected.
@@ -55,7 +47,6 @@ pub fn test(
 ///
 /// E33, as the form at the other position, unless the expression has a subtype of this type; `NoMemory`.
 pub fn fitting(
-    alloc: Global,
     view: &View<'_>,
     built: &Built,
     value: Typed,
@@ -67,7 +58,7 @@ pub fn fitting(
     if !is_sub(view, built, from, to) {
         return Err(Rule::WrongType.at(form).into());
     }
-    Ok(widened(alloc, view, value.core, from, to, at)?)
+    Ok(widened(view, value.core, from, to, at)?)
 }
 
 /// A test with its statements. It fails only where memory runs out.

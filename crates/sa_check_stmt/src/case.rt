@@ -35,14 +35,13 @@ pub(crate) struct TypedArm {
 
 /// The value of a `case`, whose variable is made before its arms are typed.
 pub(crate) fn case_subject(
-    alloc: Global,
     view: &View<'_>,
     draft: &mut Draft,
     built: &mut Built,
     tested: &Expr,
     pos: Pos,
 ) -> Result<Subject, FrontFault> {
-    let value = ready(alloc, view, &draft.place, built, tested)?;
+    let value = ready(view.at(&draft.place), built, tested)?;
     let ty = value_type(&value)?;
     let number = draft.variable(ty)?;
     let variable = Held { ty, number, pos };
@@ -60,15 +59,14 @@ fn value_type(value: &ReadyExpr) -> Result<u32, NoMemory> {
 /// The arms of a `case`.
 #[cycle(statement)]
 pub(crate) fn case_arms(
-    alloc: Global,
     view: &View<'_>,
     draft: &mut Draft,
     built: &mut Built,
     arms: &[CaseArm],
 ) -> Result<Vec<TypedArm>, FrontFault> {
-    let mut typed_arms = Vec::new(alloc);
+    let mut typed_arms = Vec::new(view.alloc);
     for arm in arms {
-        typed_arms.push(case_arm(alloc, view, draft, built, arm)?)?;
+        typed_arms.push(case_arm(view, draft, built, arm)?)?;
     }
     Ok(typed_arms)
 }
@@ -76,20 +74,18 @@ pub(crate) fn case_arms(
 /// An arm of a `case`.
 #[cycle(statement)]
 fn case_arm(
-    alloc: Global,
     view: &View<'_>,
     draft: &mut Draft,
     built: &mut Built,
     arm: &CaseArm,
 ) -> Result<TypedArm, FrontFault> {
-    let values = ready_all(alloc, view, &draft.place, built, arm.values.as_slice())?;
-    let body = statements(alloc, view, draft, built, arm.body.as_slice())?;
+    let values = ready_all(view.at(&draft.place), built, arm.values.as_slice())?;
+    let body = statements(view, draft, built, arm.body.as_slice())?;
     Ok(TypedArm { values, body })
 }
 
 /// The `case` of its parts, put at the end of the list.
 pub(crate) fn case_cores(
-    alloc: Global,
     view: &View<'_>,
     draft: &Draft,
     built: &mut Built,
@@ -100,8 +96,8 @@ pub(crate) fn case_cores(
 ) -> Result<(), FrontFault> {
     let Subject { value, variable } = subject;
     let value = with_type(value, variable.pos)?;
-    let tests = tested_arms(alloc, view, draft, built, variable, arms)?;
-    let rest = otherwise(alloc, rest, variable.pos)?;
+    let tests = tested_arms(view, draft, built, variable, arms)?;
+    let rest = otherwise(view.alloc, rest, variable.pos)?;
     cores.push(StmtCore::Let(variable.number, value.core))?;
     cores.push(StmtCore::If(tests, rest))?;
     Ok(())
@@ -123,23 +119,21 @@ fn otherwise(
 
 /// The arms with their tests.
 fn tested_arms(
-    alloc: Global,
     view: &View<'_>,
     draft: &Draft,
     built: &mut Built,
     variable: Held,
     arms: Vec<TypedArm>,
 ) -> Result<Items<TestCore>, FrontFault> {
-    let mut entries = Items::new(alloc);
+    let mut entries = Items::new(view.alloc);
     for arm in arms {
-        entries.push(tested_arm(alloc, view, draft, built, variable, arm)?)?;
+        entries.push(tested_arm(view, draft, built, variable, arm)?)?;
     }
     Ok(entries)
 }
 
 /// An arm with its tests.
 fn tested_arm(
-    alloc: Global,
     view: &View<'_>,
     draft: &Draft,
     built: &mut Built,
@@ -147,29 +141,27 @@ fn tested_arm(
     arm: TypedArm,
 ) -> Result<TestCore, FrontFault> {
     let TypedArm { values, body } = arm;
-    let tests = comparisons(alloc, view, draft, built, variable, values)?;
+    let tests = comparisons(view, draft, built, variable, values)?;
     Ok(TestCore { tests, body })
 }
 
 /// The tests of an arm.
 fn comparisons(
-    alloc: Global,
     view: &View<'_>,
     draft: &Draft,
     built: &mut Built,
     variable: Held,
     values: Vec<ReadyExpr>,
 ) -> Result<Items<ExprCore>, FrontFault> {
-    let mut tests = Items::new(alloc);
+    let mut tests = Items::new(view.alloc);
     for value in values {
-        tests.push(comparison(alloc, view, draft, built, variable, value)?)?;
+        tests.push(comparison(view, draft, built, variable, value)?)?;
     }
     Ok(tests)
 }
 
 /// The call of `is_eq` on the variable with a value: E33 unless it gives a BOOL.
 fn comparison(
-    alloc: Global,
     view: &View<'_>,
     draft: &Draft,
     built: &mut Built,
@@ -177,12 +169,10 @@ fn comparison(
     value: ReadyExpr,
 ) -> Result<ExprCore, FrontFault> {
     let on = variable_receiver(variable, built.sites.len());
-    let args = only_argument(alloc, value)?;
+    let args = only_argument(view.alloc, value)?;
     let pos = variable.pos;
     let test = call(
-        alloc,
-        view,
-        &draft.place,
+        view.at(&draft.place),
         built,
         on,
         b"is_eq",
