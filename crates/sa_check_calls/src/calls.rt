@@ -4,7 +4,7 @@ use crate::constant::constant;
 use crate::iter::{innermost_loop, is_iter_name, iter_call};
 use crate::leaving::LoopExit;
 use crate::passing::{PassedArgs, passed, seen_arguments};
-use crate::ready::ReadyArg;
+use crate::ready::{ReadyArg, ReadyExpr, only_argument};
 use crate::receiver::Receiver;
 use sa_check_choice::{
     Built, ChosenFeature, Context, Expected, Reached, Typed, View, bound_callee, bound_name,
@@ -15,34 +15,67 @@ use sa_tree::{FrontFault, Name, NoMemory, Pos, Recv, Rule};
 use sqlite_items::Boxed;
 use std::alloc::Global;
 
-/// A call by name that is no variable, made on `on`, with what stands inside it typed. `while!`, `until!` and `break!` give no result, so that as expressions they are
-/// refused: E35, E38, E31.
+/// A call by name, with what it is made on and its arguments typed. It stands at `pos`.
+#[derive(Drop)]
+pub struct Call<'n> {
+    pub on: Receiver,
+    pub name: &'n [u8],
+    pub args: Vec<ReadyArg>,
+    pub pos: Pos,
+}
+
+impl<'n> Call<'n> {
+    /// A call with a value as its only argument. It fails only where memory runs out.
+    pub fn with_value(
+        alloc: Global,
+        on: Receiver,
+        name: &'n [u8],
+        value: ReadyExpr,
+        pos: Pos,
+    ) -> Result<Call<'n>, NoMemory> {
+        Ok(Call {
+            on,
+            name,
+            args: only_argument(alloc, value)?,
+            pos,
+        })
+    }
+}
+
+/// What is written of a call by name: what it is made on, the name, and its position.
+#[derive(Clone, Copy)]
+pub struct CallHead<'e> {
+    pub on: &'e Recv,
+    pub name: &'e Name,
+    pub pos: Pos,
+}
+
+/// A call by name that is no variable, with what stands inside it typed. `while!`, `until!` and `break!` give no result, so
+/// that as expressions they are refused: E35, E38, E31.
 pub fn call_form(
     context: Context<'_>,
     built: &mut Built,
-    on: &Recv,
-    name: &Name,
-    receiver: Receiver,
+    head: CallHead<'_>,
+    on: Receiver,
     args: Vec<ReadyArg>,
-    pos: Pos,
     expected: Expected,
 ) -> Result<Typed, FrontFault> {
-    if LoopExit::of_call(on, name).is_some() {
+    let pos = head.pos;
+    if LoopExit::of_call(head.on, head.name).is_some() {
         innermost_loop(context.place, pos)?;
         return Err(Rule::NoFeatureFits.at(pos).into());
     }
-    call(
-        context,
-        built,
-        receiver,
-        name.as_slice(),
+    let name = head.name.as_slice();
+    let form = Call {
+        on,
+        name,
         args,
         pos,
-        expected,
-    )
+    };
+    call(context, built, form, expected)
 }
 
-/// A call by name, at a place that expects a result or none. It is refused at `pos`:
+/// A call by name, at a place that expects a result or none. It is refused at its position:
 ///
 /// - E35, E38: an iter call stands outside a loop, or a protect stands between it and its loop.
 /// - E41: what it is made on is contextual. E12: it is made on a class that isn't concrete.
@@ -54,34 +87,34 @@ pub fn call_form(
 pub fn call(
     context: Context<'_>,
     built: &mut Built,
-    on: Receiver,
-    name: &[u8],
-    args: Vec<ReadyArg>,
-    pos: Pos,
+    form: Call<'_>,
     expected: Expected,
 ) -> Result<Typed, FrontFault> {
-    if is_iter_name(name) {
-        return iter_call(context, built, on, name, args, pos, expected);
+    if is_iter_name(form.name) {
+        return iter_call(context, built, form, expected);
     }
-    plain_call(context.view, built, on, name, args, pos, expected)
+    plain_call(context.view, built, form, expected)
 }
 
 /// A call that is no iter call.
 fn plain_call(
     view: &View<'_>,
     built: &mut Built,
-    on: Receiver,
-    name: &[u8],
-    args: Vec<ReadyArg>,
-    pos: Pos,
+    form: Call<'_>,
     expected: Expected,
 ) -> Result<Typed, FrontFault> {
-    let callee = callee(view, built, &on, name, args.as_slice(), pos, expected)?;
+    let callee = callee(view, built, &form, expected)?;
     let ChosenFeature {
         reached,
         params,
         result: ty,
     } = callee;
+    let Call {
+        on,
+        name: _name,
+        args,
+        pos,
+    } = form;
     match reached {
         Reached::Value(value) => Ok(constant(built, on, value, ty)),
         Reached::Called(called) => {
@@ -119,18 +152,16 @@ pub(crate) fn called_value(
 pub(crate) fn callee(
     view: &View<'_>,
     built: &Built,
-    on: &Receiver,
-    name: &[u8],
-    args: &[ReadyArg],
-    pos: Pos,
+    form: &Call<'_>,
     expected: Expected,
 ) -> Result<ChosenFeature, FrontFault> {
-    let of = on.ty(view, pos)?;
-    let seen = seen_arguments(view, built, args)?;
-    let Some(word) = value_name(view, built, on, of) else {
-        return chosen(view, of, name, seen.as_slice(), expected, pos);
+    let pos = form.pos;
+    let of = form.on.ty(view, pos)?;
+    let seen = seen_arguments(view, built, form.args.as_slice())?;
+    let Some(word) = value_name(view, built, &form.on, of) else {
+        return chosen(view, of, form.name, seen.as_slice(), expected, pos);
     };
-    if name != word {
+    if form.name != word {
         return Err(Rule::UnknownName.at(pos).into());
     }
     bound_callee(view, built, of, seen.as_slice(), pos, expected)

@@ -10,7 +10,7 @@ mod ready;
 mod receiver;
 mod settle;
 
-pub use calls::{call, call_form};
+pub use calls::{Call, CallHead, call, call_form};
 pub use iter::is_iter_name;
 pub use leaving::{LoopExit, leave_form};
 pub use passing::{PassedArgs, passed, seen_arguments};

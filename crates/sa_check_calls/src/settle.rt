@@ -1,6 +1,6 @@
 //! Contextual forms at the type that their place expects.
 
-use crate::calls::{called_value, callee};
+use crate::calls::{Call, called_value, callee};
 use crate::passing::{PassedArgs, passed};
 use crate::ready::{ReadyArg, ReadyExpr};
 use crate::receiver::Receiver;
@@ -53,16 +53,19 @@ fn create(
     expected: Expected,
     pos: Pos,
 ) -> Result<Typed, FrontFault> {
-    let on = created(view, expected);
-    let callee = callee(
-        view,
-        built,
-        &on,
-        b"create",
-        args.as_slice(),
+    let form = Call {
+        on: created(view, expected),
+        name: b"create",
+        args,
         pos,
-        Expected::Value,
-    )?;
+    };
+    let callee = callee(view, built, &form, Expected::Value)?;
+    let Call {
+        on,
+        name: _name,
+        args,
+        pos,
+    } = form;
     let passed = passed(view, built, args, callee.params.as_slice(), pos)?;
     Ok(made(view.alloc, callee, on, passed, pos)?)
 }

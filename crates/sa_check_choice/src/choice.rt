@@ -38,8 +38,8 @@ pub fn chosen(
     expected: Expected,
     pos: Pos,
 ) -> Result<ChosenFeature, FrontFault> {
-    let call = Call::new(view, of, name, pos)?;
-    let candidate = call.choice(view, args, expected, pos)?;
+    let candidates = Candidates::new(view, of, name, pos)?;
+    let candidate = candidates.choice(view, args, expected, pos)?;
     Ok(described_choice(view, of, candidate)?)
 }
 
@@ -52,9 +52,9 @@ pub fn bound_candidate(
     args: &[ArgIn],
     pos: Pos,
 ) -> Result<Candidate, FrontFault> {
-    let call = Call::new(view, of, name, pos)?;
-    let expected = call.result_expected(view, args);
-    call.choice(view, args, expected, pos)
+    let candidates = Candidates::new(view, of, name, pos)?;
+    let expected = candidates.result_expected(view, args);
+    candidates.choice(view, args, expected, pos)
 }
 
 /// What is reached by a call on a type that has chosen a candidate.
@@ -78,16 +78,16 @@ pub fn described_choice(
 
 /// The candidates of a call, by their places and as the choice sees them.
 #[derive(Drop)]
-struct Call {
+struct Candidates {
     candidates: Items<Candidate>,
     described: Items<Cand>,
 }
 
-impl Call {
-    fn new(view: &View<'_>, of: u32, name: &[u8], pos: Pos) -> Result<Call, FrontFault> {
+impl Candidates {
+    fn new(view: &View<'_>, of: u32, name: &[u8], pos: Pos) -> Result<Candidates, FrontFault> {
         let candidates = candidates(view, of, name, pos)?;
         let described = described(view, candidates.as_slice())?;
-        Ok(Call {
+        Ok(Candidates {
             candidates,
             described,
         })

@@ -1,13 +1,13 @@
 //! The row of a form with what stands inside it, typed or refused: of several refusals inside the first one counts.
 
-use sa_check_calls::{ReadyArg, ReadyExpr, Receiver, call_form, settled};
+use sa_check_calls::{CallHead, ReadyArg, ReadyExpr, Receiver, call_form, settled};
 use sa_check_choice::{
     Built, Context, Expected, Typed, View, character, exception, int, me, text, truth, written,
 };
 use sa_check_forms::{
-    binary, bind_form, connected, create, index, is_void, new_array, new_object, unary,
+    Operation, binary, bind_form, connected, create, index, is_void, new_array, new_object, unary,
 };
-use sa_tree::{Expr, FrontFault, Name, Op, Pos, Recv, Ty};
+use sa_tree::{Expr, FrontFault, Op, Pos, Ty};
 use std::alloc::Global;
 
 /// What the typing of a part of a form gave.
@@ -90,14 +90,12 @@ pub(crate) fn array(
 pub(crate) fn called(
     context: Context<'_>,
     built: &mut Built,
-    on: &Recv,
-    name: &Name,
+    head: CallHead<'_>,
     receiver: Inside<Receiver>,
     args: Inside<Vec<ReadyArg>>,
-    pos: Pos,
     expected: Expected,
 ) -> Result<Typed, FrontFault> {
-    call_form(context, built, on, name, receiver?, args?, pos, expected)
+    call_form(context, built, head, receiver?, args?, expected)
 }
 
 /// `and` and `or`
@@ -111,18 +109,16 @@ pub(crate) fn joined(
     connected(alloc, op, left?, right?, pos)
 }
 
-/// Another operator of two operands, of which the left one stands at `at`.
+/// Another operator of two operands.
 pub(crate) fn operated(
     context: Context<'_>,
     built: &mut Built,
-    op: Op,
+    operation: Operation,
     left: Inside<Receiver>,
-    at: Pos,
     right: Inside<ReadyExpr>,
-    pos: Pos,
     expected: Expected,
 ) -> Result<Typed, FrontFault> {
-    binary(context, built, op, left?, at, right?, pos, expected)
+    binary(context, built, operation, left?, right?, expected)
 }
 
 /// `-` and `~` in front of an operand.
@@ -154,12 +150,11 @@ pub(crate) fn bound(
     context: Context<'_>,
     built: &mut Built,
     head: &Expr,
-    name: &Name,
     receiver: Inside<Receiver>,
     args: Inside<Vec<ReadyArg>>,
     pos: Pos,
 ) -> Result<Typed, FrontFault> {
-    bind_form(context, built, head, name, receiver?, args?, pos)
+    bind_form(context, built, head, receiver?, args?, pos)
 }
 
 /// That a part is typed.

@@ -14,7 +14,7 @@ pub use part::parts;
 pub use receiver::operand;
 pub use rows::typed;
 pub use sa_check_calls::{
-    LoopExit, ReadyArg, ReadyExpr, Receiver, call, is_iter_name, leave_form, only_argument,
+    Call, LoopExit, ReadyArg, ReadyExpr, Receiver, call, is_iter_name, leave_form, only_argument,
 };
 pub use sa_check_choice::{
     Built, Context, Expected, Place, Typed, Variable, View, is_sub, position, variable_named,

@@ -8,8 +8,9 @@ use crate::inside::{
 };
 use crate::part::parts;
 use crate::receiver::{operand, receiver_of};
-use sa_check_calls::Receiver;
+use sa_check_calls::{CallHead, Receiver};
 use sa_check_choice::{Built, Context, Expected, Typed, position, variable_named, variable_value};
+use sa_check_forms::Operation;
 use sa_check_program::{BOOL, INT};
 use sa_tree::{Expr, FrontFault, Op, Pos, Rule};
 
@@ -18,8 +19,8 @@ fn is_of_bool(op: Op) -> bool {
     op == Op::And || op == Op::Or
 }
 
-/// Types an expression, of which its place expects this. The sites of its iter calls and the bound types of its binds are put into `built`, which may
-/// have grown where it is refused.
+/// Types an expression, of which its place expects this. The sites of its iter calls and the bound types of its binds are put
+/// into `built`, which may have grown where it is refused.
 #[cycle(typed)]
 pub fn typed(
     context: Context<'_>,
@@ -54,7 +55,9 @@ pub fn typed(
             }
             let receiver = receiver_of(context, built, on);
             let args = arguments(context, built, args.as_slice(), GivenTo::Call);
-            called(context, built, on, name, receiver, args, *pos, expected)
+            let pos = *pos;
+            let head = CallHead { on, name, pos };
+            called(context, built, head, receiver, args, expected)
         }
         Expr::Binary(op, one, other, pos) => {
             let (one, other) = (one.get(), other.get());
@@ -65,8 +68,12 @@ pub fn typed(
             }
             let left = operand(context, built, one);
             let right = ready(context, built, other);
-            let at = position(one);
-            operated(context, built, *op, left, at, right, *pos, expected)
+            let operation = Operation {
+                op: *op,
+                left: position(one),
+                pos: *pos,
+            };
+            operated(context, built, operation, left, right, expected)
         }
         Expr::Unary(op, of, pos) => {
             let of = operand(context, built, of.get());
@@ -96,10 +103,10 @@ fn bind(
     pos: Pos,
 ) -> Result<Typed, FrontFault> {
     match head {
-        Expr::Call(on, name, args, _) => {
+        Expr::Call(on, _, args, _) => {
             let receiver = receiver_of(context, built, on);
             let args = arguments(context, built, args.as_slice(), GivenTo::BindHead);
-            bound(context, built, head, name, receiver, args, pos)
+            bound(context, built, head, receiver, args, pos)
         }
         _ => {
             parts(context, built, head)?;

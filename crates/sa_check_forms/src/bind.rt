@@ -1,7 +1,7 @@
 //! Binds: a call some of whose arguments are given later.
 
 use sa_check_calls::{
-    LoopExit, PassedArgs, ReadyArg, Receiver, is_iter_name, passed, seen_arguments,
+    Call, LoopExit, PassedArgs, ReadyArg, Receiver, is_iter_name, passed, seen_arguments,
 };
 use sa_check_choice::{
     Built, Candidate, Context, Place, Typed, View, bound_candidate, described_choice, description,
@@ -9,13 +9,13 @@ use sa_check_choice::{
 };
 use sa_core::{CalledCore, ExprCore};
 use sa_overload::Cand;
-use sa_tree::{Expr, FrontFault, ModeTy, Name, NoMemory, Pos, Rule, Ty, held};
+use sa_tree::{Expr, FrontFault, ModeTy, NoMemory, Pos, Rule, Ty, held};
 use sqlite_items::{Boxed, Items};
 use std::alloc::Global;
 
-/// `bind(..)` of a head that is a call by name, with what stands inside it typed. It is refused at `pos` with E45:
+/// `bind(..)` of a head with what stands inside it typed. It is refused at `pos` with E45:
 ///
-/// - unless the head isn't a variable, `call`, `call!` or a built-in iter;
+/// - unless the head is a call by name that isn't a variable, `call`, `call!` or a built-in iter;
 /// - if an argument of the head is `out` or `inout`;
 /// - if what the head chooses is a const.
 ///
@@ -24,33 +24,39 @@ pub fn bind_form(
     context: Context<'_>,
     built: &mut Built,
     head: &Expr,
-    name: &Name,
-    receiver: Receiver,
+    on: Receiver,
     args: Vec<ReadyArg>,
     pos: Pos,
 ) -> Result<Typed, FrontFault> {
-    if !is_bindable(context.place, head) || writes(args.as_slice()) {
+    let Some(name) = bindable_name(context.place, head) else {
+        return Err(Rule::BadBind.at(pos).into());
+    };
+    if writes(args.as_slice()) {
         return Err(Rule::BadBind.at(pos).into());
     }
-    bind(
-        context.view,
-        built,
-        receiver,
-        name.as_slice(),
+    let form = Call {
+        on,
+        name,
         args,
-        position(head),
-        pos,
-    )
+        pos: position(head),
+    };
+    bind(context.view, built, form, pos)
 }
 
-/// Whether a head is a call by name that can be bound: it isn't a variable, `call`, `call!`, `while!`, `until!` or `break!`.
-fn is_bindable(place: &Place, head: &Expr) -> bool {
+/// The name of a head that is a call by name and can be bound: it isn't a variable, `call`, `call!`, `while!`, `until!` or
+/// `break!`.
+fn bindable_name<'e>(place: &Place, head: &'e Expr) -> Option<&'e [u8]> {
     let Expr::Call(on, name, _, _) = head else {
-        return false;
+        return None;
     };
-    variable_named(place, head).is_none()
-        && LoopExit::of_call(on, name).is_none()
-        && !matches!(name.as_slice(), b"call" | b"call!")
+    let word = name.as_slice();
+    if variable_named(place, head).is_some()
+        || LoopExit::of_call(on, name).is_some()
+        || matches!(word, b"call" | b"call!")
+    {
+        return None;
+    }
+    Some(word)
 }
 
 /// Whether the call writes a variable.
@@ -68,17 +74,15 @@ struct Head {
     ty: u32,
 }
 
-/// The bound value of a head that stands at `at`.
-fn bind(
-    view: &View<'_>,
-    built: &mut Built,
-    on: Receiver,
-    name: &[u8],
-    args: Vec<ReadyArg>,
-    at: Pos,
-    pos: Pos,
-) -> Result<Typed, FrontFault> {
-    let head = head_of(view, built, &on, name, args.as_slice(), at, pos)?;
+/// The bound value of a head.
+fn bind(view: &View<'_>, built: &mut Built, form: Call<'_>, pos: Pos) -> Result<Typed, FrontFault> {
+    let head = head_of(view, built, &form, pos)?;
+    let Call {
+        on,
+        name: _name,
+        args,
+        pos: at,
+    } = form;
     let passed = head_passed(view, built, head, args, at)?;
     Ok(bound_value(view.alloc, head, on, passed, pos)?)
 }
@@ -87,18 +91,15 @@ fn bind(
 fn head_of(
     view: &View<'_>,
     built: &mut Built,
-    on: &Receiver,
-    name: &[u8],
-    args: &[ReadyArg],
-    at: Pos,
+    form: &Call<'_>,
     pos: Pos,
 ) -> Result<Head, FrontFault> {
-    let of = on.ty(view, at)?;
-    let candidate = head_candidate(view, built, of, name, args, at)?;
+    let of = form.on.ty(view, form.pos)?;
+    let candidate = head_candidate(view, built, of, form)?;
     let Some(called) = head_called(view, of, candidate)? else {
         return Err(Rule::BadBind.at(pos).into());
     };
-    let ty = bound_number(view, built, name, args, candidate, pos)?;
+    let ty = bound_number(view, built, form, candidate, pos)?;
     Ok(Head {
         of,
         candidate,
@@ -112,12 +113,10 @@ fn head_candidate(
     view: &View<'_>,
     built: &Built,
     of: u32,
-    name: &[u8],
-    args: &[ReadyArg],
-    at: Pos,
+    form: &Call<'_>,
 ) -> Result<Candidate, FrontFault> {
-    let seen = seen_arguments(view, built, args)?;
-    bound_candidate(view, of, name, seen.as_slice(), at)
+    let seen = seen_arguments(view, built, form.args.as_slice())?;
+    bound_candidate(view, of, form.name, seen.as_slice(), form.pos)
 }
 
 /// What a candidate calls. A const calls nothing.
@@ -167,12 +166,11 @@ fn bound_value(
 fn bound_number(
     view: &View<'_>,
     built: &mut Built,
-    name: &[u8],
-    args: &[ReadyArg],
+    form: &Call<'_>,
     candidate: Candidate,
     pos: Pos,
 ) -> Result<u32, NoMemory> {
-    let ty = bound_type(view, name, args, candidate, pos)?;
+    let ty = bound_type(view, form, candidate, pos)?;
     number_of_bound(view, built, ty)
 }
 
@@ -180,8 +178,7 @@ fn bound_number(
 /// of its parameter. The types keep the positions at which the candidate writes them.
 fn bound_type(
     view: &View<'_>,
-    name: &[u8],
-    args: &[ReadyArg],
+    form: &Call<'_>,
     candidate: Candidate,
     pos: Pos,
 ) -> Result<Ty, NoMemory> {
@@ -189,12 +186,12 @@ fn bound_type(
         args: params,
         result: gives,
     } = description(view, candidate)?;
-    let open = open_params(view.alloc, args, params.as_slice())?;
+    let open = open_params(view.alloc, form.args.as_slice(), params.as_slice())?;
     let gives = match gives {
         None => None,
         Some(ty) => Some(Boxed::new(view.alloc, ty)?),
     };
-    if is_iter_name(name) {
+    if is_iter_name(form.name) {
         Ok(Ty::Iter(open, gives, pos))
     } else {
         Ok(Ty::Rout(open, gives, pos))

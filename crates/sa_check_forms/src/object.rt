@@ -1,6 +1,6 @@
 //! New objects, those that a class creates, and the test for void.
 
-use sa_check_calls::{ReadyArg, ReadyExpr, Receiver, call};
+use sa_check_calls::{Call, ReadyArg, ReadyExpr, Receiver, call};
 use sa_check_choice::{Built, Context, Expected, Typed, View, kind_of, of_type};
 use sa_check_program::{BOOL, INT};
 use sa_core::ExprCore;
@@ -47,8 +47,13 @@ pub fn create(
     expected: Expected,
 ) -> Result<Typed, FrontFault> {
     let class = held(class)?;
-    let on = Receiver::Class(class);
-    call(context, built, on, b"create", args, pos, expected)
+    let form = Call {
+        on: Receiver::Class(class),
+        name: b"create",
+        args,
+        pos,
+    };
+    call(context, built, form, expected)
 }
 
 /// `void(e)`: E41 where the expression is contextual.

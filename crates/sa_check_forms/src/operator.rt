@@ -5,7 +5,7 @@
 //! `~(a < b)` and `a /= b` means `~(a = b)`. Operands are evaluated from left to right all the same.
 
 use crate::swapped::swapped;
-use sa_check_calls::{ReadyArg, ReadyExpr, Receiver, call, only_argument};
+use sa_check_calls::{Call, ReadyArg, ReadyExpr, Receiver, call};
 use sa_check_choice::{Built, Context, Expected, Typed, View, first_iter};
 use sa_check_program::BOOL;
 use sa_core::ExprCore;
@@ -69,8 +69,13 @@ pub fn unary(
     pos: Pos,
     expected: Expected,
 ) -> Result<Typed, FrontFault> {
-    let none = Vec::new(context.view.alloc);
-    call(context, built, of, called_name(op), none, pos, expected)
+    let form = Call {
+        on: of,
+        name: called_name(op),
+        args: Vec::new(context.view.alloc),
+        pos,
+    };
+    call(context, built, form, expected)
 }
 
 /// `e[..]` and `[..]`: a call of `aget`.
@@ -83,7 +88,13 @@ pub fn index(
     expected: Expected,
 ) -> Result<Typed, FrontFault> {
     let args = values(context.view.alloc, places)?;
-    call(context, built, of, b"aget", args, pos, expected)
+    let form = Call {
+        on: of,
+        name: b"aget",
+        args,
+        pos,
+    };
+    call(context, built, form, expected)
 }
 
 /// Arguments that are values.
@@ -95,27 +106,40 @@ fn values(alloc: Global, list: Vec<ReadyExpr>) -> Result<Vec<ReadyArg>, NoMemory
     Ok(args)
 }
 
-/// An operator of two operands that isn't `and` or `or`, of which the left one stands at `at`. E41 where what is called on
-/// is contextual, and the refusals of the call.
+/// An operator of two operands, which stands at `pos`.
+#[derive(Clone, Copy)]
+pub struct Operation {
+    pub op: Op,
+    /// The position of the left operand.
+    pub left: Pos,
+    pub pos: Pos,
+}
+
+/// An operator of two operands that isn't `and` or `or`. E41 where what is called on is contextual, and the refusals of the
+/// call.
 pub fn binary(
     context: Context<'_>,
     built: &mut Built,
-    op: Op,
+    operation: Operation,
     one: Receiver,
-    at: Pos,
     other: ReadyExpr,
-    pos: Pos,
     expected: Expected,
 ) -> Result<Typed, FrontFault> {
+    let Operation {
+        op,
+        left: _left,
+        pos,
+    } = operation;
     let of = one.ty(context.view, pos)?;
     let name = called_name(op);
     if !is_derived(op) || has_feature(context.view, of, name) {
-        return called(context, built, one, name, other, pos, expected);
+        let form = Call::with_value(context.view.alloc, one, name, other, pos)?;
+        return call(context, built, form, expected);
     }
     if op == Op::Gt {
-        return swapped(context.view, built, one, at, other, pos, expected);
+        return swapped(context.view, built, operation, one, other, expected);
     }
-    let opposite = opposite(context, built, op, one, at, other, pos)?;
+    let opposite = opposite(context, built, operation, one, other)?;
     negated(context, built, opposite, pos, expected)
 }
 
@@ -123,17 +147,19 @@ pub fn binary(
 fn opposite(
     context: Context<'_>,
     built: &mut Built,
-    op: Op,
+    operation: Operation,
     one: Receiver,
-    at: Pos,
     other: ReadyExpr,
-    pos: Pos,
 ) -> Result<Typed, FrontFault> {
-    match op {
-        Op::Leq => swapped(context.view, built, one, at, other, pos, Expected::Value),
-        Op::Geq => called(context, built, one, b"is_lt", other, pos, Expected::Value),
-        _ => called(context, built, one, b"is_eq", other, pos, Expected::Value),
-    }
+    let name = match operation.op {
+        Op::Leq => {
+            return swapped(context.view, built, operation, one, other, Expected::Value);
+        }
+        Op::Geq => called_name(Op::Lt),
+        _ => called_name(Op::Eq),
+    };
+    let form = Call::with_value(context.view.alloc, one, name, other, operation.pos)?;
+    call(context, built, form, Expected::Value)
 }
 
 /// Whether an operator means another call where the class of its left operand has no feature for it.
@@ -149,20 +175,6 @@ fn has_feature(view: &View<'_>, of: u32, name: &[u8]) -> bool {
     !view.program.named(of, name).is_empty()
 }
 
-/// A call with one argument.
-fn called(
-    context: Context<'_>,
-    built: &mut Built,
-    on: Receiver,
-    name: &[u8],
-    arg: ReadyExpr,
-    pos: Pos,
-    expected: Expected,
-) -> Result<Typed, FrontFault> {
-    let args = only_argument(context.view.alloc, arg)?;
-    call(context, built, on, name, args, pos, expected)
-}
-
 /// The call of `not` on a comparison: E33 unless this gives BOOL.
 fn negated(
     context: Context<'_>,
@@ -174,16 +186,11 @@ fn negated(
     if compared.ty != Some(BOOL) {
         return Err(Rule::WrongType.at(pos).into());
     }
-    let sites = built.sites.len();
-    let on = Receiver::Value(compared, sites);
-    let none = Vec::new(context.view.alloc);
-    call(
-        context,
-        built,
-        on,
-        called_name(Op::Not),
-        none,
+    let form = Call {
+        on: Receiver::Value(compared, built.sites.len()),
+        name: called_name(Op::Not),
+        args: Vec::new(context.view.alloc),
         pos,
-        expected,
-    )
+    };
+    call(context, built, form, expected)
 }

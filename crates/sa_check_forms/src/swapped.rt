@@ -1,5 +1,6 @@
 //! Comparisons that are called on their second operand.
 
+use crate::operator::Operation;
 use sa_check_calls::{ReadyExpr, Receiver};
 use sa_check_choice::{Built, Expected, Typed, View, chosen, first_iter, type_of, widened};
 use sa_check_program::BOOL;
@@ -11,21 +12,20 @@ use sqlite_items::Boxed;
 /// The feature that is called.
 const IS_LT: &[u8] = b"is_lt";
 
-/// `a > b` as `b < a`: a call of `is_lt` on the second operand, with the first as its argument. The first stands at `at`.
+/// `a > b` as `b < a`: a call of `is_lt` on the second operand, with the first as its argument.
 ///
 /// E41 where one of them is contextual, the refusals of the call, where an abstract type of the second operand has no
 /// feature that fits, and E33 unless the called feature gives BOOL.
 pub(crate) fn swapped(
     view: &View<'_>,
     built: &Built,
+    operation: Operation,
     one: Receiver,
-    at: Pos,
     other: ReadyExpr,
-    pos: Pos,
     expected: Expected,
 ) -> Result<Typed, FrontFault> {
-    let less = less_of(view, built, &one, &other, expected, pos)?;
-    Ok(call_of(view, less, one, at, other, pos)?)
+    let less = less_of(view, built, &one, &other, expected, operation.pos)?;
+    Ok(call_of(view, less, operation, one, other)?)
 }
 
 /// The `is_lt` that is called on the second operand, where both have a type by themselves.
@@ -50,16 +50,15 @@ fn less_of(
 fn call_of(
     view: &View<'_>,
     less: Comparison,
+    operation: Operation,
     one: Receiver,
-    at: Pos,
     other: ReadyExpr,
-    pos: Pos,
 ) -> Result<Typed, NoMemory> {
     let iter = first_iter(one.iter(), other.iter());
-    let arg = passed_operand(view, less, one, at)?;
+    let arg = passed_operand(view, less, one, operation.left)?;
     let on = Boxed::new(view.alloc, other.into_core()?)?;
     Ok(Typed {
-        core: ExprCore::Swapped(less.target, arg, on, pos),
+        core: ExprCore::Swapped(less.target, arg, on, operation.pos),
         ty: Some(BOOL),
         iter,
     })

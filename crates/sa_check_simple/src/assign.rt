@@ -4,12 +4,20 @@ use crate::draft::Draft;
 use crate::leave::leave_assigned;
 use crate::value::fitting;
 use sa_check_expr::{
-    Built, Expected, LoopExit, ReadyArg, ReadyExpr, Receiver, Variable, View, call, only_argument,
-    operand, position, ready, typed, variable_named, written,
+    Built, Call, Context, Expected, LoopExit, ReadyArg, Receiver, Variable, View, call, operand,
+    position, ready, typed, variable_named, written,
 };
 use sa_core::StmtCore;
 use sa_tree::{Expr, FrontFault, Kind, Name, Part, Pos, Recv, Rule, held};
 use sqlite_items::Boxed;
+
+/// An assignment by name: what is assigned, and the position of the sign.
+#[derive(Clone, Copy)]
+struct Assigned<'e> {
+    name: &'e Name,
+    value: &'e Expr,
+    pos: Pos,
+}
 
 /// `target := value`, at the position of its sign.
 pub(crate) fn assign(
@@ -22,11 +30,12 @@ pub(crate) fn assign(
 ) -> Result<StmtCore, FrontFault> {
     match target {
         Expr::Call(on, name, args, _) if args.is_empty() => {
-            assign_name(view, draft, built, on, name, value, pos)
+            assign_name(view, draft, built, on, Assigned { name, value, pos })
         }
         Expr::Index(of, places, _) => {
             let on = indexed(view, draft, built, of)?;
-            assign_element(view, draft, built, on, places.as_slice(), value, pos)
+            let args = element_arguments(view, draft, built, places.as_slice(), value)?;
+            assign_element(view.at(&draft.place), built, on, args, pos)
         }
         _ => {
             let _target = ready(view.at(&draft.place), built, target)?;
@@ -55,21 +64,19 @@ fn assign_name(
     draft: &Draft,
     built: &mut Built,
     on: &Recv,
-    name: &Name,
-    value: &Expr,
-    pos: Pos,
+    assigned: Assigned<'_>,
 ) -> Result<StmtCore, FrontFault> {
     match on {
-        Recv::Implied => assign_implied(view, draft, built, name, value, pos),
+        Recv::Implied => assign_implied(view, draft, built, assigned),
         Recv::Of(of) => {
             let of = of.get();
             let on = operand(view.at(&draft.place), built, of)?;
             let changed = variable_named(&draft.place, of);
-            assign_feature(view, draft, built, on, changed, name, value, pos)
+            assign_feature(view, draft, built, on, changed, assigned)
         }
         Recv::OfClass(ty) => {
             let on = Receiver::Class(held(written(view, ty))?);
-            assign_feature(view, draft, built, on, None, name, value, pos)
+            assign_feature(view, draft, built, on, None, assigned)
         }
     }
 }
@@ -79,17 +86,16 @@ fn assign_implied(
     view: &View<'_>,
     draft: &Draft,
     built: &mut Built,
-    name: &Name,
-    value: &Expr,
-    pos: Pos,
+    assigned: Assigned<'_>,
 ) -> Result<StmtCore, FrontFault> {
+    let Assigned { name, value, pos } = assigned;
     if let Some(variable) = draft.seen(name) {
         return assign_variable(view, draft, built, variable, value, pos);
     }
     if let Some(exit) = LoopExit::of_name(name) {
         return leave_assigned(view, draft, built, exit, value, pos);
     }
-    assign_feature(view, draft, built, Receiver::Own, None, name, value, pos)
+    assign_feature(view, draft, built, Receiver::Own, None, assigned)
 }
 
 /// `x := e` for a variable: it isn't narrowed, and the value goes to its type.
@@ -117,25 +123,15 @@ fn assign_feature(
     built: &mut Built,
     on: Receiver,
     changed: Option<Variable>,
-    name: &Name,
-    value: &Expr,
-    pos: Pos,
+    assigned: Assigned<'_>,
 ) -> Result<StmtCore, FrontFault> {
+    let Assigned { name, value, pos } = assigned;
     let made = ready(view.at(&draft.place), built, value)?;
-    if is_attribute_of_immutable(view, &on, name) {
-        return assign_changed(view, draft, built, on, changed, name, made, pos);
+    let form = Call::with_value(view.alloc, on, name.as_slice(), made, pos)?;
+    if is_attribute_of_immutable(view, &form.on, name) {
+        return assign_changed(view, draft, built, form, changed);
     }
-    let args = only_argument(view.alloc, made)?;
-    let name = name.as_slice();
-    let done = call(
-        view.at(&draft.place),
-        built,
-        on,
-        name,
-        args,
-        pos,
-        Expected::Nothing,
-    )?;
+    let done = call(view.at(&draft.place), built, form, Expected::Nothing)?;
     Ok(StmtCore::Do(done.core))
 }
 
@@ -144,26 +140,14 @@ fn assign_changed(
     view: &View<'_>,
     draft: &Draft,
     built: &mut Built,
-    on: Receiver,
+    form: Call<'_>,
     changed: Option<Variable>,
-    name: &Name,
-    value: ReadyExpr,
-    pos: Pos,
 ) -> Result<StmtCore, FrontFault> {
+    let pos = form.pos;
     let Some(variable) = changed else {
         return Err(Rule::NotAssignable.at(pos).into());
     };
-    let args = only_argument(view.alloc, value)?;
-    let name = name.as_slice();
-    let made = call(
-        view.at(&draft.place),
-        built,
-        on,
-        name,
-        args,
-        pos,
-        Expected::Value,
-    )?;
+    let made = call(view.at(&draft.place), built, form, Expected::Value)?;
     if variable.narrowed {
         return Err(Rule::TypecaseVariable.at(pos).into());
     }
@@ -211,29 +195,36 @@ fn is_attribute(view: &View<'_>, ty: u32, place: u32) -> bool {
     }
 }
 
-/// `r[i] := e` is the call `r.aset(i, e)`.
-fn assign_element(
+/// The indices and the value of `r[i] := e`, as arguments.
+fn element_arguments(
     view: &View<'_>,
     draft: &Draft,
     built: &mut Built,
-    on: Receiver,
     places: &[Expr],
     value: &Expr,
-    pos: Pos,
-) -> Result<StmtCore, FrontFault> {
+) -> Result<Vec<ReadyArg>, FrontFault> {
     let mut args = Vec::new(view.alloc);
     for e in places {
         args.push(ReadyArg::Value(ready(view.at(&draft.place), built, e)?))?;
     }
     args.push(ReadyArg::Value(ready(view.at(&draft.place), built, value)?))?;
-    let done = call(
-        view.at(&draft.place),
-        built,
+    Ok(args)
+}
+
+/// `r[i] := e` is the call `r.aset(i, e)`.
+fn assign_element(
+    context: Context<'_>,
+    built: &mut Built,
+    on: Receiver,
+    args: Vec<ReadyArg>,
+    pos: Pos,
+) -> Result<StmtCore, FrontFault> {
+    let form = Call {
         on,
-        b"aset",
+        name: b"aset",
         args,
         pos,
-        Expected::Nothing,
-    )?;
+    };
+    let done = call(context, built, form, Expected::Nothing)?;
     Ok(StmtCore::Do(done.core))
 }

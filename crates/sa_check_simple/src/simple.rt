@@ -1,7 +1,7 @@
 //! A statement that holds no others, by its form.
 
 use crate::assign::assign;
-use crate::declare::declare;
+use crate::declare::{Declaration, declare};
 use crate::draft::Draft;
 use crate::give::{return_value, yield_value};
 use crate::leave::{assert_true, expression, quit, raise};
@@ -24,7 +24,8 @@ pub fn simple_statement(
     cores: &mut Items<StmtCore>,
 ) -> Result<(), FrontFault> {
     if let Stmt::Declare(names, ty, value) = stmt {
-        return declare(view, draft, built, names.as_slice(), ty, value, cores);
+        let names = names.as_slice();
+        return declare(view, draft, built, Declaration { names, ty, value }, cores);
     }
     cores.push(single(view, draft, built, stmt)?)?;
     Ok(())
@@ -38,7 +39,7 @@ fn single(
     stmt: &Stmt,
 ) -> Result<StmtCore, FrontFault> {
     match stmt {
-        Stmt::Assign(target, value, pos) => { assign(view, draft, built, target, value, *pos) }
+        Stmt::Assign(target, value, pos) => assign(view, draft, built, target, value, *pos),
         Stmt::Return(value, pos) => return_value(view, draft, built, value, *pos),
         Stmt::Yield(value, pos) => yield_value(view, draft, built, value, *pos),
         Stmt::Quit(pos) => quit(draft, *pos),

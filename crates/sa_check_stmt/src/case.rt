@@ -2,7 +2,7 @@
 
 use crate::statement::statements;
 use sa_check_expr::{
-    Built, Expected, ReadyExpr, Receiver, Typed, View, call, only_argument, ready, ready_all,
+    Built, Call, Context, Expected, ReadyExpr, Receiver, Typed, View, call, ready, ready_all,
 };
 use sa_check_program::{BOOL, OB};
 use sa_check_simple::{Draft, with_type};
@@ -86,8 +86,7 @@ fn case_arm(
 
 /// The `case` of its parts, put at the end of the list.
 pub(crate) fn case_cores(
-    view: &View<'_>,
-    draft: &Draft,
+    context: Context<'_>,
     built: &mut Built,
     subject: Subject,
     arms: Vec<TypedArm>,
@@ -96,8 +95,8 @@ pub(crate) fn case_cores(
 ) -> Result<(), FrontFault> {
     let Subject { value, variable } = subject;
     let value = with_type(value, variable.pos)?;
-    let tests = tested_arms(view, draft, built, variable, arms)?;
-    let rest = otherwise(view.alloc, rest, variable.pos)?;
+    let tests = tested_arms(context, built, variable, arms)?;
+    let rest = otherwise(context.view.alloc, rest, variable.pos)?;
     cores.push(StmtCore::Let(variable.number, value.core))?;
     cores.push(StmtCore::If(tests, rest))?;
     Ok(())
@@ -119,67 +118,55 @@ fn otherwise(
 
 /// The arms with their tests.
 fn tested_arms(
-    view: &View<'_>,
-    draft: &Draft,
+    context: Context<'_>,
     built: &mut Built,
     variable: Held,
     arms: Vec<TypedArm>,
 ) -> Result<Items<TestCore>, FrontFault> {
-    let mut entries = Items::new(view.alloc);
+    let mut entries = Items::new(context.view.alloc);
     for arm in arms {
-        entries.push(tested_arm(view, draft, built, variable, arm)?)?;
+        entries.push(tested_arm(context, built, variable, arm)?)?;
     }
     Ok(entries)
 }
 
 /// An arm with its tests.
 fn tested_arm(
-    view: &View<'_>,
-    draft: &Draft,
+    context: Context<'_>,
     built: &mut Built,
     variable: Held,
     arm: TypedArm,
 ) -> Result<TestCore, FrontFault> {
     let TypedArm { values, body } = arm;
-    let tests = comparisons(view, draft, built, variable, values)?;
+    let tests = comparisons(context, built, variable, values)?;
     Ok(TestCore { tests, body })
 }
 
 /// The tests of an arm.
 fn comparisons(
-    view: &View<'_>,
-    draft: &Draft,
+    context: Context<'_>,
     built: &mut Built,
     variable: Held,
     values: Vec<ReadyExpr>,
 ) -> Result<Items<ExprCore>, FrontFault> {
-    let mut tests = Items::new(view.alloc);
+    let mut tests = Items::new(context.view.alloc);
     for value in values {
-        tests.push(comparison(view, draft, built, variable, value)?)?;
+        tests.push(comparison(context, built, variable, value)?)?;
     }
     Ok(tests)
 }
 
 /// The call of `is_eq` on the variable with a value: E33 unless it gives a BOOL.
 fn comparison(
-    view: &View<'_>,
-    draft: &Draft,
+    context: Context<'_>,
     built: &mut Built,
     variable: Held,
     value: ReadyExpr,
 ) -> Result<ExprCore, FrontFault> {
     let on = variable_receiver(variable, built.sites.len());
-    let args = only_argument(view.alloc, value)?;
     let pos = variable.pos;
-    let test = call(
-        view.at(&draft.place),
-        built,
-        on,
-        b"is_eq",
-        args,
-        pos,
-        Expected::Value,
-    )?;
+    let form = Call::with_value(context.view.alloc, on, b"is_eq", value, pos)?;
+    let test = call(context, built, form, Expected::Value)?;
     if test.ty != Some(BOOL) {
         return Err(Rule::WrongType.at(pos).into());
     }

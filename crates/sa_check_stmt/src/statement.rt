@@ -55,10 +55,12 @@ fn statement(
             let subject = case_subject(view, draft, built, tested, *pos)?;
             let arms = case_arms(view, draft, built, arms.as_slice())?;
             let Some(rest) = rest else {
-                return case_cores(view, draft, built, subject, arms, None, cores);
+                let context = view.at(&draft.place);
+                return case_cores(context, built, subject, arms, None, cores);
             };
             let rest = statements(view, draft, built, rest.as_slice())?;
-            case_cores(view, draft, built, subject, arms, Some(rest), cores)
+            let context = view.at(&draft.place);
+            case_cores(context, built, subject, arms, Some(rest), cores)
         }
         Stmt::TypeCase(local, arms, rest, pos) => {
             let name = &local.name;
