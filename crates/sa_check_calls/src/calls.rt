@@ -4,8 +4,8 @@ use crate::constant::constant;
 use crate::iter::{innermost_loop, is_iter_name, iter_call};
 use crate::leaving::LoopExit;
 use crate::passing::{PassedArgs, passed, seen_arguments};
-use crate::ready::{ReadyArg, ReadyExpr, only_argument};
 use crate::receiver::Receiver;
+use crate::synthesised::{Synthesised, SynthesisedArg, only_argument};
 use sa_check_choice::{
     Built, ChosenFeature, Context, Expected, Reached, Typed, View, bound_callee, bound_name,
     chosen, first_iter,
@@ -20,7 +20,7 @@ use std::alloc::Global;
 pub struct Call<'n> {
     pub on: Receiver,
     pub name: &'n [u8],
-    pub args: Vec<ReadyArg>,
+    pub args: Vec<SynthesisedArg>,
     pub pos: Pos,
 }
 
@@ -30,7 +30,7 @@ impl<'n> Call<'n> {
         alloc: Global,
         on: Receiver,
         name: &'n [u8],
-        value: ReadyExpr,
+        value: Synthesised,
         pos: Pos,
     ) -> Result<Call<'n>, NoMemory> {
         Ok(Call {
@@ -57,7 +57,7 @@ pub fn call_form(
     built: &mut Built,
     head: CallHead<'_>,
     on: Receiver,
-    args: Vec<ReadyArg>,
+    args: Vec<SynthesisedArg>,
     expected: Expected,
 ) -> Result<Typed, FrontFault> {
     let pos = head.pos;

@@ -1,8 +1,8 @@
 //! `while!`, `until!` and `break!`, which leave the innermost loop and are built in.
 
+use crate::checked::checked;
 use crate::iter::innermost_loop;
-use crate::ready::ReadyArg;
-use crate::settle::settled;
+use crate::synthesised::SynthesisedArg;
 use sa_check_choice::{Built, Context, Expected, View};
 use sa_check_program::BOOL;
 use sa_core::{ExprCore, StmtCore};
@@ -55,7 +55,7 @@ pub fn leave_form(
     context: Context<'_>,
     built: &Built,
     exit: LoopExit,
-    args: Vec<ReadyArg>,
+    args: Vec<SynthesisedArg>,
     pos: Pos,
 ) -> Result<StmtCore, FrontFault> {
     innermost_loop(context.place, pos)?;
@@ -74,11 +74,16 @@ pub fn leave_form(
 }
 
 /// The test of `while!` and `until!`: E31 of an argument that the call writes, E33 unless it is a BOOL.
-fn test(view: &View<'_>, built: &Built, arg: ReadyArg, pos: Pos) -> Result<ExprCore, FrontFault> {
-    let ReadyArg::Value(value) = arg else {
+fn test(
+    view: &View<'_>,
+    built: &Built,
+    arg: SynthesisedArg,
+    pos: Pos,
+) -> Result<ExprCore, FrontFault> {
+    let SynthesisedArg::Value(value) = arg else {
         return Err(Rule::NoFeatureFits.at(pos).into());
     };
-    let value = settled(view, built, value, Expected::Type(BOOL))?;
+    let value = checked(view, built, value, Expected::Type(BOOL))?;
     if value.ty != Some(BOOL) {
         return Err(Rule::WrongType.at(pos).into());
     }

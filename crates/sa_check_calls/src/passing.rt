@@ -1,7 +1,7 @@
 //! The arguments of a call: what the choice sees of them, and what they are at the parameters of what is chosen.
 
-use crate::ready::{ReadyArg, ReadyExpr};
-use crate::settle::settled_to;
+use crate::checked::checked_to;
+use crate::synthesised::{Synthesised, SynthesisedArg};
 use sa_check_choice::{Built, Param, View, first_iter, type_of};
 use sa_core::ArgCore;
 use sa_overload::ArgIn;
@@ -12,7 +12,7 @@ use sqlite_items::Items;
 pub fn seen_arguments(
     view: &View<'_>,
     built: &Built,
-    args: &[ReadyArg],
+    args: &[SynthesisedArg],
 ) -> Result<Items<ArgIn>, NoMemory> {
     let mut seen = Items::new(view.alloc);
     for arg in args {
@@ -21,7 +21,7 @@ pub fn seen_arguments(
     Ok(seen)
 }
 
-fn seen_argument(view: &View<'_>, built: &Built, arg: &ReadyArg) -> Result<ArgIn, NoMemory> {
+fn seen_argument(view: &View<'_>, built: &Built, arg: &SynthesisedArg) -> Result<ArgIn, NoMemory> {
     let ty = seen_type(view, built, own_type(arg)?)?;
     Ok(ArgIn {
         mode: arg.mode(),
@@ -31,12 +31,12 @@ fn seen_argument(view: &View<'_>, built: &Built, arg: &ReadyArg) -> Result<ArgIn
 }
 
 /// The number of the type that an argument has by itself, if it has one.
-fn own_type(arg: &ReadyArg) -> Result<Option<u32>, NoMemory> {
+fn own_type(arg: &SynthesisedArg) -> Result<Option<u32>, NoMemory> {
     match arg {
-        ReadyArg::Value(ReadyExpr::Typed(value, _)) => Ok(Some(held(value.ty)?)),
-        ReadyArg::Value(_) => Ok(None),
-        ReadyArg::Variable(_, variable) => Ok(Some(variable.ty)),
-        ReadyArg::Left(ty) => Ok(*ty),
+        SynthesisedArg::Value(Synthesised::Typed(value, _)) => Ok(Some(held(value.ty)?)),
+        SynthesisedArg::Value(_) => Ok(None),
+        SynthesisedArg::Variable(_, variable) => Ok(Some(variable.ty)),
+        SynthesisedArg::Left(ty) => Ok(*ty),
     }
 }
 
@@ -85,11 +85,11 @@ impl PassedArgs {
 
 /// The arguments of a call at the parameters of what it chose, contextual ones from left to right. A contextual one that
 /// has another type than its parameter doesn't fit any more: E31 at the call.
-#[cycle(settle)]
+#[cycle(check)]
 pub fn passed(
     view: &View<'_>,
     built: &Built,
-    args: Vec<ReadyArg>,
+    args: Vec<SynthesisedArg>,
     params: &[Param],
     pos: Pos,
 ) -> Result<PassedArgs, FrontFault> {
@@ -111,21 +111,21 @@ pub fn passed(
     Ok(all)
 }
 
-#[cycle(settle)]
+#[cycle(check)]
 fn passed_argument(
     view: &View<'_>,
     built: &Built,
-    arg: ReadyArg,
+    arg: SynthesisedArg,
     param: Param,
 ) -> Result<PassedArg, FrontFault> {
     match arg {
-        ReadyArg::Value(value) => passed_value(view, built, value, param),
-        ReadyArg::Variable(_, variable) => Ok(PassedArg {
+        SynthesisedArg::Value(value) => passed_value(view, built, value, param),
+        SynthesisedArg::Variable(_, variable) => Ok(PassedArg {
             arg: ArgCore::Variable(param.mode, variable.number),
             iter: None,
             fits: true,
         }),
-        ReadyArg::Left(_) => Ok(PassedArg {
+        SynthesisedArg::Left(_) => Ok(PassedArg {
             arg: ArgCore::Left,
             iter: None,
             fits: true,
@@ -133,15 +133,15 @@ fn passed_argument(
     }
 }
 
-#[cycle(settle)]
+#[cycle(check)]
 fn passed_value(
     view: &View<'_>,
     built: &Built,
-    value: ReadyExpr,
+    value: Synthesised,
     param: Param,
 ) -> Result<PassedArg, FrontFault> {
     let is_typed = value.is_typed();
-    let value = settled_to(view, built, value, param.ty)?;
+    let value = checked_to(view, built, value, param.ty)?;
     Ok(PassedArg {
         arg: ArgCore::Value(param.mode, value.core),
         iter: value.iter,

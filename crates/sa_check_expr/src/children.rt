@@ -1,43 +1,48 @@
 //! The children of a form, typed from left to right before the form itself. Of a contextual form only the children are typed
-//! here: it waits for the type that its place expects (`ReadyExpr`).
+//! here: it waits for the type that its place expects (`Synthesised`).
 
 use crate::rows::typed;
-use sa_check_calls::{ReadyArg, ReadyExpr};
+use sa_check_calls::{Synthesised, SynthesisedArg};
 use sa_check_choice::{
     Built, Context, Expected, Variable, View, position, variable_named, written,
 };
 use sa_tree::{Expr, FrontFault, Given, Mode, Pos, Rule, Ty, held};
 
-/// Types an expression for a place that expects a result, or the children of a contextual one.
+/// Types an expression without the type that its place expects: of a contextual one the children alone. The place expects a
+/// result.
 #[cycle(typed)]
-pub fn ready(context: Context<'_>, built: &mut Built, e: &Expr) -> Result<ReadyExpr, FrontFault> {
+pub fn synthesised(
+    context: Context<'_>,
+    built: &mut Built,
+    e: &Expr,
+) -> Result<Synthesised, FrontFault> {
     match e {
-        Expr::Void(pos) => Ok(ReadyExpr::Void(*pos)),
+        Expr::Void(pos) => Ok(Synthesised::Void(*pos)),
         Expr::Create(None, args, pos) => {
             let args = arguments(context, built, args.as_slice(), GivenTo::Call)?;
-            Ok(ReadyExpr::Create(args, *pos))
+            Ok(Synthesised::Create(args, *pos))
         }
         Expr::Items(items, pos) => {
-            let items = ready_all(context, built, items.as_slice())?;
-            Ok(ReadyExpr::Items(items, *pos))
+            let items = synthesised_all(context, built, items.as_slice())?;
+            Ok(Synthesised::Items(items, *pos))
         }
         _ => {
             let value = typed(context, built, e, Expected::Value)?;
-            Ok(ReadyExpr::Typed(value, position(e)))
+            Ok(Synthesised::Typed(value, position(e)))
         }
     }
 }
 
-/// Types expressions from left to right, as `ready` does each of them.
+/// Types expressions from left to right, as `synthesised` does each of them.
 #[cycle(typed)]
-pub fn ready_all(
+pub fn synthesised_all(
     context: Context<'_>,
     built: &mut Built,
     list: &[Expr],
-) -> Result<Vec<ReadyExpr>, FrontFault> {
+) -> Result<Vec<Synthesised>, FrontFault> {
     let mut all = Vec::new(context.view.alloc);
     for e in list {
-        all.push(ready(context, built, e)?)?;
+        all.push(synthesised(context, built, e)?)?;
     }
     Ok(all)
 }
@@ -56,7 +61,7 @@ pub(crate) fn arguments(
     built: &mut Built,
     args: &[Given],
     given_to: GivenTo,
-) -> Result<Vec<ReadyArg>, FrontFault> {
+) -> Result<Vec<SynthesisedArg>, FrontFault> {
     let mut all = Vec::new(context.view.alloc);
     for given in args {
         all.push(argument(context, built, given, given_to)?)?;
@@ -75,29 +80,33 @@ fn argument(
     built: &mut Built,
     given: &Given,
     given_to: GivenTo,
-) -> Result<ReadyArg, FrontFault> {
+) -> Result<SynthesisedArg, FrontFault> {
     match given {
         Given::Left(ty, pos) => open_argument(context.view, ty, *pos, given_to),
         Given::Value(Mode::In | Mode::Once, e) => {
-            let value = ready(context, built, e)?;
-            Ok(ReadyArg::Value(value))
+            let value = synthesised(context, built, e)?;
+            Ok(SynthesisedArg::Value(value))
         }
         Given::Value(mode, e) => {
             if let Some(variable) = variable_named(context.place, e) {
                 return written_argument(*mode, variable, position(e));
             }
-            let _inside = ready(context, built, e)?;
+            let _inside = synthesised(context, built, e)?;
             Err(Rule::NotAssignable.at(position(e)).into())
         }
     }
 }
 
 /// A variable that a call writes.
-fn written_argument(mode: Mode, variable: Variable, pos: Pos) -> Result<ReadyArg, FrontFault> {
+fn written_argument(
+    mode: Mode,
+    variable: Variable,
+    pos: Pos,
+) -> Result<SynthesisedArg, FrontFault> {
     if variable.narrowed {
         return Err(Rule::TypecaseVariable.at(pos).into());
     }
-    Ok(ReadyArg::Variable(mode, variable))
+    Ok(SynthesisedArg::Variable(mode, variable))
 }
 
 /// An argument that a bind leaves open: `_`, and `_:T` with its type.
@@ -106,12 +115,12 @@ fn open_argument(
     ty: &Option<Ty>,
     pos: Pos,
     given_to: GivenTo,
-) -> Result<ReadyArg, FrontFault> {
+) -> Result<SynthesisedArg, FrontFault> {
     if given_to == GivenTo::Call {
         return Err(Rule::BadBind.at(pos).into());
     }
     match ty {
-        None => Ok(ReadyArg::Left(None)),
-        Some(ty) => Ok(ReadyArg::Left(Some(held(written(view, ty))?))),
+        None => Ok(SynthesisedArg::Left(None)),
+        Some(ty) => Ok(SynthesisedArg::Left(Some(held(written(view, ty))?))),
     }
 }

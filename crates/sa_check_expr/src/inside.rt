@@ -1,6 +1,6 @@
 //! The row of a form with what stands inside it, typed or refused: of several refusals inside the first one counts.
 
-use sa_check_calls::{CallHead, ReadyArg, ReadyExpr, Receiver, call_form, settled};
+use sa_check_calls::{CallHead, Receiver, Synthesised, SynthesisedArg, call_form, checked};
 use sa_check_choice::{
     Built, Context, Expected, Typed, View, character, exception, int, me, text, truth, written,
 };
@@ -26,7 +26,7 @@ pub(crate) fn without_inside(
         Expr::Char(value, _) => Ok(character(*value)),
         Expr::Text(value, _) => Ok(text(context.view.alloc, value)?),
         Expr::Me(_) => Ok(me(context.view)),
-        Expr::Void(pos) => settled(context.view, built, ReadyExpr::Void(*pos), expected),
+        Expr::Void(pos) => checked(context.view, built, Synthesised::Void(*pos), expected),
         Expr::Exception(pos) => exception(context.place, *pos),
         Expr::New(_, pos) => new_object(context.view, *pos),
         _ => Err(FrontFault::NoMemory),
@@ -36,7 +36,7 @@ pub(crate) fn without_inside(
 /// `void(e)`
 pub(crate) fn void_test(
     alloc: Global,
-    of: Inside<ReadyExpr>,
+    of: Inside<Synthesised>,
     pos: Pos,
 ) -> Result<Typed, FrontFault> {
     is_void(alloc, of?, pos)
@@ -55,11 +55,11 @@ pub(crate) fn array_object(
 pub(crate) fn object_here(
     view: &View<'_>,
     built: &Built,
-    args: Inside<Vec<ReadyArg>>,
+    args: Inside<Vec<SynthesisedArg>>,
     expected: Expected,
     pos: Pos,
 ) -> Result<Typed, FrontFault> {
-    settled(view, built, ReadyExpr::Create(args?, pos), expected)
+    checked(view, built, Synthesised::Create(args?, pos), expected)
 }
 
 /// `#C(..)`
@@ -67,7 +67,7 @@ pub(crate) fn object_of(
     context: Context<'_>,
     built: &mut Built,
     class: &Ty,
-    args: Inside<Vec<ReadyArg>>,
+    args: Inside<Vec<SynthesisedArg>>,
     pos: Pos,
     expected: Expected,
 ) -> Result<Typed, FrontFault> {
@@ -79,11 +79,11 @@ pub(crate) fn object_of(
 pub(crate) fn array(
     view: &View<'_>,
     built: &Built,
-    items: Inside<Vec<ReadyExpr>>,
+    items: Inside<Vec<Synthesised>>,
     expected: Expected,
     pos: Pos,
 ) -> Result<Typed, FrontFault> {
-    settled(view, built, ReadyExpr::Items(items?, pos), expected)
+    checked(view, built, Synthesised::Items(items?, pos), expected)
 }
 
 /// A call by name that isn't a variable.
@@ -92,7 +92,7 @@ pub(crate) fn called(
     built: &mut Built,
     head: CallHead<'_>,
     receiver: Inside<Receiver>,
-    args: Inside<Vec<ReadyArg>>,
+    args: Inside<Vec<SynthesisedArg>>,
     expected: Expected,
 ) -> Result<Typed, FrontFault> {
     call_form(context, built, head, receiver?, args?, expected)
@@ -115,7 +115,7 @@ pub(crate) fn operated(
     built: &mut Built,
     operation: Operation,
     left: Inside<Receiver>,
-    right: Inside<ReadyExpr>,
+    right: Inside<Synthesised>,
     expected: Expected,
 ) -> Result<Typed, FrontFault> {
     binary(context, built, operation, left?, right?, expected)
@@ -138,7 +138,7 @@ pub(crate) fn indexed(
     context: Context<'_>,
     built: &mut Built,
     of: Inside<Receiver>,
-    places: Inside<Vec<ReadyExpr>>,
+    places: Inside<Vec<Synthesised>>,
     pos: Pos,
     expected: Expected,
 ) -> Result<Typed, FrontFault> {
@@ -151,7 +151,7 @@ pub(crate) fn bound(
     built: &mut Built,
     head: &Expr,
     receiver: Inside<Receiver>,
-    args: Inside<Vec<ReadyArg>>,
+    args: Inside<Vec<SynthesisedArg>>,
     pos: Pos,
 ) -> Result<Typed, FrontFault> {
     bind_form(context, built, head, receiver?, args?, pos)

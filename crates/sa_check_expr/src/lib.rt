@@ -8,13 +8,14 @@ mod part;
 mod receiver;
 mod rows;
 
-pub use children::{ready, ready_all};
+pub use children::{synthesised, synthesised_all};
 pub use leaving::leave;
 pub use part::parts;
 pub use receiver::operand;
 pub use rows::typed;
 pub use sa_check_calls::{
-    Call, LoopExit, ReadyArg, ReadyExpr, Receiver, call, is_iter_name, leave_form, only_argument,
+    Call, LoopExit, Receiver, Synthesised, SynthesisedArg, call, is_iter_name, leave_form,
+    only_argument,
 };
 pub use sa_check_choice::{
     Built, Context, Expected, Place, Typed, Variable, View, is_sub, position, variable_named,

@@ -1,6 +1,6 @@
 //! The children of an expression without the expression itself, for a place that its row isn't asked at.
 
-use crate::children::{GivenTo, arguments, ready, ready_all};
+use crate::children::{GivenTo, arguments, synthesised, synthesised_all};
 use crate::inside::{both, done};
 use crate::receiver::receiver_of;
 use crate::rows::typed;
@@ -24,12 +24,12 @@ pub fn parts(context: Context<'_>, built: &mut Built, e: &Expr) -> Result<(), Fr
         Expr::New(Some(length), _) => {
             done(typed(context, built, length.get(), Expected::Type(INT)))
         }
-        Expr::IsVoid(of, _) => done(ready(context, built, of.get())),
-        Expr::Unary(_, of, _) => done(ready(context, built, of.get())),
+        Expr::IsVoid(of, _) => done(synthesised(context, built, of.get())),
+        Expr::Unary(_, of, _) => done(synthesised(context, built, of.get())),
         Expr::Create(_, args, _) => {
             done(arguments(context, built, args.as_slice(), GivenTo::Call))
         }
-        Expr::Items(items, _) => done(ready_all(context, built, items.as_slice())),
+        Expr::Items(items, _) => done(synthesised_all(context, built, items.as_slice())),
         Expr::Call(on, _, args, _) => {
             let on = receiver_of(context, built, on);
             let args = arguments(context, built, args.as_slice(), GivenTo::Call);
@@ -41,14 +41,14 @@ pub fn parts(context: Context<'_>, built: &mut Built, e: &Expr) -> Result<(), Fr
             both(one, other)
         }
         Expr::Binary(_, one, other, _) => {
-            let one = ready(context, built, one.get());
-            let other = ready(context, built, other.get());
+            let one = synthesised(context, built, one.get());
+            let other = synthesised(context, built, other.get());
             both(one, other)
         }
-        Expr::Index(None, places, _) => { done(ready_all(context, built, places.as_slice())) }
+        Expr::Index(None, places, _) => { done(synthesised_all(context, built, places.as_slice())) }
         Expr::Index(Some(of), places, _) => {
-            let of = ready(context, built, of.get());
-            let places = ready_all(context, built, places.as_slice());
+            let of = synthesised(context, built, of.get());
+            let places = synthesised_all(context, built, places.as_slice());
             both(of, places)
         }
         Expr::Bind(head, _) => head_parts(context, built, head.get()),

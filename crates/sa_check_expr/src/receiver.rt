@@ -1,6 +1,6 @@
 //! What a call is made on, typed.
 
-use crate::children::ready;
+use crate::children::synthesised;
 use sa_check_calls::Receiver;
 use sa_check_choice::{Built, Context, written};
 use sa_tree::{Expr, FrontFault, Recv, held};
@@ -23,6 +23,6 @@ pub(crate) fn receiver_of(
 #[cycle(typed)]
 pub fn operand(context: Context<'_>, built: &mut Built, e: &Expr) -> Result<Receiver, FrontFault> {
     let sites = built.sites.len();
-    let of = ready(context, built, e)?;
+    let of = synthesised(context, built, e)?;
     Ok(Receiver::of_value(of, sites))
 }

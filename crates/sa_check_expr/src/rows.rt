@@ -1,7 +1,7 @@
 //! The row of each form of an expression. Its children are typed first, from left to right, and then the row's conditions
 //! are asked in their order.
 
-use crate::children::{GivenTo, arguments, ready, ready_all};
+use crate::children::{GivenTo, arguments, synthesised, synthesised_all};
 use crate::inside::{
     array, array_object, bound, called, indexed, joined, object_here, object_of, operated, signed,
     void_test, without_inside,
@@ -30,7 +30,7 @@ pub fn typed(
 ) -> Result<Typed, FrontFault> {
     match e {
         Expr::IsVoid(of, pos) => {
-            let of = ready(context, built, of.get());
+            let of = synthesised(context, built, of.get());
             void_test(context.view.alloc, of, *pos)
         }
         Expr::New(Some(length), pos) => {
@@ -46,7 +46,7 @@ pub fn typed(
             object_of(context, built, class, args, *pos, expected)
         }
         Expr::Items(items, pos) => {
-            let items = ready_all(context, built, items.as_slice());
+            let items = synthesised_all(context, built, items.as_slice());
             array(context.view, built, items, expected, *pos)
         }
         Expr::Call(on, name, args, pos) => {
@@ -67,7 +67,7 @@ pub fn typed(
                 return joined(context.view.alloc, *op, left, right, *pos);
             }
             let left = operand(context, built, one);
-            let right = ready(context, built, other);
+            let right = synthesised(context, built, other);
             let operation = Operation {
                 op: *op,
                 left: position(one),
@@ -80,13 +80,13 @@ pub fn typed(
             signed(context, built, *op, of, *pos, expected)
         }
         Expr::Index(None, places, pos) => {
-            let places = ready_all(context, built, places.as_slice());
+            let places = synthesised_all(context, built, places.as_slice());
             let own = Ok(Receiver::Own);
             indexed(context, built, own, places, *pos, expected)
         }
         Expr::Index(Some(of), places, pos) => {
             let of = operand(context, built, of.get());
-            let places = ready_all(context, built, places.as_slice());
+            let places = synthesised_all(context, built, places.as_slice());
             indexed(context, built, of, places, *pos, expected)
         }
         Expr::Bind(head, pos) => bind(context, built, head.get(), *pos),

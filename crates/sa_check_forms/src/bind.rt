@@ -1,7 +1,7 @@
 //! Binds: a call some of whose arguments are given later.
 
 use sa_check_calls::{
-    Call, LoopExit, PassedArgs, ReadyArg, Receiver, is_iter_name, passed, seen_arguments,
+    Call, LoopExit, PassedArgs, Receiver, SynthesisedArg, is_iter_name, passed, seen_arguments,
 };
 use sa_check_choice::{
     Built, Candidate, Context, Place, Typed, View, bound_candidate, described_choice, description,
@@ -25,7 +25,7 @@ pub fn bind_form(
     built: &mut Built,
     head: &Expr,
     on: Receiver,
-    args: Vec<ReadyArg>,
+    args: Vec<SynthesisedArg>,
     pos: Pos,
 ) -> Result<Typed, FrontFault> {
     let Some(name) = bindable_name(context.place, head) else {
@@ -60,9 +60,9 @@ fn bindable_name<'e>(place: &Place, head: &'e Expr) -> Option<&'e [u8]> {
 }
 
 /// Whether the call writes a variable.
-fn writes(args: &[ReadyArg]) -> bool {
+fn writes(args: &[SynthesisedArg]) -> bool {
     args.iter()
-        .any(|arg| matches!(arg, ReadyArg::Variable(_, _)))
+        .any(|arg| matches!(arg, SynthesisedArg::Variable(_, _)))
 }
 
 /// What the head of a bind calls, and the number of the type of the bound value.
@@ -133,7 +133,7 @@ fn head_passed(
     view: &View<'_>,
     built: &Built,
     head: Head,
-    args: Vec<ReadyArg>,
+    args: Vec<SynthesisedArg>,
     at: Pos,
 ) -> Result<PassedArgs, FrontFault> {
     let choice = described_choice(view, head.of, head.candidate)?;
@@ -201,7 +201,7 @@ fn bound_type(
 /// The parameters whose arguments are left open.
 fn open_params(
     alloc: Global,
-    args: &[ReadyArg],
+    args: &[SynthesisedArg],
     params: &[ModeTy],
 ) -> Result<Items<ModeTy>, NoMemory> {
     let mut open = Items::new(alloc);

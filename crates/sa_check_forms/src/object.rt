@@ -1,6 +1,6 @@
 //! New objects, those that a class creates, and the test for void.
 
-use sa_check_calls::{Call, ReadyArg, ReadyExpr, Receiver, call};
+use sa_check_calls::{Call, Receiver, Synthesised, SynthesisedArg, call};
 use sa_check_choice::{Built, Context, Expected, Typed, View, kind_of, of_type};
 use sa_check_program::{BOOL, INT};
 use sa_core::ExprCore;
@@ -42,7 +42,7 @@ pub fn create(
     context: Context<'_>,
     built: &mut Built,
     class: Option<u32>,
-    args: Vec<ReadyArg>,
+    args: Vec<SynthesisedArg>,
     pos: Pos,
     expected: Expected,
 ) -> Result<Typed, FrontFault> {
@@ -57,8 +57,8 @@ pub fn create(
 }
 
 /// `void(e)`: E41 where the expression is contextual.
-pub fn is_void(alloc: Global, of: ReadyExpr, pos: Pos) -> Result<Typed, FrontFault> {
-    let ReadyExpr::Typed(of, _) = of else {
+pub fn is_void(alloc: Global, of: Synthesised, pos: Pos) -> Result<Typed, FrontFault> {
+    let Synthesised::Typed(of, _) = of else {
         return Err(Rule::NoTypeFromContext.at(pos).into());
     };
     Ok(Typed {

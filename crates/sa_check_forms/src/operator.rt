@@ -5,7 +5,7 @@
 //! `~(a < b)` and `a /= b` means `~(a = b)`. Operands are evaluated from left to right all the same.
 
 use crate::swapped::swapped;
-use sa_check_calls::{Call, ReadyArg, ReadyExpr, Receiver, call};
+use sa_check_calls::{Call, Receiver, Synthesised, SynthesisedArg, call};
 use sa_check_choice::{Built, Context, Expected, Typed, View, first_iter};
 use sa_check_program::BOOL;
 use sa_core::ExprCore;
@@ -83,7 +83,7 @@ pub fn index(
     context: Context<'_>,
     built: &mut Built,
     of: Receiver,
-    places: Vec<ReadyExpr>,
+    places: Vec<Synthesised>,
     pos: Pos,
     expected: Expected,
 ) -> Result<Typed, FrontFault> {
@@ -98,10 +98,10 @@ pub fn index(
 }
 
 /// Arguments that are values.
-fn values(alloc: Global, list: Vec<ReadyExpr>) -> Result<Vec<ReadyArg>, NoMemory> {
+fn values(alloc: Global, list: Vec<Synthesised>) -> Result<Vec<SynthesisedArg>, NoMemory> {
     let mut args = Vec::new(alloc);
     for value in list {
-        args.push(ReadyArg::Value(value))?;
+        args.push(SynthesisedArg::Value(value))?;
     }
     Ok(args)
 }
@@ -122,7 +122,7 @@ pub fn binary(
     built: &mut Built,
     operation: Operation,
     one: Receiver,
-    other: ReadyExpr,
+    other: Synthesised,
     expected: Expected,
 ) -> Result<Typed, FrontFault> {
     let Operation {
@@ -149,7 +149,7 @@ fn opposite(
     built: &mut Built,
     operation: Operation,
     one: Receiver,
-    other: ReadyExpr,
+    other: Synthesised,
 ) -> Result<Typed, FrontFault> {
     let name = match operation.op {
         Op::Leq => {

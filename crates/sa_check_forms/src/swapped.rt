@@ -1,7 +1,7 @@
 //! Comparisons that are called on their second operand.
 
 use crate::operator::Operation;
-use sa_check_calls::{ReadyExpr, Receiver};
+use sa_check_calls::{Receiver, Synthesised};
 use sa_check_choice::{Built, Expected, Typed, View, chosen, first_iter, type_of, widened};
 use sa_check_program::BOOL;
 use sa_core::{CalledCore, ExprCore, Target};
@@ -21,7 +21,7 @@ pub(crate) fn swapped(
     built: &Built,
     operation: Operation,
     one: Receiver,
-    other: ReadyExpr,
+    other: Synthesised,
     expected: Expected,
 ) -> Result<Typed, FrontFault> {
     let less = less_of(view, built, &one, &other, expected, operation.pos)?;
@@ -33,14 +33,14 @@ fn less_of(
     view: &View<'_>,
     built: &Built,
     one: &Receiver,
-    other: &ReadyExpr,
+    other: &Synthesised,
     expected: Expected,
     pos: Pos,
 ) -> Result<Comparison, FrontFault> {
     let Receiver::Value(one, _) = one else {
         return Err(Rule::NoTypeFromContext.at(pos).into());
     };
-    let ReadyExpr::Typed(other, _) = other else {
+    let Synthesised::Typed(other, _) = other else {
         return Err(Rule::NoTypeFromContext.at(pos).into());
     };
     less(view, built, held(other.ty)?, held(one.ty)?, expected, pos)
@@ -52,7 +52,7 @@ fn call_of(
     less: Comparison,
     operation: Operation,
     one: Receiver,
-    other: ReadyExpr,
+    other: Synthesised,
 ) -> Result<Typed, NoMemory> {
     let iter = first_iter(one.iter(), other.iter());
     let arg = passed_operand(view, less, one, operation.left)?;

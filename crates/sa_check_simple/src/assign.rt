@@ -4,8 +4,8 @@ use crate::draft::Draft;
 use crate::leave::leave_assigned;
 use crate::value::fitting;
 use sa_check_expr::{
-    Built, Call, Context, Expected, LoopExit, ReadyArg, Receiver, Variable, View, call, operand,
-    position, ready, typed, variable_named, written,
+    Built, Call, Context, Expected, LoopExit, Receiver, SynthesisedArg, Variable, View, call,
+    operand, position, synthesised, typed, variable_named, written,
 };
 use sa_core::StmtCore;
 use sa_tree::{Expr, FrontFault, Kind, Name, Part, Pos, Recv, Rule, held};
@@ -38,8 +38,8 @@ pub(crate) fn assign(
             assign_element(view.at(&draft.place), built, on, args, pos)
         }
         _ => {
-            let _target = ready(view.at(&draft.place), built, target)?;
-            let _value = ready(view.at(&draft.place), built, value)?;
+            let _target = synthesised(view.at(&draft.place), built, target)?;
+            let _value = synthesised(view.at(&draft.place), built, value)?;
             Err(Rule::NotAssignable.at(pos).into())
         }
     }
@@ -126,7 +126,7 @@ fn assign_feature(
     assigned: Assigned<'_>,
 ) -> Result<StmtCore, FrontFault> {
     let Assigned { name, value, pos } = assigned;
-    let made = ready(view.at(&draft.place), built, value)?;
+    let made = synthesised(view.at(&draft.place), built, value)?;
     let form = Call::with_value(view.alloc, on, name.as_slice(), made, pos)?;
     if is_attribute_of_immutable(view, &form.on, name) {
         return assign_changed(view, draft, built, form, changed);
@@ -202,12 +202,12 @@ fn element_arguments(
     built: &mut Built,
     places: &[Expr],
     value: &Expr,
-) -> Result<Vec<ReadyArg>, FrontFault> {
+) -> Result<Vec<SynthesisedArg>, FrontFault> {
     let mut args = Vec::new(view.alloc);
     for e in places {
-        args.push(ReadyArg::Value(ready(view.at(&draft.place), built, e)?))?;
+        args.push(SynthesisedArg::Value(synthesised(view.at(&draft.place), built, e)?))?;
     }
-    args.push(ReadyArg::Value(ready(view.at(&draft.place), built, value)?))?;
+    args.push(SynthesisedArg::Value(synthesised(view.at(&draft.place), built, value)?))?;
     Ok(args)
 }
 
@@ -216,7 +216,7 @@ fn assign_element(
     context: Context<'_>,
     built: &mut Built,
     on: Receiver,
-    args: Vec<ReadyArg>,
+    args: Vec<SynthesisedArg>,
     pos: Pos,
 ) -> Result<StmtCore, FrontFault> {
     let form = Call {

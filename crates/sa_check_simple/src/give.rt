@@ -3,7 +3,7 @@
 use crate::draft::{Draft, FeatureKind};
 use crate::leave::in_iter;
 use crate::value::fitting;
-use sa_check_expr::{Built, Expected, Typed, View, position, ready, typed};
+use sa_check_expr::{Built, Expected, Typed, View, position, synthesised, typed};
 use sa_core::{ExprCore, StmtCore};
 use sa_tree::{Expr, FrontFault, Pos, Rule};
 
@@ -70,7 +70,7 @@ fn result_value(
     e: &Expr,
 ) -> Result<Option<Typed>, FrontFault> {
     let Some(ty) = draft.result else {
-        let _e = ready(view.at(&draft.place), built, e)?;
+        let _e = synthesised(view.at(&draft.place), built, e)?;
         return Ok(None);
     };
     let made = typed(view.at(&draft.place), built, e, Expected::Type(ty))?;

@@ -3,8 +3,8 @@
 use crate::draft::{Draft, FeatureKind};
 use crate::value::{entry, test, untyped_value};
 use sa_check_expr::{
-    Built, Expected, LoopExit, View, leave, leave_form, only_argument, parts, position, ready,
-    typed, widened,
+    Built, Expected, LoopExit, View, leave, leave_form, only_argument, parts, position,
+    synthesised, typed, widened,
 };
 use sa_check_program::{BOOL, OB};
 use sa_core::{ExprCore, StmtCore};
@@ -107,7 +107,7 @@ pub(crate) fn leave_assigned(
     value: &Expr,
     pos: Pos,
 ) -> Result<StmtCore, FrontFault> {
-    let value = ready(view.at(&draft.place), built, value)?;
+    let value = synthesised(view.at(&draft.place), built, value)?;
     let args = only_argument(view.alloc, value)?;
     leave_form(view.at(&draft.place), built, exit, args, pos)
 }

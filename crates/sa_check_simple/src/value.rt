@@ -1,7 +1,7 @@
 //! The expressions of a statement: those that expect a type, and those that go to one.
 
 use sa_check_expr::{
-    Built, Context, Expected, ReadyExpr, Typed, View, is_sub, ready, typed, widened,
+    Built, Context, Expected, Synthesised, Typed, View, is_sub, synthesised, typed, widened,
 };
 use sa_check_program::BOOL;
 use sa_core::{ExprCore, StmtCore, TestCore};
@@ -17,7 +17,7 @@ pub(crate) fn untyped_value(
     e: &Expr,
     form: Pos,
 ) -> Result<Typed, FrontFault> {
-    with_type(ready(context, built, e)?, form)
+    with_type(synthesised(context, built, e)?, form)
 }
 
 /// An expression that has a type by itself.
@@ -25,9 +25,9 @@ pub(crate) fn untyped_value(
 /// # Errors
 ///
 /// E41, as the form at a position, where it is contextual.
-pub fn with_type(value: ReadyExpr, form: Pos) -> Result<Typed, FrontFault> {
+pub fn with_type(value: Synthesised, form: Pos) -> Result<Typed, FrontFault> {
     match value {
-        ReadyExpr::Typed(value, _at) => Ok(value),
+        Synthesised::Typed(value, _at) => Ok(value),
         _ => Err(Rule::NoTypeFromContext.at(form).into()),
     }
 }

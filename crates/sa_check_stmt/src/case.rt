@@ -2,7 +2,8 @@
 
 use crate::statement::statements;
 use sa_check_expr::{
-    Built, Call, Context, Expected, ReadyExpr, Receiver, Typed, View, call, ready, ready_all,
+    Built, Call, Context, Expected, Receiver, Synthesised, Typed, View, call, synthesised,
+    synthesised_all,
 };
 use sa_check_program::{BOOL, OB};
 use sa_check_simple::{Draft, with_type};
@@ -13,7 +14,7 @@ use std::alloc::Global;
 
 /// The variable that holds the value of a `case`, and the position of the form.
 #[derive(Clone, Copy)]
-struct Held {
+struct CaseVariable {
     ty: u32,
     number: u32,
     pos: Pos,
@@ -22,14 +23,14 @@ struct Held {
 /// The value of a `case`, and the variable that holds it.
 #[derive(Drop)]
 pub(crate) struct Subject {
-    value: ReadyExpr,
-    variable: Held,
+    value: Synthesised,
+    variable: CaseVariable,
 }
 
 /// An arm whose values and statements are typed, and whose tests aren't made yet.
 #[derive(Drop)]
 pub(crate) struct TypedArm {
-    values: Vec<ReadyExpr>,
+    values: Vec<Synthesised>,
     body: Items<StmtCore>,
 }
 
@@ -41,17 +42,17 @@ pub(crate) fn case_subject(
     tested: &Expr,
     pos: Pos,
 ) -> Result<Subject, FrontFault> {
-    let value = ready(view.at(&draft.place), built, tested)?;
+    let value = synthesised(view.at(&draft.place), built, tested)?;
     let ty = value_type(&value)?;
     let number = draft.variable(ty)?;
-    let variable = Held { ty, number, pos };
+    let variable = CaseVariable { ty, number, pos };
     Ok(Subject { value, variable })
 }
 
 /// The number of a value's type. A contextual value has none, and is refused later.
-fn value_type(value: &ReadyExpr) -> Result<u32, NoMemory> {
+fn value_type(value: &Synthesised) -> Result<u32, NoMemory> {
     match value {
-        ReadyExpr::Typed(value, _at) => held(value.ty),
+        Synthesised::Typed(value, _at) => held(value.ty),
         _ => Ok(OB),
     }
 }
@@ -79,7 +80,7 @@ fn case_arm(
     built: &mut Built,
     arm: &CaseArm,
 ) -> Result<TypedArm, FrontFault> {
-    let values = ready_all(view.at(&draft.place), built, arm.values.as_slice())?;
+    let values = synthesised_all(view.at(&draft.place), built, arm.values.as_slice())?;
     let body = statements(view, draft, built, arm.body.as_slice())?;
     Ok(TypedArm { values, body })
 }
@@ -120,7 +121,7 @@ fn otherwise(
 fn tested_arms(
     context: Context<'_>,
     built: &mut Built,
-    variable: Held,
+    variable: CaseVariable,
     arms: Vec<TypedArm>,
 ) -> Result<Items<TestCore>, FrontFault> {
     let mut entries = Items::new(context.view.alloc);
@@ -134,7 +135,7 @@ fn tested_arms(
 fn tested_arm(
     context: Context<'_>,
     built: &mut Built,
-    variable: Held,
+    variable: CaseVariable,
     arm: TypedArm,
 ) -> Result<TestCore, FrontFault> {
     let TypedArm { values, body } = arm;
@@ -146,8 +147,8 @@ fn tested_arm(
 fn comparisons(
     context: Context<'_>,
     built: &mut Built,
-    variable: Held,
-    values: Vec<ReadyExpr>,
+    variable: CaseVariable,
+    values: Vec<Synthesised>,
 ) -> Result<Items<ExprCore>, FrontFault> {
     let mut tests = Items::new(context.view.alloc);
     for value in values {
@@ -160,8 +161,8 @@ fn comparisons(
 fn comparison(
     context: Context<'_>,
     built: &mut Built,
-    variable: Held,
-    value: ReadyExpr,
+    variable: CaseVariable,
+    value: Synthesised,
 ) -> Result<ExprCore, FrontFault> {
     let on = variable_receiver(variable, built.sites.len());
     let pos = variable.pos;
@@ -174,7 +175,7 @@ fn comparison(
 }
 
 /// The variable, as what a call is made on, before which there are so many sites.
-fn variable_receiver(variable: Held, sites: usize) -> Receiver {
+fn variable_receiver(variable: CaseVariable, sites: usize) -> Receiver {
     let value = Typed {
         core: ExprCore::Var(variable.number),
         ty: Some(variable.ty),

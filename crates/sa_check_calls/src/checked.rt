@@ -1,9 +1,9 @@
-//! Contextual forms at the type that their place expects.
+//! Contextual forms checked against the type that their place expects.
 
 use crate::calls::{Call, called_value, callee};
 use crate::passing::{PassedArgs, passed};
-use crate::ready::{ReadyArg, ReadyExpr};
 use crate::receiver::Receiver;
+use crate::synthesised::{Synthesised, SynthesisedArg};
 use sa_check_choice::{
     Built, ChosenFeature, Expected, Reached, Typed, View, first_iter, is_concrete, is_sub,
     number_of, type_of, widened,
@@ -16,19 +16,19 @@ use std::alloc::Global;
 /// The class of array literals.
 const ARRAY: &[u8] = b"ARRAY";
 
-/// An expression at the type that its place expects. One that has a type by itself keeps it.
-#[cycle(settle)]
-pub fn settled(
+/// An expression checked against the type that its place expects. One that has a type by itself keeps it.
+#[cycle(check)]
+pub fn checked(
     view: &View<'_>,
     built: &Built,
-    ready: ReadyExpr,
+    synthesised: Synthesised,
     expected: Expected,
 ) -> Result<Typed, FrontFault> {
-    match ready {
-        ReadyExpr::Typed(value, _) => Ok(value),
-        ReadyExpr::Void(pos) => void(expected, pos),
-        ReadyExpr::Create(args, pos) => create(view, built, args, expected, pos),
-        ReadyExpr::Items(items, pos) => array(view, built, items, expected, pos),
+    match synthesised {
+        Synthesised::Typed(value, _) => Ok(value),
+        Synthesised::Void(pos) => void(expected, pos),
+        Synthesised::Create(args, pos) => create(view, built, args, expected, pos),
+        Synthesised::Items(items, pos) => array(view, built, items, expected, pos),
     }
 }
 
@@ -45,11 +45,11 @@ fn void(expected: Expected, pos: Pos) -> Result<Typed, FrontFault> {
 }
 
 /// `#(..)` without a type: a call of `create` on void of the expected type, and E41 unless that is a concrete one.
-#[cycle(settle)]
+#[cycle(check)]
 fn create(
     view: &View<'_>,
     built: &Built,
-    args: Vec<ReadyArg>,
+    args: Vec<SynthesisedArg>,
     expected: Expected,
     pos: Pos,
 ) -> Result<Typed, FrontFault> {
@@ -103,33 +103,33 @@ fn made(
 
 /// A value where a type is expected, with the number of the type that it has by itself.
 #[derive(Drop)]
-pub(crate) struct SettledValue {
+pub(crate) struct CheckedValue {
     pub core: ExprCore,
     pub from: u32,
     pub iter: Option<Pos>,
 }
 
 /// An expression as a value of the type that its place expects, to which it is widened.
-#[cycle(settle)]
-pub(crate) fn settled_to(
+#[cycle(check)]
+pub(crate) fn checked_to(
     view: &View<'_>,
     built: &Built,
-    ready: ReadyExpr,
+    synthesised: Synthesised,
     to: u32,
-) -> Result<SettledValue, FrontFault> {
-    let pos = ready.pos();
-    let Typed { core, ty, iter } = settled(view, built, ready, Expected::Type(to))?;
+) -> Result<CheckedValue, FrontFault> {
+    let pos = synthesised.pos();
+    let Typed { core, ty, iter } = checked(view, built, synthesised, Expected::Type(to))?;
     let from = held(ty)?;
     let core = widened(view, core, from, to, pos)?;
-    Ok(SettledValue { core, from, iter })
+    Ok(CheckedValue { core, from, iter })
 }
 
 /// An array literal: E41 unless an array is expected, and E33 unless each element goes to the type of its elements.
-#[cycle(settle)]
+#[cycle(check)]
 fn array(
     view: &View<'_>,
     built: &Built,
-    items: Vec<ReadyExpr>,
+    items: Vec<Synthesised>,
     expected: Expected,
     pos: Pos,
 ) -> Result<Typed, FrontFault> {
@@ -158,11 +158,11 @@ struct ArrayElements {
 }
 
 /// The elements of an array literal whose elements have the type with the number `of`.
-#[cycle(settle)]
+#[cycle(check)]
 fn elements(
     view: &View<'_>,
     built: &Built,
-    items: Vec<ReadyExpr>,
+    items: Vec<Synthesised>,
     of: u32,
 ) -> Result<ArrayElements, FrontFault> {
     let mut all = ArrayElements {
@@ -171,7 +171,7 @@ fn elements(
         go: true,
     };
     for item in items {
-        let value = settled_to(view, built, item, of)?;
+        let value = checked_to(view, built, item, of)?;
         all.go = all.go && is_sub(view, built, value.from, of);
         all.add(value)?;
     }
@@ -179,8 +179,8 @@ fn elements(
 }
 
 impl ArrayElements {
-    fn add(&mut self, value: SettledValue) -> Result<(), NoMemory> {
-        let SettledValue {
+    fn add(&mut self, value: CheckedValue) -> Result<(), NoMemory> {
+        let CheckedValue {
             core,
             from: _from,
             iter,
