@@ -4,7 +4,7 @@
 use indexmap::IndexMap;
 use sa_check_program::Program;
 use sa_subtypes::Edges;
-use sa_tree::{Kind, Mode, ModeTy, NoMemory, Ty, held};
+use sa_tree::{Mode, ModeTy, NoMemory, Ty, held};
 use sqlite_items::{Boxed, Items};
 use std::alloc::{AllocError, Global};
 
@@ -16,8 +16,8 @@ pub(crate) fn class_types_above(
     let uppers = abstract_types(alloc, program)?;
     let mut above = Vec::new(alloc);
     for ty in 0..program.count() {
-        let row = held(program.row(ty))?;
-        above.push(uppers_of(alloc, program, uppers.as_slice(), &row.ty, Some(ty))?)?;
+        let own = held(program.ty(ty))?;
+        above.push(uppers_of(alloc, program, uppers.as_slice(), own, Some(ty))?)?;
     }
     Ok(above)
 }
@@ -26,7 +26,7 @@ pub(crate) fn class_types_above(
 pub(crate) fn abstract_types(alloc: Global, program: &Program<'_>) -> Result<Vec<u32>, NoMemory> {
     let mut numbers = Vec::new(alloc);
     for ty in 0..program.count() {
-        if matches!(program.kind(ty), Some(Kind::Abstract)) {
+        if program.is_abstract(ty) {
             numbers.push(ty)?;
         }
     }
@@ -43,8 +43,8 @@ pub(crate) fn uppers_of(
 ) -> Result<Items<u32>, NoMemory> {
     let mut above = Items::new(alloc);
     for upper in uppers {
-        let row = held(program.row(*upper))?;
-        if own != Some(*upper) && program.edges().is_sub(ty, &row.ty) {
+        let upper_ty = held(program.ty(*upper))?;
+        if own != Some(*upper) && program.edges().is_sub(ty, upper_ty) {
             above.push(*upper)?;
         }
     }

@@ -4,10 +4,8 @@
 mod above;
 mod limits;
 mod sigs;
-mod target;
 mod types;
 mod typing;
 mod whole;
 
-pub use sa_check_program::instances;
 pub use whole::check;

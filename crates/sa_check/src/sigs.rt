@@ -1,6 +1,6 @@
 //! The signatures of the abstract types, each with its implementations.
 
-use crate::target::member_target;
+use sa_check_choice::member_target;
 use sa_check_conformance::{Implementation, Signatures};
 use sa_check_program::Program;
 use sa_core::{ImplCore, SigCore};
@@ -54,7 +54,6 @@ pub(crate) fn sig_pos(
 ) -> Result<Pos, NoMemory> {
     let origin = held(signatures.origin(place))?;
     let member = held(program.member(origin.from, origin.member))?;
-    let class = held(program.class(origin.from))?;
-    let feature = held(class.features.get(member.feature as usize))?;
+    let feature = held(program.feature(origin.from, member.feature))?;
     Ok(feature.name.pos)
 }

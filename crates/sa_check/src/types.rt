@@ -66,8 +66,7 @@ fn bound_shapes<'a>(
 ) -> Result<Shapes<'a>, NoMemory> {
     let mut shapes = Shapes::new(alloc);
     for number in 0..program.count() {
-        let row = held(program.row(number))?;
-        shapes.add(alloc, number, &row.ty)?;
+        shapes.add(alloc, number, held(program.ty(number))?)?;
     }
     add_bound_shapes(alloc, program.count(), bound, &mut shapes)?;
     Ok(shapes)
@@ -97,13 +96,13 @@ fn needed_info(
     number: u32,
     uppers: Items<u32>,
 ) -> Result<TypeInfo, NoMemory> {
-    let row = held(program.row(number))?;
+    let ty = held(program.ty(number))?;
     let Some(class) = program.class(number) else {
-        return bound_info(alloc, program, shapes, number, &row.ty, uppers);
+        return bound_info(alloc, program, shapes, number, ty, uppers);
     };
     let attrs = attribute_types(alloc, program, number)?;
     Ok(TypeInfo {
-        ty: row.ty.copy(alloc)?,
+        ty: ty.copy(alloc)?,
         kind: class.kind,
         slots: held(u32::try_from(attrs.len()).ok())?,
         attrs,

@@ -54,12 +54,13 @@ pub(crate) fn typed_bodies<'a>(
     let mut typing = Typing::new(alloc);
     for class in 0..program.count() {
         let view = View {
+            alloc,
             program: &*program,
             signatures: &*signatures,
             consts: &*consts,
             class,
         };
-        type_instance(alloc, &view, &mut typing, below.as_slice())?;
+        type_instance(&view, &mut typing, below.as_slice())?;
     }
     Ok(typing)
 }
@@ -100,12 +101,7 @@ fn count_below(below: &mut [u32], uppers: &[u32]) {
 }
 
 /// The bodies of a needed type. A bound type has none.
-fn type_instance(
-    alloc: Global,
-    view: &View<'_>,
-    typing: &mut Typing,
-    below: &[u32],
-) -> Result<(), FrontFault> {
+fn type_instance(view: &View<'_>, typing: &mut Typing, below: &[u32]) -> Result<(), FrontFault> {
     let Some(class) = view.program.class(view.class) else {
         return Ok(());
     };
@@ -114,7 +110,7 @@ fn type_instance(
         return count_pairs(view, typing, *types);
     }
     for f in class.features.as_slice() {
-        type_feature(alloc, view, typing, f)?;
+        type_feature(view, typing, f)?;
     }
     typing.size.within()
 }
@@ -133,39 +129,24 @@ fn count_pairs(view: &View<'_>, typing: &mut Typing, below: u32) -> Result<(), F
 }
 
 /// A feature of a concrete class. Once the program is too large, what is typed isn't kept.
-fn type_feature(
-    alloc: Global,
-    view: &View<'_>,
-    typing: &mut Typing,
-    f: &Feature,
-) -> Result<(), FrontFault> {
+fn type_feature(view: &View<'_>, typing: &mut Typing, f: &Feature) -> Result<(), FrontFault> {
     match &f.part {
-        Part::Routine(_) => type_routine(alloc, view, typing, f),
-        Part::Shared(_) => type_shared(alloc, view, typing, f),
+        Part::Routine(_) => type_routine(view, typing, f),
+        Part::Shared(_) => type_shared(view, typing, f),
         _ => Ok(()),
     }
 }
 
-fn type_routine(
-    alloc: Global,
-    view: &View<'_>,
-    typing: &mut Typing,
-    f: &Feature,
-) -> Result<(), FrontFault> {
-    let core = body(alloc, view, &mut typing.built, f)?;
+fn type_routine(view: &View<'_>, typing: &mut Typing, f: &Feature) -> Result<(), FrontFault> {
+    let core = body(view, &mut typing.built, f)?;
     if typing.size.add(f.name.pos, feature_nodes(&core)) {
         typing.features.push(core)?;
     }
     Ok(())
 }
 
-fn type_shared(
-    alloc: Global,
-    view: &View<'_>,
-    typing: &mut Typing,
-    f: &Feature,
-) -> Result<(), FrontFault> {
-    let core = shared_body(alloc, view, &mut typing.built, f)?;
+fn type_shared(view: &View<'_>, typing: &mut Typing, f: &Feature) -> Result<(), FrontFault> {
+    let core = shared_body(view, &mut typing.built, f)?;
     if typing.size.add(f.name.pos, shared_nodes(&core)) {
         typing.shareds.push(core)?;
     }

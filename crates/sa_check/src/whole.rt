@@ -10,7 +10,7 @@ use sa_check_program::Program;
 use sa_core::{Core, SigCore, TypeInfo};
 use sa_include::flatten;
 use sa_subtypes::Edges;
-use sa_tree::{Class, FrontFault, NoMemory, held};
+use sa_tree::{Class, FrontFault};
 use sqlite_items::Items;
 use std::alloc::Global;
 
@@ -53,7 +53,7 @@ fn typed_program<'a>(
     let typing = typed_bodies(alloc, program, signatures, consts, above.as_slice())?;
     let types = type_infos(alloc, program, &typing.built.bound, above)?;
     let sigs = sig_cores(alloc, program, signatures, implementations)?;
-    Ok(whole(alloc, program, types, sigs, typing)?)
+    Ok(whole(alloc, program, types, sigs, typing))
 }
 
 /// The parts of a typed program put together.
@@ -63,14 +63,13 @@ fn whole(
     types: Items<TypeInfo>,
     sigs: Items<SigCore>,
     typing: Typing,
-) -> Result<Core, NoMemory> {
-    let main = held(program.main())?;
-    Ok(Core {
+) -> Core {
+    Core {
         types,
         features: typing.features,
         sigs,
         shareds: typing.shareds,
-        main,
+        main: program.main(),
         lines: Items::new(alloc),
-    })
+    }
 }

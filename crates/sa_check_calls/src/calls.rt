@@ -2,50 +2,80 @@
 
 use crate::constant::constant;
 use crate::iter::{innermost_loop, is_iter_name, iter_call};
-use crate::leaving::leave_of;
+use crate::leaving::LoopExit;
 use crate::passing::{PassedArgs, passed, seen_arguments};
-use crate::ready::ReadyArg;
 use crate::receiver::Receiver;
+use crate::synthesised::{Synthesised, SynthesisedArg, only_argument};
 use sa_check_choice::{
-    Built, ChosenFeature, Place, Reached, Typed, View, bound_callee, bound_name, chosen, first_iter,
+    Built, ChosenFeature, Context, Expected, Reached, Typed, View, bound_callee, bound_name,
+    chosen, first_iter,
 };
 use sa_core::{CalledCore, ExprCore};
 use sa_tree::{FrontFault, Name, NoMemory, Pos, Recv, Rule};
 use sqlite_items::Boxed;
 use std::alloc::Global;
 
-/// A call by name that is no variable, made on `on`, with what stands inside it typed. `while!`, `until!` and `break!` give no result, so that as expressions they are
-/// refused: E35, E38, E31.
-pub fn call_form(
-    alloc: Global,
-    view: &View<'_>,
-    place: &Place,
-    built: &mut Built,
-    on: &Recv,
-    name: &Name,
-    receiver: Receiver,
-    args: Vec<ReadyArg>,
-    pos: Pos,
-    wants: bool,
-) -> Result<Typed, FrontFault> {
-    if leave_of(on, name).is_some() {
-        innermost_loop(place, pos)?;
-        return Err(Rule::NoFeatureFits.at(pos).into());
-    }
-    call(
-        alloc,
-        view,
-        place,
-        built,
-        receiver,
-        name.as_slice(),
-        args,
-        pos,
-        wants,
-    )
+/// A call by name, with what it is made on and its arguments typed. It stands at `pos`.
+#[derive(Drop)]
+pub struct Call<'n> {
+    pub on: Receiver,
+    pub name: &'n [u8],
+    pub args: Vec<SynthesisedArg>,
+    pub pos: Pos,
 }
 
-/// A call by name, at a place that wants a result or wants none. It is refused at `pos`:
+impl<'n> Call<'n> {
+    /// A call with a value as its only argument. It fails only where memory runs out.
+    pub fn with_value(
+        alloc: Global,
+        on: Receiver,
+        name: &'n [u8],
+        value: Synthesised,
+        pos: Pos,
+    ) -> Result<Call<'n>, NoMemory> {
+        Ok(Call {
+            on,
+            name,
+            args: only_argument(alloc, value)?,
+            pos,
+        })
+    }
+}
+
+/// What is written of a call by name: what it is made on, the name, and its position.
+#[derive(Clone, Copy)]
+pub struct CallHead<'e> {
+    pub on: &'e Recv,
+    pub name: &'e Name,
+    pub pos: Pos,
+}
+
+/// A call by name that is no variable, with what stands inside it typed. `while!`, `until!` and `break!` give no result, so
+/// that as expressions they are refused: E35, E38, E31.
+pub fn call_form(
+    context: Context<'_>,
+    built: &mut Built,
+    head: CallHead<'_>,
+    on: Receiver,
+    args: Vec<SynthesisedArg>,
+    expected: Expected,
+) -> Result<Typed, FrontFault> {
+    let pos = head.pos;
+    if LoopExit::of_call(head.on, head.name).is_some() {
+        innermost_loop(context.place, pos)?;
+        return Err(Rule::NoFeatureFits.at(pos).into());
+    }
+    let name = head.name.as_slice();
+    let form = Call {
+        on,
+        name,
+        args,
+        pos,
+    };
+    call(context, built, form, expected)
+}
+
+/// A call by name, at a place that expects a result or none. It is refused at its position:
 ///
 /// - E35, E38: an iter call stands outside a loop, or a protect stands between it and its loop.
 /// - E41: what it is made on is contextual. E12: it is made on a class that isn't concrete.
@@ -55,44 +85,41 @@ pub fn call_form(
 ///
 /// A contextual argument is refused by its own rules where it doesn't go to the type of its parameter.
 pub fn call(
-    alloc: Global,
-    view: &View<'_>,
-    place: &Place,
+    context: Context<'_>,
     built: &mut Built,
-    on: Receiver,
-    name: &[u8],
-    args: Vec<ReadyArg>,
-    pos: Pos,
-    wants: bool,
+    form: Call<'_>,
+    expected: Expected,
 ) -> Result<Typed, FrontFault> {
-    if is_iter_name(name) {
-        return iter_call(alloc, view, place, built, on, name, args, pos, wants);
+    if is_iter_name(form.name) {
+        return iter_call(context, built, form, expected);
     }
-    plain_call(alloc, view, built, on, name, args, pos, wants)
+    plain_call(context.view, built, form, expected)
 }
 
 /// A call that is no iter call.
 fn plain_call(
-    alloc: Global,
     view: &View<'_>,
     built: &mut Built,
-    on: Receiver,
-    name: &[u8],
-    args: Vec<ReadyArg>,
-    pos: Pos,
-    wants: bool,
+    form: Call<'_>,
+    expected: Expected,
 ) -> Result<Typed, FrontFault> {
-    let callee = callee(alloc, view, built, &on, name, args.as_slice(), pos, wants)?;
+    let callee = callee(view, built, &form, expected)?;
     let ChosenFeature {
         reached,
         params,
         result: ty,
     } = callee;
+    let Call {
+        on,
+        name: _name,
+        args,
+        pos,
+    } = form;
     match reached {
         Reached::Value(value) => Ok(constant(built, on, value, ty)),
         Reached::Called(called) => {
-            let passed = passed(alloc, view, built, args, params.as_slice(), pos)?;
-            Ok(called_value(alloc, called, on, passed, ty, pos)?)
+            let passed = passed(view, built, args, params.as_slice(), pos)?;
+            Ok(called_value(view.alloc, called, on, passed, ty, pos)?)
         }
     }
 }
@@ -110,7 +137,6 @@ pub(crate) fn called_value(
         args,
         iter,
         once: _once,
-        fit: _fit,
     } = passed;
     let iter = first_iter(on.iter(), iter);
     let on = Boxed::new(alloc, on.into_core()?)?;
@@ -124,24 +150,21 @@ pub(crate) fn called_value(
 /// What a call reaches, by the types of what it is made on and of its arguments. On a bound value E30 of another name than
 /// that of its kind.
 pub(crate) fn callee(
-    alloc: Global,
     view: &View<'_>,
     built: &Built,
-    on: &Receiver,
-    name: &[u8],
-    args: &[ReadyArg],
-    pos: Pos,
-    wants: bool,
+    form: &Call<'_>,
+    expected: Expected,
 ) -> Result<ChosenFeature, FrontFault> {
-    let of = on.ty(view, pos)?;
-    let seen = seen_arguments(alloc, view, built, args)?;
-    let Some(word) = value_name(view, built, on, of) else {
-        return chosen(alloc, view, of, name, seen.as_slice(), wants, pos);
+    let pos = form.pos;
+    let of = form.on.ty(view, pos)?;
+    let seen = seen_arguments(view, built, form.args.as_slice())?;
+    let Some(word) = value_name(view, built, &form.on, of) else {
+        return chosen(view, of, form.name, seen.as_slice(), expected, pos);
     };
-    if name != word {
+    if form.name != word {
         return Err(Rule::UnknownName.at(pos).into());
     }
-    bound_callee(alloc, view, built, of, seen.as_slice(), pos, wants)
+    bound_callee(view, built, of, seen.as_slice(), pos, expected)
 }
 
 /// The name by which a bound value is called, where a call is made on one.

@@ -1,11 +1,10 @@
 //! Iter calls and their sites.
 
-use crate::calls::callee;
+use crate::calls::{Call, callee};
 use crate::passing::{PassedArgs, passed};
-use crate::ready::ReadyArg;
 use crate::receiver::Receiver;
-use sa_check_choice::{Built, ChosenFeature, Place, Typed, View, first_iter};
-use sa_core::{CalledCore, ExprCore, SiteCore};
+use sa_check_choice::{Built, Context, Expected, Place, Typed, first_iter};
+use sa_core::{ExprCore, SiteCore};
 use sa_tree::{FrontFault, NoMemory, Pos, Rule, held};
 use sqlite_items::Boxed;
 use std::alloc::Global;
@@ -29,38 +28,39 @@ pub(crate) fn innermost_loop(place: &Place, pos: Pos) -> Result<u32, FrontFault>
 
 /// An iter call, which is no head of a bind. It is refused as `call` says.
 pub(crate) fn iter_call(
-    alloc: Global,
-    view: &View<'_>,
-    place: &Place,
+    context: Context<'_>,
     built: &mut Built,
-    on: Receiver,
-    name: &[u8],
-    args: Vec<ReadyArg>,
-    pos: Pos,
-    wants: bool,
+    form: Call<'_>,
+    expected: Expected,
 ) -> Result<Typed, FrontFault> {
-    let owner = innermost_loop(place, pos)?;
-    let callee = callee(alloc, view, built, &on, name, args.as_slice(), pos, wants)?;
-    let passed = passed(alloc, view, built, args, callee.params.as_slice(), pos)?;
+    let owner = innermost_loop(context.place, form.pos)?;
+    let callee = callee(context.view, built, &form, expected)?;
+    let called = held(callee.reached.called())?;
+    let Call {
+        on,
+        name: _name,
+        args,
+        pos,
+    } = form;
+    let passed = passed(context.view, built, args, callee.params.as_slice(), pos)?;
     if let Some(inner) = first_iter(on.iter(), passed.once) {
         return Err(Rule::IterInSelfOrOnce.at(inner).into());
     }
-    Ok(at_site(alloc, built, owner, callee, on, passed, pos)?)
+    let site = SiteCore { owner, called, pos };
+    Ok(at_site(context.view.alloc, built, site, on, passed, callee.result)?)
 }
 
-/// The iter call at a new site, which belongs to the loop with the number `owner`.
+/// The iter call at a new site, whose result has the type `ty`.
 fn at_site(
     alloc: Global,
     built: &mut Built,
-    owner: u32,
-    callee: ChosenFeature,
+    site: SiteCore,
     on: Receiver,
     passed: PassedArgs,
-    pos: Pos,
+    ty: Option<u32>,
 ) -> Result<Typed, NoMemory> {
-    let called = held(callee.reached.called())?;
-    let site = new_site(built, owner, called, pos)?;
-    iter_value(alloc, site, on, passed, callee.result, pos)
+    let number = new_site(built, site)?;
+    iter_value(alloc, number, on, passed, ty, site.pos)
 }
 
 /// The iter call at a site, whose result has the type `ty`.
@@ -76,7 +76,6 @@ fn iter_value(
         args,
         iter: _iter,
         once: _once,
-        fit: _fit,
     } = passed;
     let on = Boxed::new(alloc, on.into_core()?)?;
     Ok(Typed {
@@ -87,8 +86,8 @@ fn iter_value(
 }
 
 /// The number of a new site.
-fn new_site(built: &mut Built, owner: u32, called: CalledCore, pos: Pos) -> Result<u32, NoMemory> {
+fn new_site(built: &mut Built, site: SiteCore) -> Result<u32, NoMemory> {
     let number = held(u32::try_from(built.sites.len()).ok())?;
-    built.sites.push(SiteCore { owner, called, pos })?;
+    built.sites.push(site)?;
     Ok(number)
 }

@@ -2,18 +2,18 @@
 #![tactic(auto)]
 
 mod calls;
+mod checked;
 mod constant;
 mod iter;
 mod leaving;
 mod passing;
-mod ready;
 mod receiver;
-mod settle;
+mod synthesised;
 
-pub use calls::{call, call_form};
+pub use calls::{Call, CallHead, call, call_form};
+pub use checked::checked;
 pub use iter::is_iter_name;
-pub use leaving::{leave_form, leave_of};
+pub use leaving::{LoopExit, leave_form};
 pub use passing::{PassedArgs, passed, seen_arguments};
-pub use ready::{ReadyArg, ReadyExpr};
 pub use receiver::Receiver;
-pub use settle::settled;
+pub use synthesised::{Synthesised, SynthesisedArg, only_argument};

@@ -1,77 +1,50 @@
 //! The arguments of a call: what the choice sees of them, and what they are at the parameters of what is chosen.
 
-use crate::ready::{ReadyArg, ReadyExpr};
-use crate::settle::settled_to;
+use crate::checked::checked_to;
+use crate::synthesised::{Synthesised, SynthesisedArg};
 use sa_check_choice::{Built, Param, View, first_iter, type_of};
 use sa_core::ArgCore;
 use sa_signatures::ArgIn;
 use sa_tree::{FrontFault, Mode, NoMemory, Pos, Rule, Ty, held};
 use sqlite_items::Items;
-use std::alloc::Global;
 
 /// What the choice sees of the arguments of a call. A contextual one has no type yet.
 pub fn seen_arguments(
-    alloc: Global,
     view: &View<'_>,
     built: &Built,
-    args: &[ReadyArg],
+    args: &[SynthesisedArg],
 ) -> Result<Items<ArgIn>, NoMemory> {
-    let mut seen = Items::new(alloc);
+    let mut seen = Items::new(view.alloc);
     for arg in args {
-        seen.push(seen_argument(alloc, view, built, arg)?)?;
+        seen.push(seen_argument(view, built, arg)?)?;
     }
     Ok(seen)
 }
 
-fn seen_argument(
-    alloc: Global,
-    view: &View<'_>,
-    built: &Built,
-    arg: &ReadyArg,
-) -> Result<ArgIn, NoMemory> {
+fn seen_argument(view: &View<'_>, built: &Built, arg: &SynthesisedArg) -> Result<ArgIn, NoMemory> {
+    let ty = seen_type(view, built, own_type(arg)?)?;
+    Ok(ArgIn {
+        mode: arg.mode(),
+        ty,
+        left: arg.is_left(),
+    })
+}
+
+/// The number of the type that an argument has by itself, if it has one.
+fn own_type(arg: &SynthesisedArg) -> Result<Option<u32>, NoMemory> {
     match arg {
-        ReadyArg::Value(value) => {
-            let ty = own_type(value)?;
-            seen(alloc, view, built, Mode::In, ty, false)
-        }
-        ReadyArg::Variable(mode, variable) => {
-            seen(alloc, view, built, *mode, Some(variable.ty), false)
-        }
-        ReadyArg::Left(ty) => seen(alloc, view, built, Mode::In, *ty, true),
+        SynthesisedArg::Value(Synthesised::Typed(value, _)) => Ok(Some(held(value.ty)?)),
+        SynthesisedArg::Value(_) => Ok(None),
+        SynthesisedArg::Variable(_, variable) => Ok(Some(variable.ty)),
+        SynthesisedArg::Left(ty) => Ok(*ty),
     }
-}
-
-/// The number of the type that a value has by itself, if it has one.
-fn own_type(value: &ReadyExpr) -> Result<Option<u32>, NoMemory> {
-    match value {
-        ReadyExpr::Typed(value, _) => Ok(Some(held(value.ty)?)),
-        _ => Ok(None),
-    }
-}
-
-/// What the choice sees of an argument whose type has a number, if there is one.
-fn seen(
-    alloc: Global,
-    view: &View<'_>,
-    built: &Built,
-    mode: Mode,
-    number: Option<u32>,
-    left: bool,
-) -> Result<ArgIn, NoMemory> {
-    let ty = seen_type(alloc, view, built, number)?;
-    Ok(ArgIn { mode, ty, left })
 }
 
 /// The type with a number, if there is one.
-fn seen_type(
-    alloc: Global,
-    view: &View<'_>,
-    built: &Built,
-    number: Option<u32>,
-) -> Result<Option<Ty>, NoMemory> {
+fn seen_type(view: &View<'_>, built: &Built, number: Option<u32>) -> Result<Option<Ty>, NoMemory> {
     match number {
         None => Ok(None),
-        Some(number) => Ok(Some(held(type_of(view, built, number))?.copy(alloc)?)),
+        Some(number) => Ok(Some(held(type_of(view, built, number))?.copy(view.alloc)?)),
     }
 }
 
@@ -83,8 +56,6 @@ pub struct PassedArgs {
     pub iter: Option<Pos>,
     /// The first one in those of `once` parameters.
     pub once: Option<Pos>,
-    /// Whether each contextual one has the type of its parameter.
-    pub fit: bool,
 }
 
 /// An argument at its parameter.
@@ -92,66 +63,69 @@ pub struct PassedArgs {
 struct PassedArg {
     arg: ArgCore,
     iter: Option<Pos>,
+    /// Whether a contextual one has the type of its parameter.
     fits: bool,
 }
 
 impl PassedArgs {
     fn add(&mut self, passed: PassedArg, mode: Mode) -> Result<(), NoMemory> {
-        let PassedArg { arg, iter, fits } = passed;
+        let PassedArg {
+            arg,
+            iter,
+            fits: _fits,
+        } = passed;
         self.args.push(arg)?;
         self.iter = first_iter(self.iter, iter);
         if mode == Mode::Once {
             self.once = first_iter(self.once, iter);
         }
-        self.fit = self.fit && fits;
         Ok(())
     }
 }
 
 /// The arguments of a call at the parameters of what it chose, contextual ones from left to right. A contextual one that
 /// has another type than its parameter doesn't fit any more: E31 at the call.
-#[cycle(settle)]
+#[cycle(check)]
 pub fn passed(
-    alloc: Global,
     view: &View<'_>,
     built: &Built,
-    args: Vec<ReadyArg>,
+    args: Vec<SynthesisedArg>,
     params: &[Param],
     pos: Pos,
 ) -> Result<PassedArgs, FrontFault> {
     let mut all = PassedArgs {
-        args: Items::new(alloc),
+        args: Items::new(view.alloc),
         iter: None,
         once: None,
-        fit: true,
     };
+    let mut fit = true;
     for arg in args {
         let param = *held(params.get(all.args.len()))?;
-        let passed = passed_argument(alloc, view, built, arg, param)?;
+        let passed = passed_argument(view, built, arg, param)?;
+        fit = fit && passed.fits;
         all.add(passed, param.mode)?;
     }
-    if !all.fit {
+    if !fit {
         return Err(Rule::NoFeatureFits.at(pos).into());
     }
     Ok(all)
 }
 
-#[cycle(settle)]
+#[cycle(check)]
 fn passed_argument(
-    alloc: Global,
     view: &View<'_>,
     built: &Built,
-    arg: ReadyArg,
+    arg: SynthesisedArg,
     param: Param,
 ) -> Result<PassedArg, FrontFault> {
     match arg {
-        ReadyArg::Value(value) => passed_value(alloc, view, built, value, param),
-        ReadyArg::Variable(_, variable) => Ok(PassedArg {
+        SynthesisedArg::Value(value) => passed_value(view, built, value, param),
+        SynthesisedArg::Variable(_, variable) => Ok(PassedArg {
             arg: ArgCore::Variable(param.mode, variable.number),
             iter: None,
             fits: true,
         }),
-        ReadyArg::Left(_) => Ok(PassedArg {
+        SynthesisedArg::Left(_) => Ok(PassedArg {
             arg: ArgCore::Left,
             iter: None,
             fits: true,
@@ -159,16 +133,15 @@ fn passed_argument(
     }
 }
 
-#[cycle(settle)]
+#[cycle(check)]
 fn passed_value(
-    alloc: Global,
     view: &View<'_>,
     built: &Built,
-    value: ReadyExpr,
+    value: Synthesised,
     param: Param,
 ) -> Result<PassedArg, FrontFault> {
     let is_typed = value.is_typed();
-    let value = settled_to(alloc, view, built, value, param.ty)?;
+    let value = checked_to(view, built, value, param.ty)?;
     Ok(PassedArg {
         arg: ArgCore::Value(param.mode, value.core),
         iter: value.iter,

@@ -1,10 +1,9 @@
 //! What a call is made on.
 
-use crate::ready::ReadyExpr;
+use crate::synthesised::Synthesised;
 use sa_check_choice::{Typed, View, is_concrete};
 use sa_core::ExprCore;
 use sa_tree::{FrontFault, NoMemory, Pos, Rule, held};
-use std::alloc::Global;
 
 /// What a call is made on, its children typed.
 #[derive(Drop)]
@@ -21,9 +20,9 @@ pub enum Receiver {
 
 impl Receiver {
     /// An expression before which there were so many sites.
-    pub fn of_value(of: ReadyExpr, sites: usize) -> Receiver {
+    pub fn of_value(of: Synthesised, sites: usize) -> Receiver {
         match of {
-            ReadyExpr::Typed(value, _) => Receiver::Value(value, sites),
+            Synthesised::Typed(value, _) => Receiver::Value(value, sites),
             _ => Receiver::Untyped,
         }
     }

@@ -2,7 +2,7 @@
 
 use crate::choice::{ChosenFeature, Param};
 use crate::target::Reached;
-use crate::view::{Built, View, number_of, type_of};
+use crate::view::{Built, Expected, View, number_of, type_of};
 use sa_core::CalledCore;
 use sa_signatures::{ArgIn, Cand, fits};
 use sa_tree::{FrontFault, ModeTy, NoMemory, Pos, Rule, Ty, held};
@@ -21,27 +21,26 @@ pub fn bound_name(view: &View<'_>, built: &Built, of: u32) -> Option<&'static [u
 /// What a call of a bound value of the type with the number `of` reaches: E31 unless number, modes, presence of a result
 /// and types fit.
 pub fn bound_callee(
-    alloc: Global,
     view: &View<'_>,
     built: &Built,
     of: u32,
     seen: &[ArgIn],
     pos: Pos,
-    wants: bool,
+    expected: Expected,
 ) -> Result<ChosenFeature, FrontFault> {
-    let described = description(alloc, held(type_of(view, built, of))?)?;
-    if !fits(&described, seen, wants, view.program.edges()) {
+    let described = described_type(view.alloc, held(type_of(view, built, of))?)?;
+    if !fits(&described, seen, expected.is_result(), view.program.edges()) {
         return Err(Rule::NoFeatureFits.at(pos).into());
     }
     Ok(ChosenFeature {
         reached: Reached::Called(CalledCore::Bound),
-        params: params(alloc, view, built, described.args.as_slice())?,
+        params: params(view, built, described.args.as_slice())?,
         result: number_of_result(view, built, &described.result)?,
     })
 }
 
 /// A bound type as the choice sees it.
-fn description(alloc: Global, ty: &Ty) -> Result<Cand, NoMemory> {
+fn described_type(alloc: Global, ty: &Ty) -> Result<Cand, NoMemory> {
     match ty {
         Ty::Rout(args, gives, _) | Ty::Iter(args, gives, _) => Ok(Cand {
             args: copied_args(alloc, args.as_slice())?,
@@ -67,13 +66,8 @@ fn copied_result(alloc: Global, gives: &Option<Boxed<Ty>>) -> Result<Option<Ty>,
     }
 }
 
-fn params(
-    alloc: Global,
-    view: &View<'_>,
-    built: &Built,
-    args: &[ModeTy],
-) -> Result<Items<Param>, NoMemory> {
-    let mut params = Items::new(alloc);
+fn params(view: &View<'_>, built: &Built, args: &[ModeTy]) -> Result<Items<Param>, NoMemory> {
+    let mut params = Items::new(view.alloc);
     for arg in args {
         let ty = held(number_of(view, built, &arg.ty))?;
         params.push(Param { mode: arg.mode, ty })?;

@@ -2,10 +2,9 @@
 
 use crate::view::View;
 use sa_signatures::Cand;
-use sa_tree::{FrontFault, Kind, NoMemory, Pos, Rule, held};
+use sa_tree::{FrontFault, NoMemory, Pos, Rule, held};
 use sa_types::Sig;
 use sqlite_items::Items;
-use std::alloc::Global;
 
 /// A feature of a concrete class, or a signature of an abstract type.
 #[derive(Clone, Copy, Debug, PartialEq, Eq)]
@@ -21,29 +20,23 @@ pub struct Candidate {
 /// The candidates of a call by name on a type, in order: E30 where nothing has the name, and E34 where only private
 /// features have it that the code of the class doesn't see.
 pub(crate) fn candidates(
-    alloc: Global,
     view: &View<'_>,
     of: u32,
     name: &[u8],
     pos: Pos,
 ) -> Result<Items<Candidate>, FrontFault> {
-    if matches!(view.program.kind(of), Some(Kind::Abstract)) {
-        return signatures(alloc, view, view.signatures.named(of, name), pos);
+    if view.program.is_abstract(of) {
+        return signatures(view, view.signatures.named(of, name), pos);
     }
-    features(alloc, view, of, view.program.named(of, name), pos)
+    features(view, of, view.program.named(of, name), pos)
 }
 
 /// The signatures at these places.
-fn signatures(
-    alloc: Global,
-    view: &View<'_>,
-    places: &[u32],
-    pos: Pos,
-) -> Result<Items<Candidate>, FrontFault> {
+fn signatures(view: &View<'_>, places: &[u32], pos: Pos) -> Result<Items<Candidate>, FrontFault> {
     if places.is_empty() {
         return Err(Rule::UnknownName.at(pos).into());
     }
-    let mut found = Items::new(alloc);
+    let mut found = Items::new(view.alloc);
     for place in places {
         let origin = held(view.signatures.origin(*place))?;
         found.push(Candidate {
@@ -57,7 +50,6 @@ fn signatures(
 
 /// Those of a concrete type's features at these places that are seen.
 fn features(
-    alloc: Global,
     view: &View<'_>,
     of: u32,
     places: &[u32],
@@ -66,8 +58,8 @@ fn features(
     if places.is_empty() {
         return Err(Rule::UnknownName.at(pos).into());
     }
-    let is_own = is_own_class(view, of);
-    let mut found = Items::new(alloc);
+    let is_own = view.program.is_same_class(view.class, of);
+    let mut found = Items::new(view.alloc);
     for place in places {
         let member = held(view.program.member(of, *place))?;
         if is_own || !member.private {
@@ -84,32 +76,23 @@ fn features(
     Ok(found)
 }
 
-/// Whether a type is an instance of the class whose code is typed, whatever its parameters are.
-fn is_own_class(view: &View<'_>, of: u32) -> bool {
-    match (view.program.class(view.class), view.program.class(of)) {
-        (Some(own), Some(class)) => own.name.name == class.name.name,
-        _ => false,
-    }
-}
-
 /// The candidates as the choice sees them.
 pub(crate) fn described(
-    alloc: Global,
     view: &View<'_>,
     candidates: &[Candidate],
 ) -> Result<Items<Cand>, NoMemory> {
-    let mut described = Items::new(alloc);
+    let mut described = Items::new(view.alloc);
     for candidate in candidates {
-        described.push(description(alloc, view, *candidate)?)?;
+        described.push(description(view, *candidate)?)?;
     }
     Ok(described)
 }
 
 /// The parameters and the result of a candidate, with the types of its instance put in.
-pub fn description(alloc: Global, view: &View<'_>, candidate: Candidate) -> Result<Cand, NoMemory> {
+pub fn description(view: &View<'_>, candidate: Candidate) -> Result<Cand, NoMemory> {
     let signature = view
         .program
-        .signature(alloc, candidate.from, candidate.member)?;
+        .signature(view.alloc, candidate.from, candidate.member)?;
     let Sig {
         name: _name,
         args,

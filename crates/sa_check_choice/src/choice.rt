@@ -2,11 +2,10 @@
 
 use crate::candidates::{Candidate, candidates, described};
 use crate::target::{Reached, reached_by};
-use crate::view::View;
+use crate::view::{Expected, View};
 use sa_signatures::{ArgIn, Cand, Choice, choose, fits};
 use sa_tree::{FrontFault, Mode, NoMemory, Pos, Rule, held};
 use sqlite_items::Items;
-use std::alloc::Global;
 
 /// A parameter of what is called.
 #[derive(Clone, Copy, Debug, PartialEq, Eq)]
@@ -25,56 +24,53 @@ pub struct ChosenFeature {
     pub result: Option<u32>,
 }
 
-/// What a call by name on the type with the number `of` reaches, by the types of its arguments, at a place that wants a
-/// result or wants none. Refused at `pos`:
+/// What a call by name on the type with the number `of` reaches, by the types of its arguments, at a place that expects a
+/// result or none. Refused at `pos`:
 ///
 /// - E30: nothing has the name. E34: only private features have it that aren't seen here.
 /// - E31: none fits. E32: several do, and none of them is the most specific one.
 /// - E41: those that fit have several types where an argument has none, which is a contextual one.
 pub fn chosen(
-    alloc: Global,
     view: &View<'_>,
     of: u32,
     name: &[u8],
     args: &[ArgIn],
-    wants: bool,
+    expected: Expected,
     pos: Pos,
 ) -> Result<ChosenFeature, FrontFault> {
-    let call = Call::new(alloc, view, of, name, pos)?;
-    let candidate = call.choice(view, args, wants, pos)?;
-    Ok(described_choice(alloc, view, of, candidate)?)
+    let candidates = Candidates::new(view, of, name, pos)?;
+    let candidate = candidates.choice(view, args, expected, pos)?;
+    Ok(described_choice(view, of, candidate)?)
 }
 
 /// What the candidate is that a bind's head chooses: one with a result where one fits, and else one without. It is
 /// refused as `chosen` refuses.
 pub fn bound_candidate(
-    alloc: Global,
     view: &View<'_>,
     of: u32,
     name: &[u8],
     args: &[ArgIn],
     pos: Pos,
 ) -> Result<Candidate, FrontFault> {
-    let call = Call::new(alloc, view, of, name, pos)?;
-    let wants = call.has_result(view, args);
-    call.choice(view, args, wants, pos)
+    let candidates = Candidates::new(view, of, name, pos)?;
+    let expected = candidates.result_expected(view, args);
+    candidates.choice(view, args, expected, pos)
 }
 
 /// What is reached by a call on a type that has chosen a candidate.
 pub fn described_choice(
-    alloc: Global,
     view: &View<'_>,
     of: u32,
     candidate: Candidate,
 ) -> Result<ChosenFeature, NoMemory> {
     let member = held(view.program.member(candidate.from, candidate.member))?;
-    let mut params = Items::new(alloc);
+    let mut params = Items::new(view.alloc);
     for (place, mode) in member.modes.as_slice().iter().enumerate() {
         let ty = held(view.program.argument(candidate.from, member, place))?;
         params.push(Param { mode: *mode, ty })?;
     }
     Ok(ChosenFeature {
-        reached: reached_by(alloc, view, of, candidate)?,
+        reached: reached_by(view, of, candidate)?,
         params,
         result: view.program.result(candidate.from, member),
     })
@@ -82,34 +78,29 @@ pub fn described_choice(
 
 /// The candidates of a call, by their places and as the choice sees them.
 #[derive(Drop)]
-struct Call {
+struct Candidates {
     candidates: Items<Candidate>,
     described: Items<Cand>,
 }
 
-impl Call {
-    fn new(
-        alloc: Global,
-        view: &View<'_>,
-        of: u32,
-        name: &[u8],
-        pos: Pos,
-    ) -> Result<Call, FrontFault> {
-        let candidates = candidates(alloc, view, of, name, pos)?;
-        let described = described(alloc, view, candidates.as_slice())?;
-        Ok(Call {
+impl Candidates {
+    fn new(view: &View<'_>, of: u32, name: &[u8], pos: Pos) -> Result<Candidates, FrontFault> {
+        let candidates = candidates(view, of, name, pos)?;
+        let described = described(view, candidates.as_slice())?;
+        Ok(Candidates {
             candidates,
             described,
         })
     }
 
-    /// Whether one that gives a result fits.
-    fn has_result(&self, view: &View<'_>, args: &[ArgIn]) -> bool {
+    /// What a bind expects of its head: a result where one that gives a result fits.
+    fn result_expected(&self, view: &View<'_>, args: &[ArgIn]) -> Expected {
         let edges = view.program.edges();
-        self.described
-            .as_slice()
-            .iter()
-            .any(|cand| fits(cand, args, true, edges))
+        let described = self.described.as_slice();
+        if described.iter().any(|cand| fits(cand, args, true, edges)) {
+            return Expected::Value;
+        }
+        Expected::Nothing
     }
 
     /// The chosen one: E31, E32, E41.
@@ -117,20 +108,20 @@ impl Call {
         &self,
         view: &View<'_>,
         args: &[ArgIn],
-        wants: bool,
+        expected: Expected,
         pos: Pos,
     ) -> Result<Candidate, FrontFault> {
         let described = self.described.as_slice();
         if described.len() >= u32::MAX as usize {
             return Err(FrontFault::NoMemory);
         }
-        let place = match choose(described, args, wants, view.program.edges()) {
+        let place = match choose(described, args, expected.is_result(), view.program.edges()) {
             Choice::One(place) => place as usize,
             Choice::NoneFits => return Err(Rule::NoFeatureFits.at(pos).into()),
             Choice::Several(_, _) => return Err(Rule::SeveralFeaturesFit.at(pos).into()),
         };
         let cand = held(described.get(place))?;
-        if !have_one_context(view, described, cand, args, wants) {
+        if !have_one_context(view, described, cand, args, expected) {
             return Err(Rule::NoTypeFromContext.at(pos).into());
         }
         Ok(*held(self.candidates.get(place))?)
@@ -143,14 +134,14 @@ fn have_one_context(
     described: &[Cand],
     chosen: &Cand,
     args: &[ArgIn],
-    wants: bool,
+    expected: Expected,
 ) -> bool {
     if !args.iter().any(is_contextual) {
         return true;
     }
     let edges = view.program.edges();
     for cand in described {
-        if fits(cand, args, wants, edges) && !is_one_context(cand, chosen, args) {
+        if fits(cand, args, expected.is_result(), edges) && !is_one_context(cand, chosen, args) {
             return false;
         }
     }

@@ -1,13 +1,12 @@
-//! What a chosen feature or signature is when the program runs.
+//! What a feature or a signature is when the program runs.
 
 use crate::candidates::Candidate;
 use crate::constant::constant_value;
 use crate::view::View;
-use sa_check_program::{Member, Side};
+use sa_check_program::{Program, Side};
 use sa_core::{CalledCore, ExprCore, Target};
 use sa_prelude::builtin;
-use sa_tree::{Feature, NoMemory, Part, held};
-use std::alloc::Global;
+use sa_tree::{NoMemory, Part, held};
 
 /// What a call reaches.
 #[derive(Drop)]
@@ -29,49 +28,39 @@ impl Reached {
 
 /// What a call on a type reaches by its candidate. A signature is dispatched by the receiver's class.
 pub(crate) fn reached_by(
-    alloc: Global,
     view: &View<'_>,
     of: u32,
     candidate: Candidate,
 ) -> Result<Reached, NoMemory> {
     match candidate.signature {
         Some(signature) => Ok(Reached::Called(CalledCore::Dispatch(signature))),
-        None => feature_reached(alloc, view, of, candidate.member),
+        None => feature_reached(view, of, candidate.member),
     }
 }
 
 /// What a call of a concrete type's member reaches.
-fn feature_reached(
-    alloc: Global,
-    view: &View<'_>,
-    of: u32,
-    member: u32,
-) -> Result<Reached, NoMemory> {
-    let member = held(view.program.member(of, member))?;
-    let class = held(view.program.class(of))?;
-    let feature = held(class.features.get(member.feature as usize))?;
-    if matches!(feature.part, Part::Const(_, _)) {
-        let value = held(view.consts.value(of, member.feature))?;
-        return Ok(Reached::Value(constant_value(alloc, value)?));
+fn feature_reached(view: &View<'_>, of: u32, member: u32) -> Result<Reached, NoMemory> {
+    let feature = held(view.program.member(of, member))?.feature;
+    if let Some(value) = view.consts.value(of, feature) {
+        return Ok(Reached::Value(constant_value(view.alloc, value)?));
     }
-    let target = held(target(view, of, member, feature))?;
+    let target = held(member_target(view.program, of, member))?;
     Ok(Reached::Called(CalledCore::Static(target, of)))
 }
 
-/// What a feature of a concrete type is, which is no const.
-fn target(view: &View<'_>, of: u32, member: &Member, feature: &Feature) -> Option<Target> {
+/// What a member of a concrete type is when the program runs, by its place. A const is nothing that can be called.
+pub fn member_target(program: &Program<'_>, ty: u32, place: u32) -> Option<Target> {
+    let member = program.member(ty, place)?;
+    let feature = program.feature(ty, member.feature)?;
     match &feature.part {
-        Part::Routine(_) => {
-            let number = view.program.body_number(of, member.feature)?;
-            Some(Target::Feature(number))
-        }
+        Part::Routine(_) => Some(Target::Feature(program.body_number(ty, member.feature)?)),
         Part::Builtin(class, name) => {
             let args = u32::try_from(feature.formals.len()).ok()?;
             let found = builtin(class.as_slice(), name.as_slice(), args)?;
             Some(Target::Builtin(found.number))
         }
-        Part::Attr => attribute(member.side, view.program.slot_of(of, member.feature)?),
-        Part::Shared(_) => shared(member.side, view.program.shared_number(of, member.feature)?),
+        Part::Attr => attribute(member.side, program.slot_of(ty, member.feature)?),
+        Part::Shared(_) => shared(member.side, program.shared_number(ty, member.feature)?),
         Part::Const(_, _) | Part::Signature | Part::Stub => None,
     }
 }

@@ -15,6 +15,7 @@ use std::alloc::Global;
 /// What is the same for all forms of one feature.
 #[derive(Clone, Copy)]
 pub struct View<'a> {
+    pub alloc: Global,
     pub program: &'a Program<'a>,
     pub signatures: &'a Signatures,
     pub consts: &'a ConstTable,
@@ -47,6 +48,62 @@ pub struct Place {
     pub branch: Option<u32>,
 }
 
+impl Place {
+    /// A place outside any loop and any protect, with no variable in scope.
+    pub fn new(alloc: Global) -> Place {
+        Place {
+            vars: IndexMap::new(alloc),
+            loops: 0,
+            owner: None,
+            guard: 0,
+            branch: None,
+        }
+    }
+}
+
+/// What the place of an expression expects of it.
+#[derive(Clone, Copy, Debug, PartialEq, Eq)]
+pub enum Expected {
+    /// No result: the expression is a statement.
+    Nothing,
+    /// A result of any type.
+    Value,
+    /// A result, and the type with this number of a form that takes its type from there.
+    Type(u32),
+}
+
+impl Expected {
+    /// Whether it is a result.
+    pub(crate) fn is_result(self) -> bool {
+        match self {
+            Expected::Nothing => false,
+            Expected::Value | Expected::Type(_) => true,
+        }
+    }
+
+    /// The number of the type that is expected, if one is.
+    pub fn ty(self) -> Option<u32> {
+        match self {
+            Expected::Nothing | Expected::Value => None,
+            Expected::Type(ty) => Some(ty),
+        }
+    }
+}
+
+/// What typing a form reads: the tables, and where the form stands.
+#[derive(Clone, Copy)]
+pub struct Context<'a> {
+    pub view: &'a View<'a>,
+    pub place: &'a Place,
+}
+
+impl View<'_> {
+    /// The same at a place of the feature.
+    pub fn at<'b>(&'b self, place: &'b Place) -> Context<'b> {
+        Context { view: self, place }
+    }
+}
+
 /// What typing makes beside its answer.
 #[derive(Drop)]
 pub struct Built {
@@ -70,7 +127,7 @@ pub struct Typed {
 pub fn type_of<'a>(view: &'a View<'_>, built: &'a Built, number: u32) -> Option<&'a Ty> {
     let needed = view.program.count();
     if number < needed {
-        return view.program.row(number).map(|row| &row.ty);
+        return view.program.ty(number);
     }
     let (ty, _) = built.bound.get_index((number - needed) as usize)?;
     Some(ty)
@@ -128,18 +185,9 @@ pub fn position(e: &Expr) -> Pos {
     }
 }
 
-/// Whether the expression takes the type that its place wants: `void`, `#(..)` without a type, or an array literal.
-pub fn is_contextual(e: &Expr) -> bool {
-    matches!(
-        e,
-        Expr::Void(_) | Expr::Create(None, _, _) | Expr::Items(_, _)
-    )
-}
-
 /// A value of one type where another one is wanted. A value of an immutable class is widened where an abstract type is
 /// wanted; the position is that of the expression which is widened.
 pub fn widened(
-    alloc: Global,
     view: &View<'_>,
     value: ExprCore,
     from: u32,
@@ -149,11 +197,11 @@ pub fn widened(
     if !is_widening(view, from, to) {
         return Ok(value);
     }
-    Ok(ExprCore::Widen(from, Boxed::new(alloc, value)?, pos))
+    Ok(ExprCore::Widen(from, Boxed::new(view.alloc, value)?, pos))
 }
 
 /// Whether a value of the first type is widened where the second type is wanted.
-pub fn is_widening(view: &View<'_>, from: u32, to: u32) -> bool {
+fn is_widening(view: &View<'_>, from: u32, to: u32) -> bool {
     kind_of(view, from) == Kind::Immutable && kind_of(view, to) == Kind::Abstract
 }
 

@@ -9,8 +9,7 @@ pub(crate) fn feature_of<'p>(
     ty: u32,
     member: &Member,
 ) -> Result<&'p Feature, NoMemory> {
-    let class = held(program.class(ty))?;
-    held(class.features.get(member.feature as usize))
+    held(program.feature(ty, member.feature))
 }
 
 /// Whether a member may implement a signature: it is public, and no constant.

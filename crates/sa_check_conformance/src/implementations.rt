@@ -2,13 +2,11 @@
 //! that isn't a constant conforms to it.
 
 use crate::features::{feature_of, may_implement};
-use crate::parents::is_abstract;
 use crate::signatures::Signatures;
 use sa_check_program::Program;
 use sa_signatures::conforms;
-use sa_subtypes::Edges;
 use sa_tree::{FrontFault, NoMemory, Rule, held};
-use sa_types::{Instance, Sig};
+use sa_types::Sig;
 use sqlite_items::Items;
 use std::alloc::Global;
 
@@ -25,19 +23,6 @@ const MOST_ASKED: usize = 1_000_000;
 pub struct Implementation {
     pub ty: u32,
     pub member: u32,
-}
-
-/// Checks conformance over instances that are all that their headers and features need, where `edges` are those of their
-/// classes.
-///
-/// # Errors
-///
-/// As `check_conformance`.
-pub fn check_edges(alloc: Global, instances: &[Instance], edges: &Edges) -> Result<(), FrontFault> {
-    let program = Program::of_instances(alloc, instances, edges)?;
-    let signatures = Signatures::make(alloc, &program)?;
-    check_conformance(alloc, &program, &signatures)?;
-    Ok(())
 }
 
 /// The members that implement each signature, by rising number of their types; of all signatures together the first
@@ -59,7 +44,7 @@ pub fn check_conformance(
         if signatures.unlike == Some(ty) {
             return Err(refused(Rule::NoConformingFeature, program, ty));
         }
-        if program.class(ty).is_some() && !is_abstract(program, ty) {
+        if program.class(ty).is_some() && !program.is_abstract(ty) {
             found.implement_all(alloc, program, signatures, ty)?;
         }
     }
@@ -160,8 +145,8 @@ fn conforming(
 ) -> Result<u32, FrontFault> {
     let origin = held(signatures.origin(place))?;
     let signature = program.signature(alloc, origin.from, origin.member)?;
-    let wanted = held(program.member(origin.from, origin.member))?;
-    let name = feature_of(program, origin.from, wanted)?
+    let written = held(program.member(origin.from, origin.member))?;
+    let name = feature_of(program, origin.from, written)?
         .name
         .name
         .as_slice();
@@ -183,14 +168,14 @@ fn does_implement(
     program: &Program<'_>,
     ty: u32,
     place: u32,
-    wanted: &Sig,
+    signature: &Sig,
 ) -> Result<bool, NoMemory> {
     let member = held(program.member(ty, place))?;
     if !may_implement(program, ty, member)? {
         return Ok(false);
     }
     let own = program.signature(alloc, ty, place)?;
-    Ok(conforms(&own, wanted, program.edges()))
+    Ok(conforms(&own, signature, program.edges()))
 }
 
 /// The refusal at the name of a type's class.

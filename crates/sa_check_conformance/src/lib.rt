@@ -10,5 +10,5 @@ mod parents;
 mod shapes;
 mod signatures;
 
-pub use implementations::{Implementation, check_conformance, check_edges};
+pub use implementations::{Implementation, check_conformance};
 pub use signatures::{Origin, Signatures};

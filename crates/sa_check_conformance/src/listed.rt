@@ -1,9 +1,10 @@
 //! The list of signatures of each abstract type, made from its own and from the lists of the types after its `<`.
 
-use crate::parents::{number, parents};
+use crate::parents::parents;
 use crate::shapes::{Shape, Shapes};
 use indexmap::IndexMap;
 use sa_check_program::{Member, Program};
+use sa_graph::word;
 use sa_signatures::conforms;
 use sa_tree::{NoMemory, held};
 use sqlite_items::Items;
@@ -86,7 +87,7 @@ impl Lists {
             unlike: false,
         };
         for (place, member) in program.members(ty).iter().enumerate() {
-            let listed = self.listed(alloc, program, ty, number(place)?, member)?;
+            let listed = self.listed(alloc, program, ty, word(place)?, member)?;
             growing.own.insert(listed.shape, listed.member)?;
             growing.hold(listed)?;
         }

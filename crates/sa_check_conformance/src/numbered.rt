@@ -2,10 +2,10 @@
 
 use crate::features::feature_of;
 use crate::listed::{Listed, Lists};
-use crate::parents::number;
 use crate::signatures::{Names, Origin, Signatures};
 use indexmap::IndexMap;
 use sa_check_program::Program;
+use sa_graph::word;
 use sa_tree::{NoMemory, held};
 use smallvec::SmallVec;
 use sqlite_items::Items;
@@ -25,13 +25,7 @@ pub(crate) fn numbered(
     };
     signatures.starts.push(0)?;
     for (ty, list) in lists.by_type.iter().enumerate() {
-        add_list(
-            alloc,
-            program,
-            &mut signatures,
-            number(ty)?,
-            list.as_slice(),
-        )?;
+        add_list(alloc, program, &mut signatures, word(ty)?, list.as_slice())?;
     }
     Ok(signatures)
 }
@@ -46,7 +40,7 @@ fn add_list(
 ) -> Result<(), NoMemory> {
     let mut names = IndexMap::new(alloc);
     for listed in list {
-        let place = number(signatures.origins.len())?;
+        let place = word(signatures.origins.len())?;
         add_name(alloc, program, &mut names, listed, place)?;
         signatures.origins.push(Origin {
             ty,
@@ -55,7 +49,7 @@ fn add_list(
         })?;
     }
     signatures.names.push(names)?;
-    signatures.starts.push(number(signatures.origins.len())?)?;
+    signatures.starts.push(word(signatures.origins.len())?)?;
     Ok(())
 }
 

@@ -1,8 +1,8 @@
 //! An order of the abstract types in which each stands behind those after its `<`.
 
 use sa_check_program::Program;
-use sa_graph::{Graph, word};
-use sa_tree::{Kind, NoMemory, held};
+use sa_graph::Graph;
+use sa_tree::{NoMemory, held};
 use std::alloc::Global;
 
 /// The numbers of the types after the `<` of a type.
@@ -15,11 +15,6 @@ pub(crate) fn parents(alloc: Global, program: &Program<'_>, ty: u32) -> Result<V
         numbers.push(held(program.number_of(ty, below))?)?;
     }
     Ok(numbers)
-}
-
-/// Whether a type is abstract.
-pub(crate) fn is_abstract(program: &Program<'_>, ty: u32) -> bool {
-    matches!(program.kind(ty), Some(Kind::Abstract))
 }
 
 /// The numbers of the abstract types, each behind the types after its `<`.
@@ -44,14 +39,9 @@ fn abstract_ones(
 ) -> Result<Vec<u32>, NoMemory> {
     let mut numbers = Vec::new(alloc);
     for ty in types {
-        if is_abstract(program, *ty) {
+        if program.is_abstract(*ty) {
             numbers.push(*ty)?;
         }
     }
     Ok(numbers)
-}
-
-/// The number of a place in a list.
-pub(crate) fn number(place: usize) -> Result<u32, NoMemory> {
-    word(place)
 }

@@ -1,9 +1,9 @@
 //! The shapes of signatures. A signature that a type writes hides those of its shape that it would inherit.
 
 use crate::features::feature_of;
-use crate::parents::number;
 use indexmap::IndexMap;
 use sa_check_program::{Member, Program};
+use sa_graph::word;
 use sa_tree::{Mode, Name, NoMemory, held};
 use std::alloc::Global;
 
@@ -53,7 +53,7 @@ impl Shapes {
         let feature = feature_of(program, ty, member)?;
         let (name, _) = self.names.insert_full(feature.name.name.copy(alloc)?, ())?;
         Ok(Shape {
-            name: number(name)?,
+            name: word(name)?,
             args: self.args(program, ty, member)?,
             gives: member.result.is_some(),
         })
@@ -76,6 +76,6 @@ impl Shapes {
     /// The number of a list that isn't empty.
     fn longer(&mut self, list: Longer) -> Result<u32, NoMemory> {
         let (place, _) = self.lists.insert_full(list, ())?;
-        number(place.saturating_add(1))
+        word(place.saturating_add(1))
     }
 }

@@ -11,5 +11,5 @@ mod operators;
 mod table;
 mod value;
 
-pub use table::{ConstTable, fold};
-pub use value::{ConstRow, ConstValue, Consts};
+pub use table::ConstTable;
+pub use value::ConstValue;

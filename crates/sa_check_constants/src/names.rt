@@ -36,8 +36,7 @@ fn is_const(program: &Program<'_>, class: u32, feature: u32) -> bool {
 
 /// What a feature of an instance is.
 pub(crate) fn part<'p>(program: &'p Program<'_>, class: u32, feature: u32) -> Option<&'p Part> {
-    let feature = program.class(class)?.features.get(feature as usize)?;
-    Some(&feature.part)
+    Some(&program.feature(class, feature)?.part)
 }
 
 /// The constant that an expression of a class names.
@@ -57,25 +56,14 @@ pub(crate) fn named(program: &Program<'_>, class: u32, e: &Expr) -> Option<(u32,
 
 /// The constant of a class with a name, as another class sees it.
 fn const_of(program: &Program<'_>, from: u32, class: u32, name: &Name) -> Option<(u32, u32)> {
-    let seen = is_same_class(program, from, class);
+    let is_own = program.is_same_class(from, class);
     for place in program.named(class, name.as_slice()) {
         if let Some(member) = program.member(class, *place)
-            && (seen || !member.private)
+            && (is_own || !member.private)
             && is_const(program, class, member.feature)
         {
             return Some((class, member.feature));
         }
     }
     None
-}
-
-/// Whether two instances are those of one class.
-fn is_same_class(program: &Program<'_>, one: u32, other: u32) -> bool {
-    if one == other {
-        return true;
-    }
-    match (program.class(one), program.class(other)) {
-        (Some(one), Some(other)) => one.name.name == other.name.name,
-        _ => false,
-    }
 }

@@ -1,70 +1,70 @@
-//! The children of a form, typed from left to right before the form itself.
-//!
-//! `void`, `#(..)` without a type and an array literal are contextual: they take the type that their place wants, which may
-//! be known only once the form around them is chosen. What they hold is typed at its place all the same, and the contextual
-//! form alone waits for its type.
+//! The children of a form, typed from left to right before the form itself. Of a contextual form only the children are typed
+//! here: it waits for the type that its place expects (`Synthesised`).
 
 use crate::rows::typed;
-use sa_check_calls::{ReadyArg, ReadyExpr};
-use sa_check_choice::{Built, Place, Variable, View, position, variable_named, written};
+use sa_check_calls::{Synthesised, SynthesisedArg};
+use sa_check_choice::{
+    Built, Context, Expected, Variable, View, position, variable_named, written,
+};
 use sa_tree::{Expr, FrontFault, Given, Mode, Pos, Rule, Ty, held};
-use std::alloc::Global;
 
-/// Types an expression for a place that wants a result, or the children of a contextual one.
+/// Types an expression without the type that its place expects: of a contextual one the children alone. The place expects a
+/// result.
 #[cycle(typed)]
-pub fn ready(
-    alloc: Global,
-    view: &View<'_>,
-    place: &Place,
+pub fn synthesised(
+    context: Context<'_>,
     built: &mut Built,
     e: &Expr,
-) -> Result<ReadyExpr, FrontFault> {
+) -> Result<Synthesised, FrontFault> {
     match e {
-        Expr::Void(pos) => Ok(ReadyExpr::Void(*pos)),
+        Expr::Void(pos) => Ok(Synthesised::Void(*pos)),
         Expr::Create(None, args, pos) => {
-            let args = arguments(alloc, view, place, built, args.as_slice(), false)?;
-            Ok(ReadyExpr::Create(args, *pos))
+            let args = arguments(context, built, args.as_slice(), GivenTo::Call)?;
+            Ok(Synthesised::Create(args, *pos))
         }
         Expr::Items(items, pos) => {
-            let items = ready_all(alloc, view, place, built, items.as_slice())?;
-            Ok(ReadyExpr::Items(items, *pos))
+            let items = synthesised_all(context, built, items.as_slice())?;
+            Ok(Synthesised::Items(items, *pos))
         }
         _ => {
-            let value = typed(alloc, view, place, built, e, true, None)?;
-            Ok(ReadyExpr::Typed(value, position(e)))
+            let value = typed(context, built, e, Expected::Value)?;
+            Ok(Synthesised::Typed(value, position(e)))
         }
     }
 }
 
-/// Types expressions from left to right, as `ready` does each of them.
+/// Types expressions from left to right, as `synthesised` does each of them.
 #[cycle(typed)]
-pub fn ready_all(
-    alloc: Global,
-    view: &View<'_>,
-    place: &Place,
+pub fn synthesised_all(
+    context: Context<'_>,
     built: &mut Built,
     list: &[Expr],
-) -> Result<Vec<ReadyExpr>, FrontFault> {
-    let mut all = Vec::new(alloc);
+) -> Result<Vec<Synthesised>, FrontFault> {
+    let mut all = Vec::new(context.view.alloc);
     for e in list {
-        all.push(ready(alloc, view, place, built, e)?)?;
+        all.push(synthesised(context, built, e)?)?;
     }
     Ok(all)
 }
 
-/// Types the arguments of a call, or of the head of a bind, from left to right.
+/// What arguments are given to. A bind may leave some of them open.
+#[derive(Clone, Copy, PartialEq, Eq)]
+pub(crate) enum GivenTo {
+    Call,
+    BindHead,
+}
+
+/// Types arguments from left to right.
 #[cycle(typed)]
 pub(crate) fn arguments(
-    alloc: Global,
-    view: &View<'_>,
-    place: &Place,
+    context: Context<'_>,
     built: &mut Built,
     args: &[Given],
-    is_head: bool,
-) -> Result<Vec<ReadyArg>, FrontFault> {
-    let mut all = Vec::new(alloc);
+    given_to: GivenTo,
+) -> Result<Vec<SynthesisedArg>, FrontFault> {
+    let mut all = Vec::new(context.view.alloc);
     for given in args {
-        all.push(argument(alloc, view, place, built, given, is_head)?)?;
+        all.push(argument(context, built, given, given_to)?)?;
     }
     Ok(all)
 }
@@ -76,35 +76,37 @@ pub(crate) fn arguments(
 /// - E42: the call writes it, and it is the variable of a typecase in one of its branches.
 #[cycle(typed)]
 fn argument(
-    alloc: Global,
-    view: &View<'_>,
-    place: &Place,
+    context: Context<'_>,
     built: &mut Built,
     given: &Given,
-    is_head: bool,
-) -> Result<ReadyArg, FrontFault> {
+    given_to: GivenTo,
+) -> Result<SynthesisedArg, FrontFault> {
     match given {
-        Given::Left(ty, pos) => open_argument(view, ty, *pos, is_head),
+        Given::Left(ty, pos) => open_argument(context.view, ty, *pos, given_to),
         Given::Value(Mode::In | Mode::Once, e) => {
-            let value = ready(alloc, view, place, built, e)?;
-            Ok(ReadyArg::Value(value))
+            let value = synthesised(context, built, e)?;
+            Ok(SynthesisedArg::Value(value))
         }
         Given::Value(mode, e) => {
-            if let Some(variable) = variable_named(place, e) {
+            if let Some(variable) = variable_named(context.place, e) {
                 return written_argument(*mode, variable, position(e));
             }
-            let _inside = ready(alloc, view, place, built, e)?;
+            let _inside = synthesised(context, built, e)?;
             Err(Rule::NotAssignable.at(position(e)).into())
         }
     }
 }
 
 /// A variable that a call writes.
-fn written_argument(mode: Mode, variable: Variable, pos: Pos) -> Result<ReadyArg, FrontFault> {
+fn written_argument(
+    mode: Mode,
+    variable: Variable,
+    pos: Pos,
+) -> Result<SynthesisedArg, FrontFault> {
     if variable.narrowed {
         return Err(Rule::TypecaseVariable.at(pos).into());
     }
-    Ok(ReadyArg::Variable(mode, variable))
+    Ok(SynthesisedArg::Variable(mode, variable))
 }
 
 /// An argument that a bind leaves open: `_`, and `_:T` with its type.
@@ -112,13 +114,13 @@ fn open_argument(
     view: &View<'_>,
     ty: &Option<Ty>,
     pos: Pos,
-    is_head: bool,
-) -> Result<ReadyArg, FrontFault> {
-    if !is_head {
+    given_to: GivenTo,
+) -> Result<SynthesisedArg, FrontFault> {
+    if given_to == GivenTo::Call {
         return Err(Rule::BadBind.at(pos).into());
     }
     match ty {
-        None => Ok(ReadyArg::Left(None)),
-        Some(ty) => Ok(ReadyArg::Left(Some(held(written(view, ty))?))),
+        None => Ok(SynthesisedArg::Left(None)),
+        Some(ty) => Ok(SynthesisedArg::Left(Some(held(written(view, ty))?))),
     }
 }

@@ -1,13 +1,13 @@
 //! The row of a form with what stands inside it, typed or refused: of several refusals inside the first one counts.
 
-use sa_check_calls::{ReadyArg, ReadyExpr, Receiver, call_form, settled};
+use sa_check_calls::{CallHead, Receiver, Synthesised, SynthesisedArg, call_form, checked};
 use sa_check_choice::{
-    Built, Place, Typed, View, character, exception, int, me, text, truth, written,
+    Built, Context, Expected, Typed, View, character, exception, int, me, text, truth, written,
 };
 use sa_check_forms::{
-    binary, bind_form, connected, create, index, is_void, new_array, new_object, unary,
+    Operation, binary, bind_form, connected, create, index, is_void, new_array, new_object, unary,
 };
-use sa_tree::{Expr, FrontFault, Name, Op, Pos, Recv, Ty};
+use sa_tree::{Expr, FrontFault, Op, Pos, Ty};
 use std::alloc::Global;
 
 /// What the typing of a part of a form gave.
@@ -15,22 +15,20 @@ type Inside<T> = Result<T, FrontFault>;
 
 /// A form that holds no expressions. The others are no such form.
 pub(crate) fn without_inside(
-    alloc: Global,
-    view: &View<'_>,
-    place: &Place,
+    context: Context<'_>,
     built: &Built,
     e: &Expr,
-    wanted: Option<u32>,
+    expected: Expected,
 ) -> Result<Typed, FrontFault> {
     match e {
         Expr::Int(value, _) => Ok(int(*value)?),
         Expr::Bool(value, _) => Ok(truth(*value)),
         Expr::Char(value, _) => Ok(character(*value)),
-        Expr::Text(value, _) => Ok(text(alloc, value)?),
-        Expr::Me(_) => Ok(me(view)),
-        Expr::Void(pos) => settled(alloc, view, built, ReadyExpr::Void(*pos), wanted),
-        Expr::Exception(pos) => exception(place, *pos),
-        Expr::New(_, pos) => new_object(view, *pos),
+        Expr::Text(value, _) => Ok(text(context.view.alloc, value)?),
+        Expr::Me(_) => Ok(me(context.view)),
+        Expr::Void(pos) => checked(context.view, built, Synthesised::Void(*pos), expected),
+        Expr::Exception(pos) => exception(context.place, *pos),
+        Expr::New(_, pos) => new_object(context.view, *pos),
         _ => Err(FrontFault::NoMemory),
     }
 }
@@ -38,7 +36,7 @@ pub(crate) fn without_inside(
 /// `void(e)`
 pub(crate) fn void_test(
     alloc: Global,
-    of: Inside<ReadyExpr>,
+    of: Inside<Synthesised>,
     pos: Pos,
 ) -> Result<Typed, FrontFault> {
     is_void(alloc, of?, pos)
@@ -46,69 +44,58 @@ pub(crate) fn void_test(
 
 /// `new(n)`
 pub(crate) fn array_object(
-    alloc: Global,
     view: &View<'_>,
     length: Inside<Typed>,
     pos: Pos,
 ) -> Result<Typed, FrontFault> {
-    new_array(alloc, view, length?, pos)
+    new_array(view, length?, pos)
 }
 
-/// `#(..)` without a type, at the type that its place wants.
+/// `#(..)` without a type, at the type that its place expects.
 pub(crate) fn object_here(
-    alloc: Global,
     view: &View<'_>,
     built: &Built,
-    args: Inside<Vec<ReadyArg>>,
-    wanted: Option<u32>,
+    args: Inside<Vec<SynthesisedArg>>,
+    expected: Expected,
     pos: Pos,
 ) -> Result<Typed, FrontFault> {
-    settled(alloc, view, built, ReadyExpr::Create(args?, pos), wanted)
+    checked(view, built, Synthesised::Create(args?, pos), expected)
 }
 
 /// `#C(..)`
 pub(crate) fn object_of(
-    alloc: Global,
-    view: &View<'_>,
-    place: &Place,
+    context: Context<'_>,
     built: &mut Built,
     class: &Ty,
-    args: Inside<Vec<ReadyArg>>,
+    args: Inside<Vec<SynthesisedArg>>,
     pos: Pos,
-    wants: bool,
+    expected: Expected,
 ) -> Result<Typed, FrontFault> {
-    let class = written(view, class);
-    create(alloc, view, place, built, class, args?, pos, wants)
+    let class = written(context.view, class);
+    create(context, built, class, args?, pos, expected)
 }
 
-/// An array literal, at the type that its place wants.
+/// An array literal, at the type that its place expects.
 pub(crate) fn array(
-    alloc: Global,
     view: &View<'_>,
     built: &Built,
-    items: Inside<Vec<ReadyExpr>>,
-    wanted: Option<u32>,
+    items: Inside<Vec<Synthesised>>,
+    expected: Expected,
     pos: Pos,
 ) -> Result<Typed, FrontFault> {
-    settled(alloc, view, built, ReadyExpr::Items(items?, pos), wanted)
+    checked(view, built, Synthesised::Items(items?, pos), expected)
 }
 
 /// A call by name that isn't a variable.
 pub(crate) fn called(
-    alloc: Global,
-    view: &View<'_>,
-    place: &Place,
+    context: Context<'_>,
     built: &mut Built,
-    on: &Recv,
-    name: &Name,
+    head: CallHead<'_>,
     receiver: Inside<Receiver>,
-    args: Inside<Vec<ReadyArg>>,
-    pos: Pos,
-    wants: bool,
+    args: Inside<Vec<SynthesisedArg>>,
+    expected: Expected,
 ) -> Result<Typed, FrontFault> {
-    call_form(
-        alloc, view, place, built, on, name, receiver?, args?, pos, wants,
-    )
+    call_form(context, built, head, receiver?, args?, expected)
 }
 
 /// `and` and `or`
@@ -122,63 +109,52 @@ pub(crate) fn joined(
     connected(alloc, op, left?, right?, pos)
 }
 
-/// Another operator of two operands, of which the left one stands at `at`.
+/// Another operator of two operands.
 pub(crate) fn operated(
-    alloc: Global,
-    view: &View<'_>,
-    place: &Place,
+    context: Context<'_>,
     built: &mut Built,
-    op: Op,
+    operation: Operation,
     left: Inside<Receiver>,
-    at: Pos,
-    right: Inside<ReadyExpr>,
-    pos: Pos,
-    wants: bool,
+    right: Inside<Synthesised>,
+    expected: Expected,
 ) -> Result<Typed, FrontFault> {
-    binary(alloc, view, place, built, op, left?, at, right?, pos, wants)
+    binary(context, built, operation, left?, right?, expected)
 }
 
 /// `-` and `~` in front of an operand.
 pub(crate) fn signed(
-    alloc: Global,
-    view: &View<'_>,
-    place: &Place,
+    context: Context<'_>,
     built: &mut Built,
     op: Op,
     of: Inside<Receiver>,
     pos: Pos,
-    wants: bool,
+    expected: Expected,
 ) -> Result<Typed, FrontFault> {
-    unary(alloc, view, place, built, op, of?, pos, wants)
+    unary(context, built, op, of?, pos, expected)
 }
 
 /// `e[..]` and `[..]`
 pub(crate) fn indexed(
-    alloc: Global,
-    view: &View<'_>,
-    place: &Place,
+    context: Context<'_>,
     built: &mut Built,
     of: Inside<Receiver>,
-    places: Inside<Vec<ReadyExpr>>,
+    places: Inside<Vec<Synthesised>>,
     pos: Pos,
-    wants: bool,
+    expected: Expected,
 ) -> Result<Typed, FrontFault> {
-    index(alloc, view, place, built, of?, places?, pos, wants)
+    index(context, built, of?, places?, pos, expected)
 }
 
 /// `bind(..)` of a call by name.
 pub(crate) fn bound(
-    alloc: Global,
-    view: &View<'_>,
-    place: &Place,
+    context: Context<'_>,
     built: &mut Built,
     head: &Expr,
-    name: &Name,
     receiver: Inside<Receiver>,
-    args: Inside<Vec<ReadyArg>>,
+    args: Inside<Vec<SynthesisedArg>>,
     pos: Pos,
 ) -> Result<Typed, FrontFault> {
-    bind_form(alloc, view, place, built, head, name, receiver?, args?, pos)
+    bind_form(context, built, head, receiver?, args?, pos)
 }
 
 /// That a part is typed.

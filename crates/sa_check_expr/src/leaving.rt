@@ -1,32 +1,28 @@
 //! `while!`, `until!` and `break!` as statements.
 
-use crate::children::arguments;
-use sa_check_calls::{leave_form, leave_of};
-use sa_check_choice::{Built, Place, View};
-use sa_core::ExprCore;
+use crate::children::{GivenTo, arguments};
+use sa_check_calls::{LoopExit, leave_form};
+use sa_check_choice::{Built, Context};
+use sa_core::StmtCore;
 use sa_tree::{Expr, FrontFault};
-use std::alloc::Global;
 
-/// What leaves the innermost loop, as a statement: `break!` (0), or `while!` (1) or `until!` (2) with their test. None where
-/// the expression is none of them. It is refused at its name, after what is refused inside it:
+/// The statement that leaves the innermost loop: `break!`, or `while!` or `until!` with their test. None where the expression
+/// is none of them. It is refused at its name, after what is refused inside it:
 ///
 /// - E35, E38: it stands outside a loop, or a protect stands between it and its loop.
 /// - E31: `break!` has an argument, or another one hasn't exactly one.
 /// - E33: its argument isn't a BOOL.
 pub fn leave(
-    alloc: Global,
-    view: &View<'_>,
-    place: &Place,
+    context: Context<'_>,
     built: &mut Built,
     e: &Expr,
-) -> Result<Option<(u8, Option<ExprCore>)>, FrontFault> {
+) -> Result<Option<StmtCore>, FrontFault> {
     let Expr::Call(on, name, args, pos) = e else {
         return Ok(None);
     };
-    let Some(number) = leave_of(on, name) else {
+    let Some(exit) = LoopExit::of_call(on, name) else {
         return Ok(None);
     };
-    let args = arguments(alloc, view, place, built, args.as_slice(), false)?;
-    let test = leave_form(alloc, view, place, built, number, args, *pos)?;
-    Ok(Some((number, test)))
+    let args = arguments(context, built, args.as_slice(), GivenTo::Call)?;
+    Ok(Some(leave_form(context, built, exit, args, *pos)?))
 }

@@ -1,117 +1,115 @@
 //! The row of each form of an expression. Its children are typed first, from left to right, and then the row's conditions
 //! are asked in their order.
 
-use crate::children::{arguments, ready, ready_all};
+use crate::children::{GivenTo, arguments, synthesised, synthesised_all};
 use crate::inside::{
     array, array_object, bound, called, indexed, joined, object_here, object_of, operated, signed,
     void_test, without_inside,
 };
 use crate::part::parts;
 use crate::receiver::{operand, receiver_of};
-use sa_check_calls::Receiver;
-use sa_check_choice::{Built, Place, Typed, View, position, variable_named, variable_value};
+use sa_check_calls::{CallHead, Receiver};
+use sa_check_choice::{Built, Context, Expected, Typed, position, variable_named, variable_value};
+use sa_check_forms::Operation;
 use sa_check_program::{BOOL, INT};
 use sa_tree::{Expr, FrontFault, Op, Pos, Rule};
-use std::alloc::Global;
 
 /// Whether an operator is `and` or `or`, whose operands are BOOL.
 fn is_of_bool(op: Op) -> bool {
     op == Op::And || op == Op::Or
 }
 
-/// Types an expression. `wants` tells whether its place wants a result, and `wanted` which type it wants, for a form that
-/// takes its type from there. The sites of its iter calls and the bound types of its binds are put into `built`, which may
-/// have grown where it is refused.
+/// Types an expression, of which its place expects this. The sites of its iter calls and the bound types of its binds are put
+/// into `built`, which may have grown where it is refused.
 #[cycle(typed)]
 pub fn typed(
-    alloc: Global,
-    view: &View<'_>,
-    place: &Place,
+    context: Context<'_>,
     built: &mut Built,
     e: &Expr,
-    wants: bool,
-    wanted: Option<u32>,
+    expected: Expected,
 ) -> Result<Typed, FrontFault> {
     match e {
         Expr::IsVoid(of, pos) => {
-            let of = ready(alloc, view, place, built, of.get());
-            void_test(alloc, of, *pos)
+            let of = synthesised(context, built, of.get());
+            void_test(context.view.alloc, of, *pos)
         }
         Expr::New(Some(length), pos) => {
-            let length = typed(alloc, view, place, built, length.get(), true, Some(INT));
-            array_object(alloc, view, length, *pos)
+            let length = typed(context, built, length.get(), Expected::Type(INT));
+            array_object(context.view, length, *pos)
         }
         Expr::Create(None, args, pos) => {
-            let args = arguments(alloc, view, place, built, args.as_slice(), false);
-            object_here(alloc, view, built, args, wanted, *pos)
+            let args = arguments(context, built, args.as_slice(), GivenTo::Call);
+            object_here(context.view, built, args, expected, *pos)
         }
         Expr::Create(Some(class), args, pos) => {
-            let args = arguments(alloc, view, place, built, args.as_slice(), false);
-            object_of(alloc, view, place, built, class, args, *pos, wants)
+            let args = arguments(context, built, args.as_slice(), GivenTo::Call);
+            object_of(context, built, class, args, *pos, expected)
         }
         Expr::Items(items, pos) => {
-            let items = ready_all(alloc, view, place, built, items.as_slice());
-            array(alloc, view, built, items, wanted, *pos)
+            let items = synthesised_all(context, built, items.as_slice());
+            array(context.view, built, items, expected, *pos)
         }
         Expr::Call(on, name, args, pos) => {
-            if let Some(variable) = variable_named(place, e) {
+            if let Some(variable) = variable_named(context.place, e) {
                 return Ok(variable_value(variable));
             }
-            let receiver = receiver_of(alloc, view, place, built, on);
-            let args = arguments(alloc, view, place, built, args.as_slice(), false);
-            called(
-                alloc, view, place, built, on, name, receiver, args, *pos, wants,
-            )
+            let receiver = receiver_of(context, built, on);
+            let args = arguments(context, built, args.as_slice(), GivenTo::Call);
+            let pos = *pos;
+            let head = CallHead { on, name, pos };
+            called(context, built, head, receiver, args, expected)
         }
         Expr::Binary(op, one, other, pos) => {
             let (one, other) = (one.get(), other.get());
             if is_of_bool(*op) {
-                let left = typed(alloc, view, place, built, one, true, Some(BOOL));
-                let right = typed(alloc, view, place, built, other, true, Some(BOOL));
-                return joined(alloc, *op, left, right, *pos);
+                let left = typed(context, built, one, Expected::Type(BOOL));
+                let right = typed(context, built, other, Expected::Type(BOOL));
+                return joined(context.view.alloc, *op, left, right, *pos);
             }
-            let left = operand(alloc, view, place, built, one);
-            let right = ready(alloc, view, place, built, other);
-            let at = position(one);
-            operated(alloc, view, place, built, *op, left, at, right, *pos, wants)
+            let left = operand(context, built, one);
+            let right = synthesised(context, built, other);
+            let operation = Operation {
+                op: *op,
+                left: position(one),
+                pos: *pos,
+            };
+            operated(context, built, operation, left, right, expected)
         }
         Expr::Unary(op, of, pos) => {
-            let of = operand(alloc, view, place, built, of.get());
-            signed(alloc, view, place, built, *op, of, *pos, wants)
+            let of = operand(context, built, of.get());
+            signed(context, built, *op, of, *pos, expected)
         }
         Expr::Index(None, places, pos) => {
-            let places = ready_all(alloc, view, place, built, places.as_slice());
+            let places = synthesised_all(context, built, places.as_slice());
             let own = Ok(Receiver::Own);
-            indexed(alloc, view, place, built, own, places, *pos, wants)
+            indexed(context, built, own, places, *pos, expected)
         }
         Expr::Index(Some(of), places, pos) => {
-            let of = operand(alloc, view, place, built, of.get());
-            let places = ready_all(alloc, view, place, built, places.as_slice());
-            indexed(alloc, view, place, built, of, places, *pos, wants)
+            let of = operand(context, built, of.get());
+            let places = synthesised_all(context, built, places.as_slice());
+            indexed(context, built, of, places, *pos, expected)
         }
-        Expr::Bind(head, pos) => bind(alloc, view, place, built, head.get(), *pos),
-        _ => without_inside(alloc, view, place, built, e, wanted),
+        Expr::Bind(head, pos) => bind(context, built, head.get(), *pos),
+        _ => without_inside(context, built, e, expected),
     }
 }
 
 /// `bind(..)` of a head: E45 unless that is a call by name.
 #[cycle(typed)]
 fn bind(
-    alloc: Global,
-    view: &View<'_>,
-    place: &Place,
+    context: Context<'_>,
     built: &mut Built,
     head: &Expr,
     pos: Pos,
 ) -> Result<Typed, FrontFault> {
     match head {
-        Expr::Call(on, name, args, _) => {
-            let receiver = receiver_of(alloc, view, place, built, on);
-            let args = arguments(alloc, view, place, built, args.as_slice(), true);
-            bound(alloc, view, place, built, head, name, receiver, args, pos)
+        Expr::Call(on, _, args, _) => {
+            let receiver = receiver_of(context, built, on);
+            let args = arguments(context, built, args.as_slice(), GivenTo::BindHead);
+            bound(context, built, head, receiver, args, pos)
         }
         _ => {
-            parts(alloc, view, place, built, head)?;
+            parts(context, built, head)?;
             Err(Rule::BadBind.at(pos).into())
         }
     }

@@ -1,65 +1,68 @@
 //! Binds: a call some of whose arguments are given later.
 
 use sa_check_calls::{
-    PassedArgs, ReadyArg, Receiver, is_iter_name, leave_of, passed, seen_arguments,
+    Call, LoopExit, PassedArgs, Receiver, SynthesisedArg, is_iter_name, passed, seen_arguments,
 };
 use sa_check_choice::{
-    Built, Candidate, Place, Typed, View, bound_candidate, described_choice, description,
+    Built, Candidate, Context, Place, Typed, View, bound_candidate, described_choice, description,
     first_iter, number_of, position, variable_named,
 };
 use sa_core::{CalledCore, ExprCore};
 use sa_signatures::Cand;
-use sa_tree::{Expr, FrontFault, ModeTy, Name, NoMemory, Pos, Rule, Ty, held};
+use sa_tree::{Expr, FrontFault, ModeTy, NoMemory, Pos, Rule, Ty, held};
 use sqlite_items::{Boxed, Items};
 use std::alloc::Global;
 
-/// `bind(..)` of a head that is a call by name, with what stands inside it typed. It is refused at `pos` with E45:
+/// `bind(..)` of a head with what stands inside it typed. It is refused at `pos` with E45:
 ///
-/// - unless the head isn't a variable, `call`, `call!` or a built-in iter;
+/// - unless the head is a call by name that isn't a variable, `call`, `call!` or a built-in iter;
 /// - if an argument of the head is `out` or `inout`;
 /// - if what the head chooses is a const.
 ///
 /// The head is refused at its name as another call is, but that it may stand outside a loop and within a protect.
 pub fn bind_form(
-    alloc: Global,
-    view: &View<'_>,
-    place: &Place,
+    context: Context<'_>,
     built: &mut Built,
     head: &Expr,
-    name: &Name,
-    receiver: Receiver,
-    args: Vec<ReadyArg>,
+    on: Receiver,
+    args: Vec<SynthesisedArg>,
     pos: Pos,
 ) -> Result<Typed, FrontFault> {
-    if !is_bindable(place, head) || writes(args.as_slice()) {
+    let Some(name) = bindable_name(context.place, head) else {
+        return Err(Rule::BadBind.at(pos).into());
+    };
+    if writes(args.as_slice()) {
         return Err(Rule::BadBind.at(pos).into());
     }
-    bind(
-        alloc,
-        view,
-        built,
-        receiver,
-        name.as_slice(),
+    let form = Call {
+        on,
+        name,
         args,
-        position(head),
-        pos,
-    )
+        pos: position(head),
+    };
+    bind(context.view, built, form, pos)
 }
 
-/// Whether a head is a call by name that can be bound: it isn't a variable, `call`, `call!`, `while!`, `until!` or `break!`.
-fn is_bindable(place: &Place, head: &Expr) -> bool {
+/// The name of a head that is a call by name and can be bound: it isn't a variable, `call`, `call!`, `while!`, `until!` or
+/// `break!`.
+fn bindable_name<'e>(place: &Place, head: &'e Expr) -> Option<&'e [u8]> {
     let Expr::Call(on, name, _, _) = head else {
-        return false;
+        return None;
     };
-    variable_named(place, head).is_none()
-        && leave_of(on, name).is_none()
-        && !matches!(name.as_slice(), b"call" | b"call!")
+    let word = name.as_slice();
+    if variable_named(place, head).is_some()
+        || LoopExit::of_call(on, name).is_some()
+        || matches!(word, b"call" | b"call!")
+    {
+        return None;
+    }
+    Some(word)
 }
 
 /// Whether the call writes a variable.
-fn writes(args: &[ReadyArg]) -> bool {
+fn writes(args: &[SynthesisedArg]) -> bool {
     args.iter()
-        .any(|arg| matches!(arg, ReadyArg::Variable(_, _)))
+        .any(|arg| matches!(arg, SynthesisedArg::Variable(_, _)))
 }
 
 /// What the head of a bind calls, and the number of the type of the bound value.
@@ -71,39 +74,32 @@ struct Head {
     ty: u32,
 }
 
-/// The bound value of a head that stands at `at`.
-fn bind(
-    alloc: Global,
-    view: &View<'_>,
-    built: &mut Built,
-    on: Receiver,
-    name: &[u8],
-    args: Vec<ReadyArg>,
-    at: Pos,
-    pos: Pos,
-) -> Result<Typed, FrontFault> {
-    let head = head_of(alloc, view, built, &on, name, args.as_slice(), at, pos)?;
-    let passed = head_passed(alloc, view, built, head, args, at)?;
-    Ok(bound_value(alloc, head, on, passed, pos)?)
+/// The bound value of a head.
+fn bind(view: &View<'_>, built: &mut Built, form: Call<'_>, pos: Pos) -> Result<Typed, FrontFault> {
+    let head = head_of(view, built, &form, pos)?;
+    let Call {
+        on,
+        name: _name,
+        args,
+        pos: at,
+    } = form;
+    let passed = head_passed(view, built, head, args, at)?;
+    Ok(bound_value(view.alloc, head, on, passed, pos)?)
 }
 
 /// What a head chooses: E45 where that is a const.
 fn head_of(
-    alloc: Global,
     view: &View<'_>,
     built: &mut Built,
-    on: &Receiver,
-    name: &[u8],
-    args: &[ReadyArg],
-    at: Pos,
+    form: &Call<'_>,
     pos: Pos,
 ) -> Result<Head, FrontFault> {
-    let of = on.ty(view, at)?;
-    let candidate = head_candidate(alloc, view, built, of, name, args, at)?;
-    let Some(called) = head_called(alloc, view, of, candidate)? else {
+    let of = form.on.ty(view, form.pos)?;
+    let candidate = head_candidate(view, built, of, form)?;
+    let Some(called) = head_called(view, of, candidate)? else {
         return Err(Rule::BadBind.at(pos).into());
     };
-    let ty = bound_number(alloc, view, built, name, args, candidate, pos)?;
+    let ty = bound_number(view, built, form, candidate, pos)?;
     Ok(Head {
         of,
         candidate,
@@ -114,43 +110,34 @@ fn head_of(
 
 /// The candidate that a head chooses.
 fn head_candidate(
-    alloc: Global,
     view: &View<'_>,
     built: &Built,
     of: u32,
-    name: &[u8],
-    args: &[ReadyArg],
-    at: Pos,
+    form: &Call<'_>,
 ) -> Result<Candidate, FrontFault> {
-    let seen = seen_arguments(alloc, view, built, args)?;
-    bound_candidate(alloc, view, of, name, seen.as_slice(), at)
+    let seen = seen_arguments(view, built, form.args.as_slice())?;
+    bound_candidate(view, of, form.name, seen.as_slice(), form.pos)
 }
 
 /// What a candidate calls. A const calls nothing.
 fn head_called(
-    alloc: Global,
     view: &View<'_>,
     of: u32,
     candidate: Candidate,
 ) -> Result<Option<CalledCore>, NoMemory> {
-    Ok(
-        described_choice(alloc, view, of, candidate)?
-            .reached
-            .called(),
-    )
+    Ok(described_choice(view, of, candidate)?.reached.called())
 }
 
 /// The arguments of a head at the parameters of what it calls.
 fn head_passed(
-    alloc: Global,
     view: &View<'_>,
     built: &Built,
     head: Head,
-    args: Vec<ReadyArg>,
+    args: Vec<SynthesisedArg>,
     at: Pos,
 ) -> Result<PassedArgs, FrontFault> {
-    let choice = described_choice(alloc, view, head.of, head.candidate)?;
-    passed(alloc, view, built, args, choice.params.as_slice(), at)
+    let choice = described_choice(view, head.of, head.candidate)?;
+    passed(view, built, args, choice.params.as_slice(), at)
 }
 
 /// The bind of what the head calls.
@@ -165,7 +152,6 @@ fn bound_value(
         args,
         iter,
         once: _once,
-        fit: _fit,
     } = passed;
     let iter = first_iter(on.iter(), iter);
     let on = Boxed::new(alloc, on.into_core()?)?;
@@ -178,38 +164,34 @@ fn bound_value(
 
 /// The number of the type of a bound value.
 fn bound_number(
-    alloc: Global,
     view: &View<'_>,
     built: &mut Built,
-    name: &[u8],
-    args: &[ReadyArg],
+    form: &Call<'_>,
     candidate: Candidate,
     pos: Pos,
 ) -> Result<u32, NoMemory> {
-    let ty = bound_type(alloc, view, name, args, candidate, pos)?;
+    let ty = bound_type(view, form, candidate, pos)?;
     number_of_bound(view, built, ty)
 }
 
 /// The type of a bound value at the position of its bind: over the open arguments in order, each with the mode and the type
 /// of its parameter. The types keep the positions at which the candidate writes them.
 fn bound_type(
-    alloc: Global,
     view: &View<'_>,
-    name: &[u8],
-    args: &[ReadyArg],
+    form: &Call<'_>,
     candidate: Candidate,
     pos: Pos,
 ) -> Result<Ty, NoMemory> {
     let Cand {
         args: params,
         result: gives,
-    } = description(alloc, view, candidate)?;
-    let open = open_params(alloc, args, params.as_slice())?;
+    } = description(view, candidate)?;
+    let open = open_params(view.alloc, form.args.as_slice(), params.as_slice())?;
     let gives = match gives {
         None => None,
-        Some(ty) => Some(Boxed::new(alloc, ty)?),
+        Some(ty) => Some(Boxed::new(view.alloc, ty)?),
     };
-    if is_iter_name(name) {
+    if is_iter_name(form.name) {
         Ok(Ty::Iter(open, gives, pos))
     } else {
         Ok(Ty::Rout(open, gives, pos))
@@ -219,12 +201,12 @@ fn bound_type(
 /// The parameters whose arguments are left open.
 fn open_params(
     alloc: Global,
-    args: &[ReadyArg],
+    args: &[SynthesisedArg],
     params: &[ModeTy],
 ) -> Result<Items<ModeTy>, NoMemory> {
     let mut open = Items::new(alloc);
     for (arg, param) in args.iter().zip(params) {
-        if matches!(arg, ReadyArg::Left(_)) {
+        if arg.is_left() {
             let ty = param.ty.copy(alloc)?;
             open.push(ModeTy {
                 mode: param.mode,

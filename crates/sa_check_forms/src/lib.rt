@@ -8,4 +8,4 @@ mod swapped;
 
 pub use bind::bind_form;
 pub use object::{create, is_void, new_array, new_object};
-pub use operator::{binary, connected, index, unary};
+pub use operator::{Operation, binary, connected, index, unary};

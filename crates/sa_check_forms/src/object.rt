@@ -1,7 +1,7 @@
 //! New objects, those that a class creates, and the test for void.
 
-use sa_check_calls::{ReadyArg, ReadyExpr, Receiver, call};
-use sa_check_choice::{Built, Place, Typed, View, kind_of, of_type};
+use sa_check_calls::{Call, Receiver, Synthesised, SynthesisedArg, call};
+use sa_check_choice::{Built, Context, Expected, Typed, View, kind_of, of_type};
 use sa_check_program::{BOOL, INT};
 use sa_core::ExprCore;
 use sa_tree::{FrontFault, Kind, Pos, Rule, held};
@@ -20,12 +20,7 @@ pub fn new_object(view: &View<'_>, pos: Pos) -> Result<Typed, FrontFault> {
 }
 
 /// `new(n)`. E30: the class is no reference class. E31: its objects have no array part. E33: the length is no INT.
-pub fn new_array(
-    alloc: Global,
-    view: &View<'_>,
-    length: Typed,
-    pos: Pos,
-) -> Result<Typed, FrontFault> {
+pub fn new_array(view: &View<'_>, length: Typed, pos: Pos) -> Result<Typed, FrontFault> {
     if kind_of(view, view.class) != Kind::Reference {
         return Err(Rule::UnknownName.at(pos).into());
     }
@@ -36,7 +31,7 @@ pub fn new_array(
         return Err(Rule::WrongType.at(pos).into());
     }
     Ok(Typed {
-        core: ExprCore::NewArray(view.class, Boxed::new(alloc, length.core)?, pos),
+        core: ExprCore::NewArray(view.class, Boxed::new(view.alloc, length.core)?, pos),
         ty: Some(view.class),
         iter: length.iter,
     })
@@ -44,23 +39,26 @@ pub fn new_array(
 
 /// `#C(..)` with the number of its class: a call of `create` on void of the class.
 pub fn create(
-    alloc: Global,
-    view: &View<'_>,
-    place: &Place,
+    context: Context<'_>,
     built: &mut Built,
     class: Option<u32>,
-    args: Vec<ReadyArg>,
+    args: Vec<SynthesisedArg>,
     pos: Pos,
-    wants: bool,
+    expected: Expected,
 ) -> Result<Typed, FrontFault> {
     let class = held(class)?;
-    let on = Receiver::Class(class);
-    call(alloc, view, place, built, on, b"create", args, pos, wants)
+    let form = Call {
+        on: Receiver::Class(class),
+        name: b"create",
+        args,
+        pos,
+    };
+    call(context, built, form, expected)
 }
 
 /// `void(e)`: E41 where the expression is contextual.
-pub fn is_void(alloc: Global, of: ReadyExpr, pos: Pos) -> Result<Typed, FrontFault> {
-    let ReadyExpr::Typed(of, _) = of else {
+pub fn is_void(alloc: Global, of: Synthesised, pos: Pos) -> Result<Typed, FrontFault> {
+    let Synthesised::Typed(of, _) = of else {
         return Err(Rule::NoTypeFromContext.at(pos).into());
     };
     Ok(Typed {

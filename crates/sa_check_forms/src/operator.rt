@@ -5,11 +5,11 @@
 //! `~(a < b)` and `a /= b` means `~(a = b)`. Operands are evaluated from left to right all the same.
 
 use crate::swapped::swapped;
-use sa_check_calls::{ReadyArg, ReadyExpr, Receiver, call};
-use sa_check_choice::{Built, Place, Typed, View, first_iter, kind_of};
+use sa_check_calls::{Call, Receiver, Synthesised, SynthesisedArg, call};
+use sa_check_choice::{Built, Context, Expected, Typed, View, first_iter};
 use sa_check_program::BOOL;
 use sa_core::ExprCore;
-use sa_tree::{FrontFault, Kind, NoMemory, Op, Pos, Rule};
+use sa_tree::{FrontFault, NoMemory, Op, Pos, Rule};
 use sqlite_items::Boxed;
 use std::alloc::Global;
 
@@ -62,96 +62,104 @@ pub fn connected(
 
 /// `-` and `~`: a call on the operand.
 pub fn unary(
-    alloc: Global,
-    view: &View<'_>,
-    place: &Place,
+    context: Context<'_>,
     built: &mut Built,
     op: Op,
     of: Receiver,
     pos: Pos,
-    wants: bool,
+    expected: Expected,
 ) -> Result<Typed, FrontFault> {
-    let none = Vec::new(alloc);
-    call(
-        alloc,
-        view,
-        place,
-        built,
-        of,
-        called_name(op),
-        none,
+    let form = Call {
+        on: of,
+        name: called_name(op),
+        args: Vec::new(context.view.alloc),
         pos,
-        wants,
-    )
+    };
+    call(context, built, form, expected)
 }
 
 /// `e[..]` and `[..]`: a call of `aget`.
 pub fn index(
-    alloc: Global,
-    view: &View<'_>,
-    place: &Place,
+    context: Context<'_>,
     built: &mut Built,
     of: Receiver,
-    places: Vec<ReadyExpr>,
+    places: Vec<Synthesised>,
     pos: Pos,
-    wants: bool,
+    expected: Expected,
 ) -> Result<Typed, FrontFault> {
-    let args = values(alloc, places)?;
-    call(alloc, view, place, built, of, b"aget", args, pos, wants)
+    let args = values(context.view.alloc, places)?;
+    let form = Call {
+        on: of,
+        name: b"aget",
+        args,
+        pos,
+    };
+    call(context, built, form, expected)
 }
 
 /// Arguments that are values.
-fn values(alloc: Global, list: Vec<ReadyExpr>) -> Result<Vec<ReadyArg>, NoMemory> {
+fn values(alloc: Global, list: Vec<Synthesised>) -> Result<Vec<SynthesisedArg>, NoMemory> {
     let mut args = Vec::new(alloc);
     for value in list {
-        args.push(ReadyArg::Value(value))?;
+        args.push(SynthesisedArg::Value(value))?;
     }
     Ok(args)
 }
 
-/// An operator of two operands that isn't `and` or `or`, of which the left one stands at `at`. E41 where what is called on
-/// is contextual, and the refusals of the call.
+/// An operator of two operands, which stands at `pos`.
+#[derive(Clone, Copy)]
+pub struct Operation {
+    pub op: Op,
+    /// The position of the left operand.
+    pub left: Pos,
+    pub pos: Pos,
+}
+
+/// An operator of two operands that isn't `and` or `or`. E41 where what is called on is contextual, and the refusals of the
+/// call.
 pub fn binary(
-    alloc: Global,
-    view: &View<'_>,
-    place: &Place,
+    context: Context<'_>,
     built: &mut Built,
-    op: Op,
+    operation: Operation,
     one: Receiver,
-    at: Pos,
-    other: ReadyExpr,
-    pos: Pos,
-    wants: bool,
+    other: Synthesised,
+    expected: Expected,
 ) -> Result<Typed, FrontFault> {
-    let of = one.ty(view, pos)?;
+    let Operation {
+        op,
+        left: _left,
+        pos,
+    } = operation;
+    let of = one.ty(context.view, pos)?;
     let name = called_name(op);
-    if !is_derived(op) || has_feature(view, of, name) {
-        return called(alloc, view, place, built, one, name, other, pos, wants);
+    if !is_derived(op) || has_feature(context.view, of, name) {
+        let form = Call::with_value(context.view.alloc, one, name, other, pos)?;
+        return call(context, built, form, expected);
     }
     if op == Op::Gt {
-        return swapped(alloc, view, built, one, at, other, pos, wants);
+        return swapped(context.view, built, operation, one, other, expected);
     }
-    let opposite = opposite(alloc, view, place, built, op, one, at, other, pos)?;
-    negated(alloc, view, place, built, opposite, pos, wants)
+    let opposite = opposite(context, built, operation, one, other)?;
+    negated(context, built, opposite, pos, expected)
 }
 
 /// The comparison whose opposite `<=`, `>=` or `/=` means.
 fn opposite(
-    alloc: Global,
-    view: &View<'_>,
-    place: &Place,
+    context: Context<'_>,
     built: &mut Built,
-    op: Op,
+    operation: Operation,
     one: Receiver,
-    at: Pos,
-    other: ReadyExpr,
-    pos: Pos,
+    other: Synthesised,
 ) -> Result<Typed, FrontFault> {
-    match op {
-        Op::Leq => swapped(alloc, view, built, one, at, other, pos, true),
-        Op::Geq => called(alloc, view, place, built, one, b"is_lt", other, pos, true),
-        _ => called(alloc, view, place, built, one, b"is_eq", other, pos, true),
-    }
+    let name = match operation.op {
+        Op::Leq => {
+            return swapped(context.view, built, operation, one, other, Expected::Value);
+        }
+        Op::Geq => called_name(Op::Lt),
+        _ => called_name(Op::Eq),
+    };
+    let form = Call::with_value(context.view.alloc, one, name, other, operation.pos)?;
+    call(context, built, form, Expected::Value)
 }
 
 /// Whether an operator means another call where the class of its left operand has no feature for it.
@@ -161,54 +169,28 @@ fn is_derived(op: Op) -> bool {
 
 /// Whether the class of a type has a feature or a signature with a name, seen or not.
 fn has_feature(view: &View<'_>, of: u32, name: &[u8]) -> bool {
-    if kind_of(view, of) == Kind::Abstract {
+    if view.program.is_abstract(of) {
         return !view.signatures.named(of, name).is_empty();
     }
     !view.program.named(of, name).is_empty()
 }
 
-/// A call with one argument.
-fn called(
-    alloc: Global,
-    view: &View<'_>,
-    place: &Place,
-    built: &mut Built,
-    on: Receiver,
-    name: &[u8],
-    arg: ReadyExpr,
-    pos: Pos,
-    wants: bool,
-) -> Result<Typed, FrontFault> {
-    let mut args = Vec::new(alloc);
-    args.push(ReadyArg::Value(arg))?;
-    call(alloc, view, place, built, on, name, args, pos, wants)
-}
-
 /// The call of `not` on a comparison: E33 unless this gives BOOL.
 fn negated(
-    alloc: Global,
-    view: &View<'_>,
-    place: &Place,
+    context: Context<'_>,
     built: &mut Built,
     compared: Typed,
     pos: Pos,
-    wants: bool,
+    expected: Expected,
 ) -> Result<Typed, FrontFault> {
     if compared.ty != Some(BOOL) {
         return Err(Rule::WrongType.at(pos).into());
     }
-    let sites = built.sites.len();
-    let on = Receiver::Value(compared, sites);
-    let none = Vec::new(alloc);
-    call(
-        alloc,
-        view,
-        place,
-        built,
-        on,
-        called_name(Op::Not),
-        none,
+    let form = Call {
+        on: Receiver::Value(compared, built.sites.len()),
+        name: called_name(Op::Not),
+        args: Vec::new(context.view.alloc),
         pos,
-        wants,
-    )
+    };
+    call(context, built, form, expected)
 }

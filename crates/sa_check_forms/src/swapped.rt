@@ -1,80 +1,64 @@
 //! Comparisons that are called on their second operand.
 
-use sa_check_calls::{ReadyExpr, Receiver};
-use sa_check_choice::{Built, Typed, View, chosen, first_iter, kind_of, type_of, widened};
+use crate::operator::Operation;
+use sa_check_calls::{Receiver, Synthesised};
+use sa_check_choice::{Built, Expected, Typed, View, chosen, first_iter, type_of, widened};
 use sa_check_program::BOOL;
 use sa_core::{CalledCore, ExprCore, Target};
 use sa_signatures::ArgIn;
-use sa_tree::{FrontFault, Kind, Mode, NoMemory, Pos, Rule, held};
+use sa_tree::{FrontFault, Mode, NoMemory, Pos, Rule, held};
 use sqlite_items::Boxed;
-use std::alloc::Global;
 
 /// The feature that is called.
 const IS_LT: &[u8] = b"is_lt";
 
-/// `a > b` as `b < a`: a call of `is_lt` on the second operand, with the first as its argument. The first stands at `at`.
+/// `a > b` as `b < a`: a call of `is_lt` on the second operand, with the first as its argument.
 ///
 /// E41 where one of them is contextual, the refusals of the call, where an abstract type of the second operand has no
 /// feature that fits, and E33 unless the called feature gives BOOL.
 pub(crate) fn swapped(
-    alloc: Global,
     view: &View<'_>,
     built: &Built,
+    operation: Operation,
     one: Receiver,
-    at: Pos,
-    other: ReadyExpr,
-    pos: Pos,
-    wants: bool,
+    other: Synthesised,
+    expected: Expected,
 ) -> Result<Typed, FrontFault> {
-    let less = less_of(alloc, view, built, &one, &other, wants, pos)?;
-    if !less.gives_bool {
-        return Err(Rule::WrongType.at(pos).into());
-    }
-    Ok(call_of(alloc, view, less, one, at, other, pos)?)
+    let less = less_of(view, built, &one, &other, expected, operation.pos)?;
+    Ok(call_of(view, less, operation, one, other)?)
 }
 
 /// The `is_lt` that is called on the second operand, where both have a type by themselves.
 fn less_of(
-    alloc: Global,
     view: &View<'_>,
     built: &Built,
     one: &Receiver,
-    other: &ReadyExpr,
-    wants: bool,
+    other: &Synthesised,
+    expected: Expected,
     pos: Pos,
 ) -> Result<Comparison, FrontFault> {
     let Receiver::Value(one, _) = one else {
         return Err(Rule::NoTypeFromContext.at(pos).into());
     };
-    let ReadyExpr::Typed(other, _) = other else {
+    let Synthesised::Typed(other, _) = other else {
         return Err(Rule::NoTypeFromContext.at(pos).into());
     };
-    less(
-        alloc,
-        view,
-        built,
-        held(other.ty)?,
-        held(one.ty)?,
-        wants,
-        pos,
-    )
+    less(view, built, held(other.ty)?, held(one.ty)?, expected, pos)
 }
 
 /// The call of `is_lt` on the second operand, with the first as its argument.
 fn call_of(
-    alloc: Global,
     view: &View<'_>,
     less: Comparison,
+    operation: Operation,
     one: Receiver,
-    at: Pos,
-    other: ReadyExpr,
-    pos: Pos,
+    other: Synthesised,
 ) -> Result<Typed, NoMemory> {
     let iter = first_iter(one.iter(), other.iter());
-    let arg = passed_operand(alloc, view, less, one, at)?;
-    let on = Boxed::new(alloc, other.into_core()?)?;
+    let arg = passed_operand(view, less, one, operation.left)?;
+    let on = Boxed::new(view.alloc, other.into_core()?)?;
     Ok(Typed {
-        core: ExprCore::Swapped(less.target, arg, on, pos),
+        core: ExprCore::Swapped(less.target, arg, on, operation.pos),
         ty: Some(BOOL),
         iter,
     })
@@ -82,14 +66,13 @@ fn call_of(
 
 /// The first operand as the argument.
 fn passed_operand(
-    alloc: Global,
     view: &View<'_>,
     less: Comparison,
     one: Receiver,
     at: Pos,
 ) -> Result<Boxed<ExprCore>, NoMemory> {
-    let arg = widened(alloc, view, one.into_core()?, less.from, less.param, at)?;
-    Ok(Boxed::new(alloc, arg)?)
+    let arg = widened(view, one.into_core()?, less.from, less.param, at)?;
+    Ok(Boxed::new(view.alloc, arg)?)
 }
 
 /// The `is_lt` of a concrete class that is called.
@@ -100,33 +83,33 @@ struct Comparison {
     from: u32,
     /// The number of its parameter's type.
     param: u32,
-    gives_bool: bool,
 }
 
-/// The `is_lt` that is chosen on a type for an argument of another one.
+/// The `is_lt` that is chosen on a type for an argument of another one: E33 unless it gives BOOL.
 fn less(
-    alloc: Global,
     view: &View<'_>,
     built: &Built,
     of: u32,
     from: u32,
-    wants: bool,
+    expected: Expected,
     pos: Pos,
 ) -> Result<Comparison, FrontFault> {
-    if kind_of(view, of) == Kind::Abstract {
+    if view.program.is_abstract(of) {
         return Err(none_on_abstract(view, of).at(pos).into());
     }
-    let arg = argument(alloc, view, built, from)?;
-    let less = chosen(alloc, view, of, IS_LT, &[arg], wants, pos)?;
+    let arg = argument(view, built, from)?;
+    let less = chosen(view, of, IS_LT, &[arg], expected, pos)?;
     let Some(CalledCore::Static(target, _)) = less.reached.called() else {
         return Err(FrontFault::NoMemory);
     };
+    if less.result != Some(BOOL) {
+        return Err(Rule::WrongType.at(pos).into());
+    }
     let param = held(less.params.get(0))?;
     Ok(Comparison {
         target,
         from,
         param: param.ty,
-        gives_bool: less.result == Some(BOOL),
     })
 }
 
@@ -140,11 +123,11 @@ fn none_on_abstract(view: &View<'_>, of: u32) -> Rule {
 }
 
 /// An argument with a type.
-fn argument(alloc: Global, view: &View<'_>, built: &Built, number: u32) -> Result<ArgIn, NoMemory> {
+fn argument(view: &View<'_>, built: &Built, number: u32) -> Result<ArgIn, NoMemory> {
     let ty = held(type_of(view, built, number))?;
     Ok(ArgIn {
         mode: Mode::In,
-        ty: Some(ty.copy(alloc)?),
+        ty: Some(ty.copy(view.alloc)?),
         left: false,
     })
 }

@@ -8,13 +8,8 @@ mod instantiation;
 mod main_routine;
 mod program;
 mod signature;
-mod specialised;
 mod type_list;
 mod walk;
 
 pub use program::Program;
-pub use sa_check_classes::{
-    ABSTRACT_STR, BOOL, CHAR, FAULT, INT, IS_EQ, MAIN, Member, OB, STR, Side,
-};
-pub use specialised::instances;
-pub use type_list::TypeRow;
+pub use sa_check_classes::{BOOL, CHAR, INT, Member, OB, STR, Side};

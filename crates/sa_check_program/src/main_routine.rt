@@ -28,7 +28,7 @@ fn no_main(pos: Pos) -> FrontFault {
 }
 
 /// The place of the one routine of a class that can be run.
-pub(crate) fn main_of(class: &Class) -> Result<Option<u32>, NoMemory> {
+fn main_of(class: &Class) -> Result<Option<u32>, NoMemory> {
     let mut main = None;
     let mut count = 0usize;
     for (place, feature) in class.features.as_slice().iter().enumerate() {

@@ -2,16 +2,15 @@
 
 use crate::cycles::check_cycles;
 use crate::feature_numbers::{first_bodies, first_shareds};
-use crate::main_routine::{main_of, main_routine};
+use crate::main_routine::main_routine;
 use crate::signature::signature_of;
-use crate::specialised::listed_types;
-use crate::type_list::{TypeList, TypeRow, given};
+use crate::type_list::{TypeList, given};
 use crate::walk::needed_types;
 use sa_check_classes::{MAIN, Member};
 use sa_graph::word;
 use sa_subtypes::Edges;
-use sa_tree::{Class, Flat, FrontFault, Kind, NoMemory, Param, Ty, held};
-use sa_types::{Instance, Sig, Substitution};
+use sa_tree::{Class, Feature, Flat, FrontFault, Kind, NoMemory, Ty, held};
+use sa_types::{Sig, Substitution};
 use sqlite_items::Items;
 use std::alloc::Global;
 
@@ -21,13 +20,12 @@ pub struct Program<'a> {
     edges: &'a Edges,
     list: TypeList<'a>,
     count: u32,
-    /// Whether the classes still write their parameters and SAME.
-    open: bool,
     /// By type, the number of its first routine or iter with a body.
     bodies: Items<u32>,
     /// By type, the number of its first shared.
     shareds: Items<u32>,
-    main: Option<u32>,
+    /// The number of the routine that is run.
+    main: u32,
 }
 
 impl<'a> Program<'a> {
@@ -43,41 +41,28 @@ impl<'a> Program<'a> {
         flat: &'a Flat,
         edges: &'a Edges,
     ) -> Result<Program<'a>, FrontFault> {
-        main_routine(flat, edges.class_place(b"MAIN".as_slice()))?;
+        let main = main_routine(flat, edges.class_place(b"MAIN".as_slice()))?;
         let list = needed_types(alloc, flat, edges)?;
-        let count = word(list.rows.len())?;
-        let program = Program::of_list(alloc, list, count, edges, true)?;
+        let program = Program::of_list(alloc, list, main, edges)?;
         check_cycles(alloc, &program)?;
         Ok(program)
     }
 
-    /// The same tables over instances whose types are put in already. A type that they write and that isn't among them
-    /// has a number behind theirs, and no features.
-    pub fn of_instances(
-        alloc: Global,
-        instances: &'a [Instance],
-        edges: &'a Edges,
-    ) -> Result<Program<'a>, NoMemory> {
-        let list = listed_types(alloc, instances)?;
-        let count = word(instances.len())?;
-        Program::of_list(alloc, list, count, edges, false)
-    }
-
+    /// The tables over the needed instances, where `main` is the place of the routine that is run among the features of MAIN.
     fn of_list(
         alloc: Global,
         list: TypeList<'a>,
-        count: u32,
+        main: u32,
         edges: &'a Edges,
-        open: bool,
     ) -> Result<Program<'a>, NoMemory> {
+        let count = word(list.rows.len())?;
         let bodies = first_bodies(alloc, &list, count)?;
         let shareds = first_shareds(alloc, &list, count)?;
-        let main = main_number(&list, bodies.as_slice())?;
+        let main = held(body_number(&list, bodies.as_slice(), MAIN, main))?;
         Ok(Program {
             edges,
             list,
             count,
-            open,
             bodies,
             shareds,
             main,
@@ -95,8 +80,8 @@ impl<'a> Program<'a> {
     }
 
     /// A type by its number.
-    pub fn row(&self, ty: u32) -> Option<&TypeRow> {
-        self.list.row(ty)
+    pub fn ty(&self, number: u32) -> Option<&Ty> {
+        Some(&self.list.row(number)?.ty)
     }
 
     /// The class of a type. A bound type has none.
@@ -113,19 +98,31 @@ impl<'a> Program<'a> {
         Some(self.list.class(ty)?.kind)
     }
 
+    /// Whether a type is abstract.
+    pub fn is_abstract(&self, ty: u32) -> bool {
+        matches!(self.kind(ty), Some(Kind::Abstract))
+    }
+
+    /// Whether two types are instances of one class, whatever its parameters are.
+    pub fn is_same_class(&self, one: u32, other: u32) -> bool {
+        if one == other {
+            return true;
+        }
+        match (self.class(one), self.class(other)) {
+            (Some(one), Some(other)) => one.name.name == other.name.name,
+            _ => false,
+        }
+    }
+
     /// The number of a type without parameters or SAME.
     pub fn number(&self, ty: &Ty) -> Option<u32> {
         self.list.number(ty)
     }
 
-    /// The number of a type as the class of an instance writes it. Over instances whose types are put in already it need
-    /// not be written there.
+    /// The number of a type as the class of an instance writes it.
     pub fn number_of(&self, class: u32, written: &Ty) -> Option<u32> {
         if let Ty::Same(_) = written {
             return Some(class);
-        }
-        if !self.open {
-            return self.number(written);
         }
         let term = self.list.table(class)?.term(written)?;
         self.list.of_term(class, term)
@@ -136,13 +133,10 @@ impl<'a> Program<'a> {
         if s == t {
             return true;
         }
-        let Some(below) = self.row(s) else {
-            return false;
-        };
-        let Some(above) = self.row(t) else {
-            return false;
-        };
-        self.edges.is_sub(&below.ty, &above.ty)
+        match (self.ty(s), self.ty(t)) {
+            (Some(below), Some(above)) => self.edges.is_sub(below, above),
+            _ => false,
+        }
     }
 
     /// The members of a type's class, in the order of its features, each reader before its writer. A bound type has none.
@@ -158,17 +152,17 @@ impl<'a> Program<'a> {
         self.members(ty).get(place as usize)
     }
 
+    /// A feature of a type's class by its place.
+    pub fn feature(&self, ty: u32, place: u32) -> Option<&Feature> {
+        self.class(ty)?.features.get(place as usize)
+    }
+
     /// The places of the members with a name, in order. A bound type has none.
     pub fn named(&self, ty: u32, name: &[u8]) -> &[u32] {
         match self.list.table(ty) {
             None => &[],
             Some(table) => table.named(name),
         }
-    }
-
-    /// The number of the type that a term is for a type's class.
-    pub fn of_term(&self, ty: u32, term: u32) -> Option<u32> {
-        self.list.of_term(ty, term)
     }
 
     /// The number of the type of an argument of a member, by the argument's place.
@@ -185,18 +179,10 @@ impl<'a> Program<'a> {
     pub fn signature(&self, alloc: Global, ty: u32, place: u32) -> Result<Sig, NoMemory> {
         let class = held(self.list.class(ty))?;
         let member = held(self.member(ty, place))?;
-        let feature = held(class.features.get(member.feature as usize))?;
-        let own = &held(self.row(ty))?.ty;
-        let by = Substitution::make(alloc, self.params(class), given(own), own)?;
+        let feature = held(self.feature(ty, member.feature))?;
+        let own = held(self.ty(ty))?;
+        let by = Substitution::make(alloc, class.params.as_slice(), given(own), own)?;
         signature_of(alloc, feature, member, &by)
-    }
-
-    /// The parameters that the class still writes.
-    fn params<'b>(&self, class: &'b Class) -> &'b [Param] {
-        if self.open {
-            return class.params.as_slice();
-        }
-        &[]
     }
 
     /// The places among the features of the attributes of a type's class, in order.
@@ -220,13 +206,12 @@ impl<'a> Program<'a> {
 
     /// The number of a routine or iter with a body, counted over all instances in order.
     pub fn body_number(&self, ty: u32, feature: u32) -> Option<u32> {
-        let place = self.list.table(ty)?.body(feature);
-        number_from(self.bodies.as_slice(), ty, place)
+        body_number(&self.list, self.bodies.as_slice(), ty, feature)
     }
 
     /// The number of a shared, counted over all instances in order.
     pub fn shared_number(&self, ty: u32, feature: u32) -> Option<u32> {
-        let place = self.list.table(ty)?.shared(feature);
+        let place = self.list.table(ty)?.shared(feature)?;
         number_from(self.shareds.as_slice(), ty, place)
     }
 
@@ -244,27 +229,18 @@ impl<'a> Program<'a> {
         self.list.of_term(ty, term)
     }
 
-    /// The number of the routine that is run. Instances that lack one have none.
-    pub fn main(&self) -> Option<u32> {
+    /// The number of the routine that is run.
+    pub fn main(&self) -> u32 {
         self.main
     }
 }
 
-/// The number of the routine that is run, where the bodies of each type begin at these numbers.
-fn main_number(list: &TypeList<'_>, bodies: &[u32]) -> Result<Option<u32>, NoMemory> {
-    let Some(table) = list.table(MAIN) else {
-        return Ok(None);
-    };
-    if table.class().name.name.as_slice() != b"MAIN".as_slice() {
-        return Ok(None);
-    }
-    let Some(feature) = main_of(table.class())? else {
-        return Ok(None);
-    };
-    Ok(number_from(bodies, MAIN, table.body(feature)))
+/// The number of a routine or iter with a body, where the bodies of each type begin at these numbers.
+fn body_number(list: &TypeList<'_>, bodies: &[u32], ty: u32, feature: u32) -> Option<u32> {
+    number_from(bodies, ty, list.table(ty)?.body(feature)?)
 }
 
 /// The number of a feature at this place among those of its sort in a type's class.
-fn number_from(firsts: &[u32], ty: u32, place: Option<u32>) -> Option<u32> {
-    firsts.get(ty as usize)?.checked_add(place?)
+fn number_from(firsts: &[u32], ty: u32, place: u32) -> Option<u32> {
+    firsts.get(ty as usize)?.checked_add(place)
 }

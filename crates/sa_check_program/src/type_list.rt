@@ -9,7 +9,7 @@ use std::alloc::Global;
 
 /// A needed instance. A bound type has no class.
 #[derive(Drop)]
-pub struct TypeRow {
+pub(crate) struct TypeRow {
     pub ty: Ty,
     /// The place of its class among the tables of classes.
     pub class: Option<u32>,

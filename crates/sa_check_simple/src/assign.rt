@@ -1,20 +1,26 @@
 //! Assignments: to a variable, to an attribute of an immutable object, by a call, or to an element.
 
 use crate::draft::Draft;
-use crate::leave::{leave_assigned, leave_of};
+use crate::leave::leave_assigned;
 use crate::value::fitting;
 use sa_check_expr::{
-    Built, ReadyArg, ReadyExpr, Receiver, Variable, View, call, operand, position, ready, typed,
-    variable_named, written,
+    Built, Call, Context, Expected, LoopExit, Receiver, SynthesisedArg, Variable, View, call,
+    operand, position, synthesised, typed, variable_named, written,
 };
 use sa_core::StmtCore;
 use sa_tree::{Expr, FrontFault, Kind, Name, Part, Pos, Recv, Rule, held};
 use sqlite_items::Boxed;
-use std::alloc::Global;
+
+/// An assignment by name: what is assigned, and the position of the sign.
+#[derive(Clone, Copy)]
+struct Assigned<'e> {
+    name: &'e Name,
+    value: &'e Expr,
+    pos: Pos,
+}
 
 /// `target := value`, at the position of its sign.
 pub(crate) fn assign(
-    alloc: Global,
     view: &View<'_>,
     draft: &Draft,
     built: &mut Built,
@@ -24,15 +30,16 @@ pub(crate) fn assign(
 ) -> Result<StmtCore, FrontFault> {
     match target {
         Expr::Call(on, name, args, _) if args.is_empty() => {
-            assign_name(alloc, view, draft, built, on, name, value, pos)
+            assign_name(view, draft, built, on, Assigned { name, value, pos })
         }
         Expr::Index(of, places, _) => {
-            let on = indexed(alloc, view, draft, built, of)?;
-            assign_element(alloc, view, draft, built, on, places.as_slice(), value, pos)
+            let on = indexed(view, draft, built, of)?;
+            let args = element_arguments(view, draft, built, places.as_slice(), value)?;
+            assign_element(view.at(&draft.place), built, on, args, pos)
         }
         _ => {
-            let _target = ready(alloc, view, &draft.place, built, target)?;
-            let _value = ready(alloc, view, &draft.place, built, value)?;
+            let _target = synthesised(view.at(&draft.place), built, target)?;
+            let _value = synthesised(view.at(&draft.place), built, value)?;
             Err(Rule::NotAssignable.at(pos).into())
         }
     }
@@ -40,7 +47,6 @@ pub(crate) fn assign(
 
 /// What an index is made on.
 fn indexed(
-    alloc: Global,
     view: &View<'_>,
     draft: &Draft,
     built: &mut Built,
@@ -48,68 +54,52 @@ fn indexed(
 ) -> Result<Receiver, FrontFault> {
     match of {
         None => Ok(Receiver::Own),
-        Some(of) => operand(alloc, view, &draft.place, built, of.get()),
+        Some(of) => operand(view.at(&draft.place), built, of.get()),
     }
 }
 
 /// `x := e`, `r.f := e` or `C::f := e`.
 fn assign_name(
-    alloc: Global,
     view: &View<'_>,
     draft: &Draft,
     built: &mut Built,
     on: &Recv,
-    name: &Name,
-    value: &Expr,
-    pos: Pos,
+    assigned: Assigned<'_>,
 ) -> Result<StmtCore, FrontFault> {
     match on {
-        Recv::Implied => assign_implied(alloc, view, draft, built, name, value, pos),
+        Recv::Implied => assign_implied(view, draft, built, assigned),
         Recv::Of(of) => {
             let of = of.get();
-            let on = operand(alloc, view, &draft.place, built, of)?;
+            let on = operand(view.at(&draft.place), built, of)?;
             let changed = variable_named(&draft.place, of);
-            assign_feature(alloc, view, draft, built, on, changed, name, value, pos)
+            assign_feature(view, draft, built, on, changed, assigned)
         }
         Recv::OfClass(ty) => {
             let on = Receiver::Class(held(written(view, ty))?);
-            assign_feature(alloc, view, draft, built, on, None, name, value, pos)
+            assign_feature(view, draft, built, on, None, assigned)
         }
     }
 }
 
 /// `x := e`: a variable, what leaves a loop, or else a call on self.
 fn assign_implied(
-    alloc: Global,
     view: &View<'_>,
     draft: &Draft,
     built: &mut Built,
-    name: &Name,
-    value: &Expr,
-    pos: Pos,
+    assigned: Assigned<'_>,
 ) -> Result<StmtCore, FrontFault> {
+    let Assigned { name, value, pos } = assigned;
     if let Some(variable) = draft.seen(name) {
-        return assign_variable(alloc, view, draft, built, variable, value, pos);
+        return assign_variable(view, draft, built, variable, value, pos);
     }
-    if let Some(number) = leave_of(name) {
-        return leave_assigned(alloc, view, draft, built, number, value, pos);
+    if let Some(exit) = LoopExit::of_name(name) {
+        return leave_assigned(view, draft, built, exit, value, pos);
     }
-    assign_feature(
-        alloc,
-        view,
-        draft,
-        built,
-        Receiver::Own,
-        None,
-        name,
-        value,
-        pos,
-    )
+    assign_feature(view, draft, built, Receiver::Own, None, assigned)
 }
 
 /// `x := e` for a variable: it isn't narrowed, and the value goes to its type.
 fn assign_variable(
-    alloc: Global,
     view: &View<'_>,
     draft: &Draft,
     built: &mut Built,
@@ -118,60 +108,50 @@ fn assign_variable(
     pos: Pos,
 ) -> Result<StmtCore, FrontFault> {
     let ty = variable.ty;
-    let made = typed(alloc, view, &draft.place, built, value, true, Some(ty))?;
+    let made = typed(view.at(&draft.place), built, value, Expected::Type(ty))?;
     if variable.narrowed {
         return Err(Rule::TypecaseVariable.at(pos).into());
     }
-    let core = fitting(alloc, view, built, made, ty, position(value), pos)?;
+    let core = fitting(view, built, made, ty, position(value), pos)?;
     Ok(StmtCore::Let(variable.number, core))
 }
 
 /// `r.f := e` is the call `r.f(e)`, but for an attribute of an immutable class.
 fn assign_feature(
-    alloc: Global,
     view: &View<'_>,
     draft: &Draft,
     built: &mut Built,
     on: Receiver,
     changed: Option<Variable>,
-    name: &Name,
-    value: &Expr,
-    pos: Pos,
+    assigned: Assigned<'_>,
 ) -> Result<StmtCore, FrontFault> {
-    let made = ready(alloc, view, &draft.place, built, value)?;
-    if is_attribute_of_immutable(view, &on, name) {
-        return assign_changed(alloc, view, draft, built, on, changed, name, made, pos);
+    let Assigned { name, value, pos } = assigned;
+    let made = synthesised(view.at(&draft.place), built, value)?;
+    let form = Call::with_value(view.alloc, on, name.as_slice(), made, pos)?;
+    if is_attribute_of_immutable(view, &form.on, name) {
+        return assign_changed(view, draft, built, form, changed);
     }
-    let mut args = Vec::new(alloc);
-    args.push(ReadyArg::Value(made))?;
-    let name = name.as_slice();
-    let done = call(alloc, view, &draft.place, built, on, name, args, pos, false)?;
+    let done = call(view.at(&draft.place), built, form, Expected::Nothing)?;
     Ok(StmtCore::Do(done.core))
 }
 
 /// `r.f := e` for an attribute of an immutable class: it is `r := r.f(e)`, so r is a variable.
 fn assign_changed(
-    alloc: Global,
     view: &View<'_>,
     draft: &Draft,
     built: &mut Built,
-    on: Receiver,
+    form: Call<'_>,
     changed: Option<Variable>,
-    name: &Name,
-    value: ReadyExpr,
-    pos: Pos,
 ) -> Result<StmtCore, FrontFault> {
+    let pos = form.pos;
     let Some(variable) = changed else {
         return Err(Rule::NotAssignable.at(pos).into());
     };
-    let mut args = Vec::new(alloc);
-    args.push(ReadyArg::Value(value))?;
-    let name = name.as_slice();
-    let made = call(alloc, view, &draft.place, built, on, name, args, pos, true)?;
+    let made = call(view.at(&draft.place), built, form, Expected::Value)?;
     if variable.narrowed {
         return Err(Rule::TypecaseVariable.at(pos).into());
     }
-    let core = fitting(alloc, view, built, made, variable.ty, pos, pos)?;
+    let core = fitting(view, built, made, variable.ty, pos, pos)?;
     Ok(StmtCore::Let(variable.number, core))
 }
 
@@ -209,41 +189,42 @@ fn is_attribute(view: &View<'_>, ty: u32, place: u32) -> bool {
     let Some(member) = view.program.member(ty, place) else {
         return false;
     };
-    let Some(class) = view.program.class(ty) else {
-        return false;
-    };
-    match class.features.get(member.feature as usize) {
+    match view.program.feature(ty, member.feature) {
         None => false,
         Some(feature) => matches!(feature.part, Part::Attr),
     }
 }
 
-/// `r[i] := e` is the call `r.aset(i, e)`.
-fn assign_element(
-    alloc: Global,
+/// The indices and the value of `r[i] := e`, as arguments.
+fn element_arguments(
     view: &View<'_>,
     draft: &Draft,
     built: &mut Built,
-    on: Receiver,
     places: &[Expr],
     value: &Expr,
+) -> Result<Vec<SynthesisedArg>, FrontFault> {
+    let mut args = Vec::new(view.alloc);
+    for e in places {
+        args.push(SynthesisedArg::Value(synthesised(view.at(&draft.place), built, e)?))?;
+    }
+    args.push(SynthesisedArg::Value(synthesised(view.at(&draft.place), built, value)?))?;
+    Ok(args)
+}
+
+/// `r[i] := e` is the call `r.aset(i, e)`.
+fn assign_element(
+    context: Context<'_>,
+    built: &mut Built,
+    on: Receiver,
+    args: Vec<SynthesisedArg>,
     pos: Pos,
 ) -> Result<StmtCore, FrontFault> {
-    let mut args = Vec::new(alloc);
-    for e in places {
-        args.push(ReadyArg::Value(ready(alloc, view, &draft.place, built, e)?))?;
-    }
-    args.push(ReadyArg::Value(ready(alloc, view, &draft.place, built, value)?))?;
-    let done = call(
-        alloc,
-        view,
-        &draft.place,
-        built,
+    let form = Call {
         on,
-        b"aset",
+        name: b"aset",
         args,
         pos,
-        false,
-    )?;
+    };
+    let done = call(context, built, form, Expected::Nothing)?;
     Ok(StmtCore::Do(done.core))
 }

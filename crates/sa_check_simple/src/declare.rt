@@ -3,7 +3,7 @@
 use crate::copy::copy;
 use crate::draft::Draft;
 use crate::value::{fitting, untyped_value};
-use sa_check_expr::{Built, View, position, typed, written};
+use sa_check_expr::{Built, Expected, View, position, typed, written};
 use sa_core::{ExprCore, StmtCore, expr_nodes};
 use sa_tree::{Expr, FrontFault, Local, NoMemory, Pos, Ty, held};
 use sqlite_items::Items;
@@ -14,32 +14,54 @@ use std::alloc::Global;
 pub const MOST_NODES: u32 = 200_000;
 
 /// A declaration, by its names, its type and its initialiser.
+#[derive(Clone, Copy)]
+pub(crate) struct Declaration<'s> {
+    pub names: &'s [Local],
+    pub ty: &'s Option<Ty>,
+    pub value: &'s Option<Expr>,
+}
+
+/// Names that are declared, with the position of the first one, at which the declaration is refused.
+#[derive(Clone, Copy)]
+struct Declared<'s> {
+    names: &'s [Local],
+    form: Pos,
+}
+
+/// Variables, by their numbers, with the value of one initialiser.
+#[derive(Drop)]
+struct Initialised {
+    numbers: Vec<u32>,
+    core: ExprCore,
+}
+
+/// A declaration, put at the end of the list: a statement for each of its names.
 pub(crate) fn declare(
-    alloc: Global,
     view: &View<'_>,
     draft: &mut Draft,
     built: &mut Built,
-    names: &[Local],
-    ty: &Option<Ty>,
-    value: &Option<Expr>,
+    declaration: Declaration<'_>,
     cores: &mut Items<StmtCore>,
 ) -> Result<(), FrontFault> {
+    let Declaration { names, ty, value } = declaration;
     let Some(first) = names.first() else {
         return Ok(());
     };
-    let form = first.pos;
-    let Some(ty) = ty else {
-        return declare_by_value(alloc, view, draft, built, names, form, value, cores);
+    let declared = Declared {
+        names,
+        form: first.pos,
     };
-    match value {
-        None => declare_void(alloc, view, draft, names, ty, cores),
-        Some(e) => declare_typed(alloc, view, draft, built, names, form, ty, e, cores),
-    }
+    let initialised = match (ty, value) {
+        (None, None) => return Ok(()),
+        (Some(ty), None) => return declare_void(view, draft, names, ty, cores),
+        (Some(ty), Some(e)) => declare_typed(view, draft, built, declared, ty, e)?,
+        (None, Some(e)) => declare_by_value(view, draft, built, declared, e)?,
+    };
+    let_each(view.alloc, draft, initialised, cores)
 }
 
 /// `x, y:T`: each is void of its type, each time that the statement is done.
 fn declare_void(
-    alloc: Global,
     view: &View<'_>,
     draft: &mut Draft,
     names: &[Local],
@@ -48,7 +70,7 @@ fn declare_void(
 ) -> Result<(), FrontFault> {
     let ty = held(written(view, ty))?;
     for local in names {
-        let number = draft.declare(alloc, local, ty)?;
+        let number = draft.declare(view.alloc, local, ty)?;
         cores.push(StmtCore::Let(number, ExprCore::VoidOf(ty)))?;
     }
     Ok(())
@@ -56,41 +78,35 @@ fn declare_void(
 
 /// `x, y:T := e`. The names aren't seen in the initialiser, which stands once for each of them.
 fn declare_typed(
-    alloc: Global,
     view: &View<'_>,
     draft: &mut Draft,
     built: &mut Built,
-    names: &[Local],
-    form: Pos,
+    declared: Declared<'_>,
     ty: &Ty,
     e: &Expr,
-    cores: &mut Items<StmtCore>,
-) -> Result<(), FrontFault> {
+) -> Result<Initialised, FrontFault> {
     let ty = held(written(view, ty))?;
-    let value = typed(alloc, view, &draft.place, built, e, true, Some(ty))?;
-    let numbers = declare_names(alloc, draft, names, ty)?;
-    let core = fitting(alloc, view, built, value, ty, position(e), form)?;
-    let_each(alloc, draft, numbers, core, cores)
+    let value = typed(view.at(&draft.place), built, e, Expected::Type(ty))?;
+    let numbers = declare_names(view.alloc, draft, declared.names, ty)?;
+    let core = fitting(view, built, value, ty, position(e), declared.form)?;
+    Ok(Initialised { numbers, core })
 }
 
 /// `x ::= e`: the variable has the type of the initialiser.
 fn declare_by_value(
-    alloc: Global,
     view: &View<'_>,
     draft: &mut Draft,
     built: &mut Built,
-    names: &[Local],
-    form: Pos,
-    value: &Option<Expr>,
-    cores: &mut Items<StmtCore>,
-) -> Result<(), FrontFault> {
-    let Some(e) = value else {
-        return Ok(());
-    };
-    let value = untyped_value(alloc, view, &draft.place, built, e, form)?;
+    declared: Declared<'_>,
+    e: &Expr,
+) -> Result<Initialised, FrontFault> {
+    let value = untyped_value(view.at(&draft.place), built, e, declared.form)?;
     let ty = held(value.ty)?;
-    let numbers = declare_names(alloc, draft, names, ty)?;
-    let_each(alloc, draft, numbers, value.core, cores)
+    let numbers = declare_names(view.alloc, draft, declared.names, ty)?;
+    Ok(Initialised {
+        numbers,
+        core: value.core,
+    })
 }
 
 /// Declares the names as variables of a type, and gives their numbers.
@@ -111,10 +127,11 @@ fn declare_names(
 fn let_each(
     alloc: Global,
     draft: &mut Draft,
-    mut numbers: Vec<u32>,
-    core: ExprCore,
+    initialised: Initialised,
     cores: &mut Items<StmtCore>,
 ) -> Result<(), FrontFault> {
+    let Initialised { numbers, core } = initialised;
+    let mut numbers = numbers;
     let Some(last) = numbers.pop() else {
         return Ok(());
     };

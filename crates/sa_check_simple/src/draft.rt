@@ -1,10 +1,27 @@
 //! What is known of a feature while its body is typed: its variables, its loops, and where the next form stands.
 
-use indexmap::IndexMap;
-use sa_check_expr::{Place, Variable};
+use sa_check_expr::{Place, Variable, is_iter_name};
 use sa_tree::{FrontFault, Local, Name, NoMemory, Rule, held};
 use sqlite_items::Items;
 use std::alloc::Global;
+
+/// What a feature with a body is.
+#[derive(Clone, Copy, PartialEq, Eq)]
+pub enum FeatureKind {
+    Routine,
+    Iter,
+}
+
+impl FeatureKind {
+    /// What a feature with this name is.
+    pub fn of_name(name: &Name) -> FeatureKind {
+        if is_iter_name(name.as_slice()) {
+            FeatureKind::Iter
+        } else {
+            FeatureKind::Routine
+        }
+    }
+}
 
 /// A feature whose body is being typed.
 #[derive(Drop)]
@@ -17,8 +34,7 @@ pub struct Draft {
     loops: u32,
     /// The number of nodes in copies of initialisers.
     pub(crate) copied: u32,
-    /// Whether it is an iter.
-    pub iter: bool,
+    pub kind: FeatureKind,
     /// The number of the result's type.
     pub result: Option<u32>,
 }
@@ -40,19 +56,13 @@ pub struct OpenProtect {
 
 impl Draft {
     /// A feature without variables, at the beginning of its body.
-    pub fn new(alloc: Global, iter: bool, gives: Option<u32>) -> Draft {
+    pub fn new(alloc: Global, kind: FeatureKind, gives: Option<u32>) -> Draft {
         Draft {
-            place: Place {
-                vars: IndexMap::new(alloc),
-                loops: 0,
-                owner: None,
-                guard: 0,
-                branch: None,
-            },
+            place: Place::new(alloc),
             vars: Items::new(alloc),
             loops: 0,
             copied: 0,
-            iter,
+            kind,
             result: gives,
         }
     }

@@ -1,16 +1,14 @@
 //! `return` and `yield`, which give a value back.
 
-use crate::draft::Draft;
+use crate::draft::{Draft, FeatureKind};
 use crate::leave::in_iter;
 use crate::value::fitting;
-use sa_check_expr::{Built, Typed, View, position, ready, typed};
+use sa_check_expr::{Built, Expected, Typed, View, position, synthesised, typed};
 use sa_core::{ExprCore, StmtCore};
 use sa_tree::{Expr, FrontFault, Pos, Rule};
-use std::alloc::Global;
 
 /// `return` and `return e`, in a routine alone.
 pub(crate) fn return_value(
-    alloc: Global,
     view: &View<'_>,
     draft: &Draft,
     built: &mut Built,
@@ -22,15 +20,14 @@ pub(crate) fn return_value(
         gives_none(draft, pos)?;
         return Ok(StmtCore::Return(None));
     };
-    let made = result_value(alloc, view, draft, built, e)?;
+    let made = result_value(view, draft, built, e)?;
     in_routine(draft, pos)?;
-    let core = given_back(alloc, view, draft, built, made, position(e), pos)?;
+    let core = given_back(view, draft, built, made, position(e), pos)?;
     Ok(StmtCore::Return(Some(core)))
 }
 
 /// `yield` and `yield e`, in an iter alone, and in no protect.
 pub(crate) fn yield_value(
-    alloc: Global,
     view: &View<'_>,
     draft: &Draft,
     built: &mut Built,
@@ -42,15 +39,15 @@ pub(crate) fn yield_value(
         gives_none(draft, pos)?;
         return Ok(StmtCore::Yield(None));
     };
-    let made = result_value(alloc, view, draft, built, e)?;
+    let made = result_value(view, draft, built, e)?;
     in_iter(draft, pos)?;
-    let core = given_back(alloc, view, draft, built, made, position(e), pos)?;
+    let core = given_back(view, draft, built, made, position(e), pos)?;
     Ok(StmtCore::Yield(Some(core)))
 }
 
 /// Whether a form may stand here that a routine alone has.
 fn in_routine(draft: &Draft, pos: Pos) -> Result<(), FrontFault> {
-    if draft.iter {
+    if draft.kind == FeatureKind::Iter {
         return Err(Rule::OutOfPlace.at(pos).into());
     }
     Ok(())
@@ -64,26 +61,24 @@ fn gives_none(draft: &Draft, pos: Pos) -> Result<(), FrontFault> {
     Ok(())
 }
 
-/// The expression that is given back, whose place wants the type of the feature's result. Where the feature has none, it
-/// wants no type, and what is typed isn't kept: the form is refused after it.
+/// The expression that is given back, whose place expects the type of the feature's result. Where the feature has none, it
+/// expects no type, and what is typed isn't kept: the form is refused after it.
 fn result_value(
-    alloc: Global,
     view: &View<'_>,
     draft: &Draft,
     built: &mut Built,
     e: &Expr,
 ) -> Result<Option<Typed>, FrontFault> {
-    if draft.result.is_none() {
-        let _e = ready(alloc, view, &draft.place, built, e)?;
+    let Some(ty) = draft.result else {
+        let _e = synthesised(view.at(&draft.place), built, e)?;
         return Ok(None);
-    }
-    let made = typed(alloc, view, &draft.place, built, e, true, draft.result)?;
+    };
+    let made = typed(view.at(&draft.place), built, e, Expected::Type(ty))?;
     Ok(Some(made))
 }
 
 /// The value of the expression at a position, which has a subtype of the type of the feature's result.
 fn given_back(
-    alloc: Global,
     view: &View<'_>,
     draft: &Draft,
     built: &Built,
@@ -97,5 +92,5 @@ fn given_back(
     let Some(ty) = draft.result else {
         return Err(Rule::WrongType.at(form).into());
     };
-    fitting(alloc, view, built, made, ty, at, form)
+    fitting(view, built, made, ty, at, form)
 }

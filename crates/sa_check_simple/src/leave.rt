@@ -1,16 +1,16 @@
 //! Statements that leave or stop: `quit`, `raise`, `assert`, `while! := b`, and an expression as a statement.
 
-use crate::draft::Draft;
+use crate::draft::{Draft, FeatureKind};
 use crate::value::{entry, test, untyped_value};
-use sa_check_expr::{Built, View, leave, parts, position, ready, settled, typed, widened};
+use sa_check_expr::{
+    Built, Expected, LoopExit, View, leave, leave_form, only_argument, parts, position,
+    synthesised, typed, widened,
+};
 use sa_check_program::{BOOL, OB};
 use sa_core::{ExprCore, StmtCore};
-use sa_tree::{Expr, FaultKind, FrontFault, Name, Op, Pos, Recv, Rule, held};
+use sa_tree::{Expr, FaultKind, FrontFault, Op, Pos, Recv, Rule, held};
 use sqlite_items::Items;
 use std::alloc::Global;
-
-/// The number of `break!` among the names that leave a loop.
-const BREAK: u8 = 0;
 
 /// `quit`, in an iter alone, and in no protect.
 pub(crate) fn quit(draft: &Draft, pos: Pos) -> Result<StmtCore, FrontFault> {
@@ -20,7 +20,7 @@ pub(crate) fn quit(draft: &Draft, pos: Pos) -> Result<StmtCore, FrontFault> {
 
 /// Whether a form may stand here that an iter alone has, and no protect.
 pub(crate) fn in_iter(draft: &Draft, pos: Pos) -> Result<(), FrontFault> {
-    if !draft.iter {
+    if draft.kind == FeatureKind::Routine {
         return Err(Rule::OutOfPlace.at(pos).into());
     }
     if draft.place.guard > 0 {
@@ -31,33 +31,31 @@ pub(crate) fn in_iter(draft: &Draft, pos: Pos) -> Result<(), FrontFault> {
 
 /// `raise e`, whose value goes to `$OB`.
 pub(crate) fn raise(
-    alloc: Global,
     view: &View<'_>,
     draft: &Draft,
     built: &mut Built,
     e: &Expr,
     pos: Pos,
 ) -> Result<StmtCore, FrontFault> {
-    let value = untyped_value(alloc, view, &draft.place, built, e, pos)?;
+    let value = untyped_value(view.at(&draft.place), built, e, pos)?;
     let ty = held(value.ty)?;
-    let core = widened(alloc, view, value.core, ty, OB, position(e))?;
+    let core = widened(view, value.core, ty, OB, position(e))?;
     Ok(StmtCore::Raise(core, pos))
 }
 
 /// `assert e`: the program stops where the test is false.
 pub(crate) fn assert_true(
-    alloc: Global,
     view: &View<'_>,
     draft: &Draft,
     built: &mut Built,
     e: &Expr,
     pos: Pos,
 ) -> Result<StmtCore, FrontFault> {
-    let (core, is_bool) = test(alloc, view, &draft.place, built, e)?;
-    if !is_bool {
+    let test = test(view.at(&draft.place), built, e)?;
+    if test.ty != Some(BOOL) {
         return Err(Rule::WrongType.at(pos).into());
     }
-    asserted(alloc, core, pos)
+    asserted(view.alloc, test.core, pos)
 }
 
 /// Nothing where a test is true, and else a stop.
@@ -71,20 +69,19 @@ fn asserted(alloc: Global, test: ExprCore, pos: Pos) -> Result<StmtCore, FrontFa
 
 /// An expression as a statement: a call, an index, `#` or an operator other than `and` and `or`, without a result.
 pub(crate) fn expression(
-    alloc: Global,
     view: &View<'_>,
     draft: &Draft,
     built: &mut Built,
     e: &Expr,
 ) -> Result<StmtCore, FrontFault> {
-    if let Some((number, test)) = leave(alloc, view, &draft.place, built, e)? {
-        return Ok(StmtCore::Leave(number, test));
+    if let Some(left) = leave(view.at(&draft.place), built, e)? {
+        return Ok(left);
     }
     if !can_stand_alone(draft, e) {
-        parts(alloc, view, &draft.place, built, e)?;
+        parts(view.at(&draft.place), built, e)?;
         return Err(Rule::WrongType.at(position(e)).into());
     }
-    let made = typed(alloc, view, &draft.place, built, e, false, None)?;
+    let made = typed(view.at(&draft.place), built, e, Expected::Nothing)?;
     Ok(StmtCore::Do(made.core))
 }
 
@@ -101,45 +98,16 @@ fn can_stand_alone(draft: &Draft, e: &Expr) -> bool {
     }
 }
 
-/// The number of a name that leaves the innermost loop.
-pub(crate) fn leave_of(name: &Name) -> Option<u8> {
-    match name.as_slice() {
-        b"break!" => Some(BREAK),
-        b"while!" => Some(1),
-        b"until!" => Some(2),
-        _ => None,
-    }
-}
-
-/// `while! := b`, which is `while!(b)`. `break!` takes no argument.
+/// `while! := b`, which is `while!(b)`.
 pub(crate) fn leave_assigned(
-    alloc: Global,
     view: &View<'_>,
     draft: &Draft,
     built: &mut Built,
-    number: u8,
+    exit: LoopExit,
     value: &Expr,
     pos: Pos,
 ) -> Result<StmtCore, FrontFault> {
-    let value = ready(alloc, view, &draft.place, built, value)?;
-    can_leave(draft, number, pos)?;
-    let test = settled(alloc, view, built, value, Some(BOOL))?;
-    if test.ty != Some(BOOL) {
-        return Err(Rule::WrongType.at(pos).into());
-    }
-    Ok(StmtCore::Leave(number, Some(test.core)))
-}
-
-/// Whether a name with an argument leaves a loop here: it stands in one, no protect stands between, and it isn't `break!`.
-fn can_leave(draft: &Draft, number: u8, pos: Pos) -> Result<(), FrontFault> {
-    if draft.place.loops == 0 {
-        return Err(Rule::IterOutsideLoop.at(pos).into());
-    }
-    if draft.place.guard > draft.place.loops {
-        return Err(Rule::NotAllowedInProtect.at(pos).into());
-    }
-    if number == BREAK {
-        return Err(Rule::NoFeatureFits.at(pos).into());
-    }
-    Ok(())
+    let value = synthesised(view.at(&draft.place), built, value)?;
+    let args = only_argument(view.alloc, value)?;
+    leave_form(view.at(&draft.place), built, exit, args, pos)
 }

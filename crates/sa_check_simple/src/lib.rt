@@ -11,6 +11,6 @@ mod simple;
 mod value;
 
 pub use declare::MOST_NODES;
-pub use draft::{Draft, OpenLoop, OpenProtect};
+pub use draft::{Draft, FeatureKind, OpenLoop, OpenProtect};
 pub use simple::simple_statement;
 pub use value::{entry, fitting, test, with_type};

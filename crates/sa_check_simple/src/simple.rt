@@ -1,7 +1,7 @@
 //! A statement that holds no others, by its form.
 
 use crate::assign::assign;
-use crate::declare::declare;
+use crate::declare::{Declaration, declare};
 use crate::draft::Draft;
 use crate::give::{return_value, yield_value};
 use crate::leave::{assert_true, expression, quit, raise};
@@ -9,7 +9,6 @@ use sa_check_expr::{Built, View};
 use sa_core::StmtCore;
 use sa_tree::{FrontFault, Stmt};
 use sqlite_items::Items;
-use std::alloc::Global;
 
 /// A statement that holds no others, put at the end of the list: a declaration is several of the typed tree.
 ///
@@ -18,7 +17,6 @@ use std::alloc::Global;
 /// The first refusal by the rules of the statement and of the expressions in it; `NoMemory`, also for a statement that holds
 /// others.
 pub fn simple_statement(
-    alloc: Global,
     view: &View<'_>,
     draft: &mut Draft,
     built: &mut Built,
@@ -26,39 +24,28 @@ pub fn simple_statement(
     cores: &mut Items<StmtCore>,
 ) -> Result<(), FrontFault> {
     if let Stmt::Declare(names, ty, value) = stmt {
-        return declare(
-            alloc,
-            view,
-            draft,
-            built,
-            names.as_slice(),
-            ty,
-            value,
-            cores,
-        );
+        let names = names.as_slice();
+        return declare(view, draft, built, Declaration { names, ty, value }, cores);
     }
-    cores.push(single(alloc, view, draft, built, stmt)?)?;
+    cores.push(single(view, draft, built, stmt)?)?;
     Ok(())
 }
 
 /// A statement that is one of the typed tree.
 fn single(
-    alloc: Global,
     view: &View<'_>,
     draft: &Draft,
     built: &mut Built,
     stmt: &Stmt,
 ) -> Result<StmtCore, FrontFault> {
     match stmt {
-        Stmt::Assign(target, value, pos) => {
-            assign(alloc, view, draft, built, target, value, *pos)
-        }
-        Stmt::Return(value, pos) => return_value(alloc, view, draft, built, value, *pos),
-        Stmt::Yield(value, pos) => yield_value(alloc, view, draft, built, value, *pos),
+        Stmt::Assign(target, value, pos) => assign(view, draft, built, target, value, *pos),
+        Stmt::Return(value, pos) => return_value(view, draft, built, value, *pos),
+        Stmt::Yield(value, pos) => yield_value(view, draft, built, value, *pos),
         Stmt::Quit(pos) => quit(draft, *pos),
-        Stmt::Raise(e, pos) => raise(alloc, view, draft, built, e, *pos),
-        Stmt::Assert(e, pos) => assert_true(alloc, view, draft, built, e, *pos),
-        Stmt::Do(e) => expression(alloc, view, draft, built, e),
+        Stmt::Raise(e, pos) => raise(view, draft, built, e, *pos),
+        Stmt::Assert(e, pos) => assert_true(view, draft, built, e, *pos),
+        Stmt::Do(e) => expression(view, draft, built, e),
         _ => Err(FrontFault::NoMemory),
     }
 }

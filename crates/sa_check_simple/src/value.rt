@@ -1,23 +1,23 @@
-//! The expressions of a statement: those that want a type, and those that go to one.
+//! The expressions of a statement: those that expect a type, and those that go to one.
 
-use sa_check_expr::{Built, Place, ReadyExpr, Typed, View, is_sub, ready, typed, widened};
+use sa_check_expr::{
+    Built, Context, Expected, Synthesised, Typed, View, is_sub, synthesised, typed, widened,
+};
 use sa_check_program::BOOL;
 use sa_core::{ExprCore, StmtCore, TestCore};
 use sa_tree::{Expr, FrontFault, NoMemory, Pos, Rule, held};
 use sqlite_items::Items;
 use std::alloc::Global;
 
-/// An expression whose place wants a result and no type. A contextual one is refused, as the form at a position, once the
+/// An expression whose place expects a result and no type. A contextual one is refused, as the form at a position, once the
 /// expressions in it are typed.
 pub(crate) fn untyped_value(
-    alloc: Global,
-    view: &View<'_>,
-    place: &Place,
+    context: Context<'_>,
     built: &mut Built,
     e: &Expr,
     form: Pos,
 ) -> Result<Typed, FrontFault> {
-    with_type(ready(alloc, view, place, built, e)?, form)
+    with_type(synthesised(context, built, e)?, form)
 }
 
 /// An expression that has a type by itself.
@@ -25,36 +25,28 @@ pub(crate) fn untyped_value(
 /// # Errors
 ///
 /// E41, as the form at a position, where it is contextual.
-pub fn with_type(value: ReadyExpr, form: Pos) -> Result<Typed, FrontFault> {
+pub fn with_type(value: Synthesised, form: Pos) -> Result<Typed, FrontFault> {
     match value {
-        ReadyExpr::Typed(value, _at) => Ok(value),
+        Synthesised::Typed(value, _at) => Ok(value),
         _ => Err(Rule::NoTypeFromContext.at(form).into()),
     }
 }
 
-/// A test, and whether it is a BOOL.
+/// A test, whose place expects a BOOL.
 ///
 /// # Errors
 ///
 /// The first refusal by the rules of expressions; `NoMemory`.
-pub fn test(
-    alloc: Global,
-    view: &View<'_>,
-    place: &Place,
-    built: &mut Built,
-    e: &Expr,
-) -> Result<(ExprCore, bool), FrontFault> {
-    let test = typed(alloc, view, place, built, e, true, Some(BOOL))?;
-    Ok((test.core, test.ty == Some(BOOL)))
+pub fn test(context: Context<'_>, built: &mut Built, e: &Expr) -> Result<Typed, FrontFault> {
+    typed(context, built, e, Expected::Type(BOOL))
 }
 
-/// The value of an expression, which stands at a position, where a type is wanted.
+/// The value of an expression, which stands at a position, where a type is expected.
 ///
 /// # Errors
 ///
 /// E33, as the form at the other position, unless the expression has a subtype of this type; `NoMemory`.
 pub fn fitting(
-    alloc: Global,
     view: &View<'_>,
     built: &Built,
     value: Typed,
@@ -66,7 +58,7 @@ pub fn fitting(
     if !is_sub(view, built, from, to) {
         return Err(Rule::WrongType.at(form).into());
     }
-    Ok(widened(alloc, view, value.core, from, to, at)?)
+    Ok(widened(view, value.core, from, to, at)?)
 }
 
 /// A test with its statements. It fails only where memory runs out.

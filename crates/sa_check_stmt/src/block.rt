@@ -2,11 +2,11 @@
 
 use crate::statement::statements;
 use sa_check_expr::{Built, View};
+use sa_check_program::BOOL;
 use sa_check_simple::{Draft, entry, test};
 use sa_core::{StmtCore, TestCore};
 use sa_tree::{Arm, FrontFault, Pos, Rule};
 use sqlite_items::Items;
-use std::alloc::Global;
 
 /// The entries of an `if`, and whether all their tests are BOOLs.
 #[derive(Drop)]
@@ -18,35 +18,34 @@ pub(crate) struct Entries {
 /// The entries of an `if`.
 #[cycle(statement)]
 pub(crate) fn if_arms(
-    alloc: Global,
     view: &View<'_>,
     draft: &mut Draft,
     built: &mut Built,
     arms: &[Arm],
 ) -> Result<Entries, FrontFault> {
-    let mut list = Items::new(alloc);
+    let mut list = Items::new(view.alloc);
     let mut are_bools = true;
     for arm in arms {
-        let is_bool = if_arm(alloc, view, draft, built, arm, &mut list)?;
-        are_bools = are_bools && is_bool;
+        let ty = if_arm(view, draft, built, arm, &mut list)?;
+        are_bools = are_bools && ty == Some(BOOL);
     }
     Ok(Entries { list, are_bools })
 }
 
-/// An entry of an `if`, put at the end of the list. It tells whether its test is a BOOL.
+/// An entry of an `if`, put at the end of the list. It gives the number of its test's type.
 #[cycle(statement)]
 fn if_arm(
-    alloc: Global,
     view: &View<'_>,
     draft: &mut Draft,
     built: &mut Built,
     arm: &Arm,
     list: &mut Items<TestCore>,
-) -> Result<bool, FrontFault> {
-    let (core, is_bool) = test(alloc, view, &draft.place, built, &arm.test)?;
-    let body = statements(alloc, view, draft, built, arm.body.as_slice())?;
-    list.push(entry(alloc, core, body)?)?;
-    Ok(is_bool)
+) -> Result<Option<u32>, FrontFault> {
+    let test = test(view.at(&draft.place), built, &arm.test)?;
+    let ty = test.ty;
+    let body = statements(view, draft, built, arm.body.as_slice())?;
+    list.push(entry(view.alloc, test.core, body)?)?;
+    Ok(ty)
 }
 
 /// The `if` of its entries, put at the end of the list: E33 unless all their tests are BOOLs.

@@ -1,7 +1,10 @@
 //! `case`: the value is evaluated once, into a variable without a name, and compared by `is_eq` in order.
 
 use crate::statement::statements;
-use sa_check_expr::{Built, ReadyArg, ReadyExpr, Receiver, Typed, View, call, ready, ready_all};
+use sa_check_expr::{
+    Built, Call, Context, Expected, Receiver, Synthesised, Typed, View, call, synthesised,
+    synthesised_all,
+};
 use sa_check_program::{BOOL, OB};
 use sa_check_simple::{Draft, with_type};
 use sa_core::{ExprCore, StmtCore, TestCore};
@@ -11,7 +14,7 @@ use std::alloc::Global;
 
 /// The variable that holds the value of a `case`, and the position of the form.
 #[derive(Clone, Copy)]
-struct Held {
+struct CaseVariable {
     ty: u32,
     number: u32,
     pos: Pos,
@@ -20,37 +23,36 @@ struct Held {
 /// The value of a `case`, and the variable that holds it.
 #[derive(Drop)]
 pub(crate) struct Subject {
-    value: ReadyExpr,
-    variable: Held,
+    value: Synthesised,
+    variable: CaseVariable,
 }
 
 /// An arm whose values and statements are typed, and whose tests aren't made yet.
 #[derive(Drop)]
 pub(crate) struct TypedArm {
-    values: Vec<ReadyExpr>,
+    values: Vec<Synthesised>,
     body: Items<StmtCore>,
 }
 
 /// The value of a `case`, whose variable is made before its arms are typed.
 pub(crate) fn case_subject(
-    alloc: Global,
     view: &View<'_>,
     draft: &mut Draft,
     built: &mut Built,
     tested: &Expr,
     pos: Pos,
 ) -> Result<Subject, FrontFault> {
-    let value = ready(alloc, view, &draft.place, built, tested)?;
+    let value = synthesised(view.at(&draft.place), built, tested)?;
     let ty = value_type(&value)?;
     let number = draft.variable(ty)?;
-    let variable = Held { ty, number, pos };
+    let variable = CaseVariable { ty, number, pos };
     Ok(Subject { value, variable })
 }
 
 /// The number of a value's type. A contextual value has none, and is refused later.
-fn value_type(value: &ReadyExpr) -> Result<u32, NoMemory> {
+fn value_type(value: &Synthesised) -> Result<u32, NoMemory> {
     match value {
-        ReadyExpr::Typed(value, _at) => held(value.ty),
+        Synthesised::Typed(value, _at) => held(value.ty),
         _ => Ok(OB),
     }
 }
@@ -58,15 +60,14 @@ fn value_type(value: &ReadyExpr) -> Result<u32, NoMemory> {
 /// The arms of a `case`.
 #[cycle(statement)]
 pub(crate) fn case_arms(
-    alloc: Global,
     view: &View<'_>,
     draft: &mut Draft,
     built: &mut Built,
     arms: &[CaseArm],
 ) -> Result<Vec<TypedArm>, FrontFault> {
-    let mut typed_arms = Vec::new(alloc);
+    let mut typed_arms = Vec::new(view.alloc);
     for arm in arms {
-        typed_arms.push(case_arm(alloc, view, draft, built, arm)?)?;
+        typed_arms.push(case_arm(view, draft, built, arm)?)?;
     }
     Ok(typed_arms)
 }
@@ -74,22 +75,19 @@ pub(crate) fn case_arms(
 /// An arm of a `case`.
 #[cycle(statement)]
 fn case_arm(
-    alloc: Global,
     view: &View<'_>,
     draft: &mut Draft,
     built: &mut Built,
     arm: &CaseArm,
 ) -> Result<TypedArm, FrontFault> {
-    let values = ready_all(alloc, view, &draft.place, built, arm.values.as_slice())?;
-    let body = statements(alloc, view, draft, built, arm.body.as_slice())?;
+    let values = synthesised_all(view.at(&draft.place), built, arm.values.as_slice())?;
+    let body = statements(view, draft, built, arm.body.as_slice())?;
     Ok(TypedArm { values, body })
 }
 
 /// The `case` of its parts, put at the end of the list.
 pub(crate) fn case_cores(
-    alloc: Global,
-    view: &View<'_>,
-    draft: &Draft,
+    context: Context<'_>,
     built: &mut Built,
     subject: Subject,
     arms: Vec<TypedArm>,
@@ -98,8 +96,8 @@ pub(crate) fn case_cores(
 ) -> Result<(), FrontFault> {
     let Subject { value, variable } = subject;
     let value = with_type(value, variable.pos)?;
-    let tests = tested_arms(alloc, view, draft, built, variable, arms)?;
-    let rest = otherwise(alloc, rest, variable.pos)?;
+    let tests = tested_arms(context, built, variable, arms)?;
+    let rest = otherwise(context.view.alloc, rest, variable.pos)?;
     cores.push(StmtCore::Let(variable.number, value.core))?;
     cores.push(StmtCore::If(tests, rest))?;
     Ok(())
@@ -121,74 +119,55 @@ fn otherwise(
 
 /// The arms with their tests.
 fn tested_arms(
-    alloc: Global,
-    view: &View<'_>,
-    draft: &Draft,
+    context: Context<'_>,
     built: &mut Built,
-    variable: Held,
+    variable: CaseVariable,
     arms: Vec<TypedArm>,
 ) -> Result<Items<TestCore>, FrontFault> {
-    let mut entries = Items::new(alloc);
+    let mut entries = Items::new(context.view.alloc);
     for arm in arms {
-        entries.push(tested_arm(alloc, view, draft, built, variable, arm)?)?;
+        entries.push(tested_arm(context, built, variable, arm)?)?;
     }
     Ok(entries)
 }
 
 /// An arm with its tests.
 fn tested_arm(
-    alloc: Global,
-    view: &View<'_>,
-    draft: &Draft,
+    context: Context<'_>,
     built: &mut Built,
-    variable: Held,
+    variable: CaseVariable,
     arm: TypedArm,
 ) -> Result<TestCore, FrontFault> {
     let TypedArm { values, body } = arm;
-    let tests = comparisons(alloc, view, draft, built, variable, values)?;
+    let tests = comparisons(context, built, variable, values)?;
     Ok(TestCore { tests, body })
 }
 
 /// The tests of an arm.
 fn comparisons(
-    alloc: Global,
-    view: &View<'_>,
-    draft: &Draft,
+    context: Context<'_>,
     built: &mut Built,
-    variable: Held,
-    values: Vec<ReadyExpr>,
+    variable: CaseVariable,
+    values: Vec<Synthesised>,
 ) -> Result<Items<ExprCore>, FrontFault> {
-    let mut tests = Items::new(alloc);
+    let mut tests = Items::new(context.view.alloc);
     for value in values {
-        tests.push(comparison(alloc, view, draft, built, variable, value)?)?;
+        tests.push(comparison(context, built, variable, value)?)?;
     }
     Ok(tests)
 }
 
 /// The call of `is_eq` on the variable with a value: E33 unless it gives a BOOL.
 fn comparison(
-    alloc: Global,
-    view: &View<'_>,
-    draft: &Draft,
+    context: Context<'_>,
     built: &mut Built,
-    variable: Held,
-    value: ReadyExpr,
+    variable: CaseVariable,
+    value: Synthesised,
 ) -> Result<ExprCore, FrontFault> {
     let on = variable_receiver(variable, built.sites.len());
-    let mut args = Vec::new(alloc);
-    args.push(ReadyArg::Value(value))?;
     let pos = variable.pos;
-    let test = call(
-        alloc,
-        view,
-        &draft.place,
-        built,
-        on,
-        b"is_eq",
-        args,
-        pos,
-        true,
-    )?;
+    let form = Call::with_value(context.view.alloc, on, b"is_eq", value, pos)?;
+    let test = call(context, built, form, Expected::Value)?;
     if test.ty != Some(BOOL) {
         return Err(Rule::WrongType.at(pos).into());
     }
@@ -196,7 +175,7 @@ fn comparison(
 }
 
 /// The variable, as what a call is made on, before which there are so many sites.
-fn variable_receiver(variable: Held, sites: usize) -> Receiver {
+fn variable_receiver(variable: CaseVariable, sites: usize) -> Receiver {
     let value = Typed {
         core: ExprCore::Var(variable.number),
         ty: Some(variable.ty),

@@ -1,12 +1,11 @@
 //! Features: a routine or an iter with its body, and a shared with its initialiser.
 
 use crate::statement::statements;
-use sa_check_expr::{Built, View, position, typed, written};
-use sa_check_simple::{Draft, fitting};
+use sa_check_expr::{Built, Expected, Place, View, position, typed, written};
+use sa_check_simple::{Draft, FeatureKind, fitting};
 use sa_core::{ExprCore, FeatureCore, SharedCore, StmtCore};
 use sa_tree::{Expr, FaultKind, Feature, Formal, FrontFault, Mode, Part, Pos, Rule, Stmt, held};
 use sqlite_items::Items;
-use std::alloc::Global;
 use std::mem;
 
 /// How many variables a feature has at most, arguments among them.
@@ -21,24 +20,19 @@ const MOST_OUT: usize = 16;
 ///
 /// The first refusal by the rules of statements and expressions; E43 for equal arguments before those, and E54 and E53 for
 /// too many `out` arguments and too many variables after them; `NoMemory`.
-pub fn body(
-    alloc: Global,
-    view: &View<'_>,
-    built: &mut Built,
-    f: &Feature,
-) -> Result<FeatureCore, FrontFault> {
-    let iter = f.name.name.as_slice().ends_with(b"!");
-    let mut draft = Draft::new(alloc, iter, result_of(view, f)?);
-    let modes = formals(alloc, view, &mut draft, f.formals.as_slice())?;
-    let body = whole_body(alloc, view, &mut draft, built, f)?;
+pub fn body(view: &View<'_>, built: &mut Built, f: &Feature) -> Result<FeatureCore, FrontFault> {
+    let kind = FeatureKind::of_name(&f.name.name);
+    let mut draft = Draft::new(view.alloc, kind, result_of(view, f)?);
+    let modes = formals(view, &mut draft, f.formals.as_slice())?;
+    let body = whole_body(view, &mut draft, built, f)?;
     within_limits(&draft, modes.as_slice(), f.name.pos)?;
     Ok(FeatureCore {
         class: view.class,
-        iter,
+        iter: kind == FeatureKind::Iter,
         modes,
         vars: draft.vars,
         result: draft.result,
-        sites: mem::replace(&mut built.sites, Items::new(alloc)),
+        sites: mem::replace(&mut built.sites, Items::new(view.alloc)),
         body,
         pos: f.name.pos,
     })
@@ -46,14 +40,13 @@ pub fn body(
 
 /// The statements of the feature, and behind them a stop where a routine with a result reaches its end.
 fn whole_body(
-    alloc: Global,
     view: &View<'_>,
     draft: &mut Draft,
     built: &mut Built,
     f: &Feature,
 ) -> Result<Items<StmtCore>, FrontFault> {
-    let mut body = statements(alloc, view, draft, built, body_of(f))?;
-    if draft.result.is_some() && !draft.iter {
+    let mut body = statements(view, draft, built, body_of(f))?;
+    if draft.result.is_some() && draft.kind == FeatureKind::Routine {
         body.push(StmtCore::Stop(FaultKind::NoReturn.number(), f.name.pos))?;
     }
     Ok(body)
@@ -66,43 +59,40 @@ fn whole_body(
 /// The first refusal by the rules of expressions; E33 at the name of the shared unless the initialiser has a subtype of its
 /// type; `NoMemory`.
 pub fn shared_body(
-    alloc: Global,
     view: &View<'_>,
     built: &mut Built,
     f: &Feature,
 ) -> Result<SharedCore, FrontFault> {
     let ty = held(result_of(view, f)?)?;
-    let start = start(alloc, view, built, ty, f)?;
+    let start = start(view, built, ty, f)?;
     let class = view.class;
     Ok(SharedCore { ty, class, start })
 }
 
 /// The initialiser of a shared, where it has one.
 fn start(
-    alloc: Global,
     view: &View<'_>,
     built: &mut Built,
     ty: u32,
     f: &Feature,
 ) -> Result<Option<ExprCore>, FrontFault> {
     match &f.part {
-        Part::Shared(Some(e)) => Ok(Some(initialiser(alloc, view, built, ty, e, f.name.pos)?)),
+        Part::Shared(Some(e)) => Ok(Some(initialiser(view, built, ty, e, f.name.pos)?)),
         _ => Ok(None),
     }
 }
 
-/// An initialiser, whose place wants the type of the shared.
+/// An initialiser, whose place expects the type of the shared.
 fn initialiser(
-    alloc: Global,
     view: &View<'_>,
     built: &mut Built,
     ty: u32,
     e: &Expr,
     name: Pos,
 ) -> Result<ExprCore, FrontFault> {
-    let outside = Draft::new(alloc, false, None);
-    let value = typed(alloc, view, &outside.place, built, e, true, Some(ty))?;
-    fitting(alloc, view, built, value, ty, position(e), name)
+    let outside = Place::new(view.alloc);
+    let value = typed(view.at(&outside), built, e, Expected::Type(ty))?;
+    fitting(view, built, value, ty, position(e), name)
 }
 
 /// The number of the type of the feature's result.
@@ -123,15 +113,14 @@ fn body_of(f: &Feature) -> &[Stmt] {
 
 /// Declares the arguments as the first variables, and gives their modes.
 fn formals(
-    alloc: Global,
     view: &View<'_>,
     draft: &mut Draft,
     formals: &[Formal],
 ) -> Result<Items<Mode>, FrontFault> {
-    let mut modes = Items::new(alloc);
+    let mut modes = Items::new(view.alloc);
     for formal in formals {
         let ty = held(written(view, &formal.ty))?;
-        draft.declare(alloc, &formal.local, ty)?;
+        draft.declare(view.alloc, &formal.local, ty)?;
         modes.push(formal.mode)?;
     }
     Ok(modes)

@@ -5,9 +5,7 @@ mod block;
 mod case;
 mod features;
 mod protect;
-mod public;
 mod statement;
 mod typecase;
 
 pub use features::{body, shared_body};
-pub use public::body_core;

@@ -6,20 +6,18 @@ use sa_check_simple::Draft;
 use sa_core::ArmCore;
 use sa_tree::{FrontFault, TypeArm, held};
 use sqlite_items::Items;
-use std::alloc::Global;
 
 /// The branches of a `protect`.
 #[cycle(statement)]
 pub(crate) fn protect_arms(
-    alloc: Global,
     view: &View<'_>,
     draft: &mut Draft,
     built: &mut Built,
     arms: &[TypeArm],
 ) -> Result<Items<ArmCore>, FrontFault> {
-    let mut branches = Items::new(alloc);
+    let mut branches = Items::new(view.alloc);
     for arm in arms {
-        branches.push(protect_arm(alloc, view, draft, built, arm)?)?;
+        branches.push(protect_arm(view, draft, built, arm)?)?;
     }
     Ok(branches)
 }
@@ -27,7 +25,6 @@ pub(crate) fn protect_arms(
 /// A branch of a `protect`, in which `exception` has its type.
 #[cycle(statement)]
 fn protect_arm(
-    alloc: Global,
     view: &View<'_>,
     draft: &mut Draft,
     built: &mut Built,
@@ -35,6 +32,6 @@ fn protect_arm(
 ) -> Result<ArmCore, FrontFault> {
     let ty = held(written(view, &arm.ty))?;
     draft.place.branch = Some(ty);
-    let body = statements(alloc, view, draft, built, arm.body.as_slice())?;
+    let body = statements(view, draft, built, arm.body.as_slice())?;
     Ok(ArmCore { ty, var: 0, body })
 }

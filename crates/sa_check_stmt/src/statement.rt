@@ -10,21 +10,19 @@ use sa_check_simple::{Draft, simple_statement};
 use sa_core::StmtCore;
 use sa_tree::{FrontFault, Stmt};
 use sqlite_items::Items;
-use std::alloc::Global;
 
 /// The statements of a list. What they declare is in scope to the end of the list.
 #[cycle(statement)]
 pub(crate) fn statements(
-    alloc: Global,
     view: &View<'_>,
     draft: &mut Draft,
     built: &mut Built,
     list: &[Stmt],
 ) -> Result<Items<StmtCore>, FrontFault> {
     let outside = draft.place.vars.len();
-    let mut cores = Items::new(alloc);
+    let mut cores = Items::new(view.alloc);
     for stmt in list {
-        statement(alloc, view, draft, built, stmt, &mut cores)?;
+        statement(view, draft, built, stmt, &mut cores)?;
     }
     draft.leave_scope(outside);
     Ok(cores)
@@ -35,7 +33,6 @@ pub(crate) fn statements(
 /// of the innermost branch, and in `else` the type `$OB`.
 #[cycle(statement)]
 fn statement(
-    alloc: Global,
     view: &View<'_>,
     draft: &mut Draft,
     built: &mut Built,
@@ -44,34 +41,36 @@ fn statement(
 ) -> Result<(), FrontFault> {
     match stmt {
         Stmt::If(arms, rest, pos) => {
-            let arms = if_arms(alloc, view, draft, built, arms.as_slice())?;
-            let rest = statements(alloc, view, draft, built, rest.as_slice())?;
+            let arms = if_arms(view, draft, built, arms.as_slice())?;
+            let rest = statements(view, draft, built, rest.as_slice())?;
             if_core(arms, rest, *pos, cores)
         }
         Stmt::Loop(body, _) => {
             let open = draft.begin_loop()?;
-            let body = statements(alloc, view, draft, built, body.as_slice())?;
+            let body = statements(view, draft, built, body.as_slice())?;
             draft.end_loop(open);
             put(cores, StmtCore::Loop(open.number, body))
         }
         Stmt::Case(tested, arms, rest, pos) => {
-            let subject = case_subject(alloc, view, draft, built, tested, *pos)?;
-            let arms = case_arms(alloc, view, draft, built, arms.as_slice())?;
+            let subject = case_subject(view, draft, built, tested, *pos)?;
+            let arms = case_arms(view, draft, built, arms.as_slice())?;
             let Some(rest) = rest else {
-                return case_cores(alloc, view, draft, built, subject, arms, None, cores);
+                let context = view.at(&draft.place);
+                return case_cores(context, built, subject, arms, None, cores);
             };
-            let rest = statements(alloc, view, draft, built, rest.as_slice())?;
-            case_cores(alloc, view, draft, built, subject, arms, Some(rest), cores)
+            let rest = statements(view, draft, built, rest.as_slice())?;
+            let context = view.at(&draft.place);
+            case_cores(context, built, subject, arms, Some(rest), cores)
         }
         Stmt::TypeCase(local, arms, rest, pos) => {
             let name = &local.name;
             let tested = tested_variable(draft, name, *pos)?;
             let arms = arms.as_slice();
-            let arms = typecase_arms(alloc, view, draft, built, name, tested, arms)?;
+            let arms = typecase_arms(view, draft, built, name, tested, arms)?;
             let Some(rest) = rest else {
                 return put(cores, StmtCore::TypeCase(tested.number, arms, None, *pos));
             };
-            let rest = statements(alloc, view, draft, built, rest.as_slice())?;
+            let rest = statements(view, draft, built, rest.as_slice())?;
             put(
                 cores,
                 StmtCore::TypeCase(tested.number, arms, Some(rest), *pos),
@@ -79,18 +78,18 @@ fn statement(
         }
         Stmt::Protect(body, arms, rest, _) => {
             let open = draft.begin_protect()?;
-            let body = statements(alloc, view, draft, built, body.as_slice())?;
-            let arms = protect_arms(alloc, view, draft, built, arms.as_slice())?;
+            let body = statements(view, draft, built, body.as_slice())?;
+            let arms = protect_arms(view, draft, built, arms.as_slice())?;
             let Some(rest) = rest else {
                 draft.end_protect(open);
                 return put(cores, StmtCore::Protect(body, arms, None));
             };
             draft.place.branch = Some(OB);
-            let rest = statements(alloc, view, draft, built, rest.as_slice())?;
+            let rest = statements(view, draft, built, rest.as_slice())?;
             draft.end_protect(open);
             put(cores, StmtCore::Protect(body, arms, Some(rest)))
         }
-        _ => simple_statement(alloc, view, draft, built, stmt, cores),
+        _ => simple_statement(view, draft, built, stmt, cores),
     }
 }
 

@@ -6,7 +6,6 @@ use sa_check_simple::Draft;
 use sa_core::ArmCore;
 use sa_tree::{FrontFault, Name, NoMemory, Pos, Rule, TypeArm, held};
 use sqlite_items::Items;
-use std::alloc::Global;
 
 /// The variable that a `typecase` tests: E42 where the name is that of none.
 pub(crate) fn tested_variable(
@@ -23,7 +22,6 @@ pub(crate) fn tested_variable(
 /// The branches of a `typecase`.
 #[cycle(statement)]
 pub(crate) fn typecase_arms(
-    alloc: Global,
     view: &View<'_>,
     draft: &mut Draft,
     built: &mut Built,
@@ -31,9 +29,9 @@ pub(crate) fn typecase_arms(
     tested: Variable,
     arms: &[TypeArm],
 ) -> Result<Items<ArmCore>, FrontFault> {
-    let mut branches = Items::new(alloc);
+    let mut branches = Items::new(view.alloc);
     for arm in arms {
-        branches.push(typecase_arm(alloc, view, draft, built, name, tested, arm)?)?;
+        branches.push(typecase_arm(view, draft, built, name, tested, arm)?)?;
     }
     Ok(branches)
 }
@@ -41,7 +39,6 @@ pub(crate) fn typecase_arms(
 /// A branch of a `typecase`.
 #[cycle(statement)]
 fn typecase_arm(
-    alloc: Global,
     view: &View<'_>,
     draft: &mut Draft,
     built: &mut Built,
@@ -51,7 +48,7 @@ fn typecase_arm(
 ) -> Result<ArmCore, FrontFault> {
     let ty = held(written(view, &arm.ty))?;
     let var = narrow(view, draft, built, name, tested, ty)?;
-    let body = statements(alloc, view, draft, built, arm.body.as_slice())?;
+    let body = statements(view, draft, built, arm.body.as_slice())?;
     draft.replace(name, tested);
     Ok(ArmCore { ty, var, body })
 }

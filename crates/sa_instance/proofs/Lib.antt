@@ -1,3 +1,2 @@
-pub mod AtInstance
 pub mod Others
 pub mod TreeTypes

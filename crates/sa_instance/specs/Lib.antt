@@ -1,2 +1,1 @@
-pub mod Instance
 pub mod Trees

@@ -1,13 +1,6 @@
--- The trees of a class with each of the types that are written in them changed. All else in them stays, positions too.
+-- Expressions and statements with each of the types that are written in them changed. All else in them stays, positions too.
 use Rattle.std.specs.Prelude.{map}
 use Rattle.std.specs.Option.{option_map}
-use Rattle.sa_tree.specs.declared.class.Class.{Class}
-use Rattle.sa_tree.specs.declared.class.Feature.{Feature}
-use Rattle.sa_tree.specs.declared.class.Formal.{Formal}
-use Rattle.sa_tree.specs.declared.class.Include.{Include}
-use Rattle.sa_tree.specs.declared.class.Param.{Param}
-use Rattle.sa_tree.specs.declared.class.Part.{Part}
-use Rattle.sa_tree.specs.declared.class.Part.TheVariants as part
 use Rattle.sa_tree.specs.declared.expr.Expr.{Expr}
 use Rattle.sa_tree.specs.declared.expr.Given.{Given}
 use Rattle.sa_tree.specs.declared.expr.Recv.{Recv}
@@ -88,32 +81,3 @@ module _ (f : Ty → Ty) where
 
   unfoldable pub type_arm_with : TypeArm → TypeArm
   type_arm_with = fold-TypeArm Stmt Arm CaseArm TypeArm stmt_level arm_level case_arm_level type_arm_level
-
-  -- ---- classes
-
-  abbrev pub param_with : Param → Param
-  param_with p = record p { bound = option_map f p.bound }
-
-  abbrev pub include_with : Include → Include
-  include_with i = record i { ty = f i.ty }
-
-  abbrev pub formal_with : Formal → Formal
-  formal_with x = record x { ty = f x.ty }
-
-  abbrev pub part_with : Part → Part
-  part_with (part.Routine body) = part.Routine (map stmt_with body)
-  part_with (part.Shared start) = part.Shared (option_map expr_with start)
-  part_with (part.Const value more) = part.Const (option_map expr_with value) more
-  part_with x = x
-
-  abbrev pub feature_with : Feature → Feature
-  feature_with x = record x { formals = map formal_with x.formals; result = option_map f x.result; part = part_with x.part }
-
-  abbrev pub class_with : Class → Class
-  class_with c = record c {
-    params = map param_with c.params;
-    below = map f c.below;
-    above = map f c.above;
-    includes = map include_with c.includes;
-    features = map feature_with c.features;
-  }

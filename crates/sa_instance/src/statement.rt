@@ -165,7 +165,7 @@ fn type_arm(alloc: Global, of: &TypeArm, by: &Substitution<'_>) -> Result<TypeAr
 }
 
 /// The name once more.
-pub(crate) fn local(alloc: Global, of: &Local) -> Result<Local, NoMemory>
+fn local(alloc: Global, of: &Local) -> Result<Local, NoMemory>
     ensures { IfOk result (λ copy. copy ≡ of.now) }
 {
     Ok(Local {

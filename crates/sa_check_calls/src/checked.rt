@@ -1,0 +1,205 @@
+//! Contextual forms checked against the type that their place expects.
+
+use crate::calls::{Call, called_value, callee};
+use crate::passing::{PassedArgs, passed};
+use crate::receiver::Receiver;
+use crate::synthesised::{Synthesised, SynthesisedArg};
+use sa_check_choice::{
+    Built, ChosenFeature, Expected, Reached, Typed, View, first_iter, is_concrete, is_sub,
+    number_of, type_of, widened,
+};
+use sa_core::ExprCore;
+use sa_tree::{FrontFault, NoMemory, Pos, Rule, Ty, held};
+use sqlite_items::Items;
+use std::alloc::Global;
+
+/// The class of array literals.
+const ARRAY: &[u8] = b"ARRAY";
+
+/// An expression checked against the type that its place expects. One that has a type by itself keeps it.
+#[cycle(check)]
+pub fn checked(
+    view: &View<'_>,
+    built: &Built,
+    synthesised: Synthesised,
+    expected: Expected,
+) -> Result<Typed, FrontFault> {
+    match synthesised {
+        Synthesised::Typed(value, _) => Ok(value),
+        Synthesised::Void(pos) => void(expected, pos),
+        Synthesised::Create(args, pos) => create(view, built, args, expected, pos),
+        Synthesised::Items(items, pos) => array(view, built, items, expected, pos),
+    }
+}
+
+/// `void`: E41 where no type is expected.
+fn void(expected: Expected, pos: Pos) -> Result<Typed, FrontFault> {
+    let Some(ty) = expected.ty() else {
+        return Err(Rule::NoTypeFromContext.at(pos).into());
+    };
+    Ok(Typed {
+        core: ExprCore::VoidOf(ty),
+        ty: Some(ty),
+        iter: None,
+    })
+}
+
+/// `#(..)` without a type: a call of `create` on void of the expected type, and E41 unless that is a concrete one.
+#[cycle(check)]
+fn create(
+    view: &View<'_>,
+    built: &Built,
+    args: Vec<SynthesisedArg>,
+    expected: Expected,
+    pos: Pos,
+) -> Result<Typed, FrontFault> {
+    let form = Call {
+        on: created(view, expected),
+        name: b"create",
+        args,
+        pos,
+    };
+    let callee = callee(view, built, &form, Expected::Value)?;
+    let Call {
+        on,
+        name: _name,
+        args,
+        pos,
+    } = form;
+    let passed = passed(view, built, args, callee.params.as_slice(), pos)?;
+    Ok(made(view.alloc, callee, on, passed, pos)?)
+}
+
+/// What `#(..)` without a type calls `create` on: nothing that has a type, unless a concrete one is expected.
+fn created(view: &View<'_>, expected: Expected) -> Receiver {
+    match expected {
+        Expected::Type(class) if is_concrete(view, class) => Receiver::Class(class),
+        _ => Receiver::Untyped,
+    }
+}
+
+/// The call of `create`, or its value where it is a const.
+fn made(
+    alloc: Global,
+    callee: ChosenFeature,
+    on: Receiver,
+    passed: PassedArgs,
+    pos: Pos,
+) -> Result<Typed, NoMemory> {
+    let ChosenFeature {
+        reached,
+        params: _params,
+        result: ty,
+    } = callee;
+    match reached {
+        Reached::Called(called) => called_value(alloc, called, on, passed, ty, pos),
+        Reached::Value(core) => Ok(Typed {
+            core,
+            ty,
+            iter: None,
+        }),
+    }
+}
+
+/// A value where a type is expected, with the number of the type that it has by itself.
+#[derive(Drop)]
+pub(crate) struct CheckedValue {
+    pub core: ExprCore,
+    pub from: u32,
+    pub iter: Option<Pos>,
+}
+
+/// An expression as a value of the type that its place expects, to which it is widened.
+#[cycle(check)]
+pub(crate) fn checked_to(
+    view: &View<'_>,
+    built: &Built,
+    synthesised: Synthesised,
+    to: u32,
+) -> Result<CheckedValue, FrontFault> {
+    let pos = synthesised.pos();
+    let Typed { core, ty, iter } = checked(view, built, synthesised, Expected::Type(to))?;
+    let from = held(ty)?;
+    let core = widened(view, core, from, to, pos)?;
+    Ok(CheckedValue { core, from, iter })
+}
+
+/// An array literal: E41 unless an array is expected, and E33 unless each element goes to the type of its elements.
+#[cycle(check)]
+fn array(
+    view: &View<'_>,
+    built: &Built,
+    items: Vec<Synthesised>,
+    expected: Expected,
+    pos: Pos,
+) -> Result<Typed, FrontFault> {
+    let Some((ty, of)) = array_type(view, built, expected) else {
+        return Err(Rule::NoTypeFromContext.at(pos).into());
+    };
+    let elements = elements(view, built, items, of)?;
+    if !elements.go {
+        return Err(Rule::WrongType.at(pos).into());
+    }
+    Ok(Typed {
+        core: ExprCore::Items(ty, elements.cores, pos),
+        ty: Some(ty),
+        iter: elements.iter,
+    })
+}
+
+/// The elements of an array literal.
+#[derive(Drop)]
+struct ArrayElements {
+    cores: Items<ExprCore>,
+    /// The first iter call in them.
+    iter: Option<Pos>,
+    /// Whether each goes to the type of the array's elements.
+    go: bool,
+}
+
+/// The elements of an array literal whose elements have the type with the number `of`.
+#[cycle(check)]
+fn elements(
+    view: &View<'_>,
+    built: &Built,
+    items: Vec<Synthesised>,
+    of: u32,
+) -> Result<ArrayElements, FrontFault> {
+    let mut all = ArrayElements {
+        cores: Items::new(view.alloc),
+        iter: None,
+        go: true,
+    };
+    for item in items {
+        let value = checked_to(view, built, item, of)?;
+        all.go = all.go && is_sub(view, built, value.from, of);
+        all.add(value)?;
+    }
+    Ok(all)
+}
+
+impl ArrayElements {
+    fn add(&mut self, value: CheckedValue) -> Result<(), NoMemory> {
+        let CheckedValue {
+            core,
+            from: _from,
+            iter,
+        } = value;
+        self.cores.push(core)?;
+        self.iter = first_iter(self.iter, iter);
+        Ok(())
+    }
+}
+
+/// The number of an expected array type and that of its elements' type.
+fn array_type(view: &View<'_>, built: &Built, expected: Expected) -> Option<(u32, u32)> {
+    let ty = expected.ty()?;
+    let Ty::Named(name, given, _) = type_of(view, built, ty)? else {
+        return None;
+    };
+    if name.as_slice() != ARRAY {
+        return None;
+    }
+    let of = given.get(0)?;
+    Some((ty, number_of(view, built, of)?))
+}

@@ -1,0 +1,91 @@
+//! What typing gives of a form before the type that its place expects is known.
+//!
+//! `void`, `#(..)` without a type and an array literal are contextual: they take the type that their place expects, which may
+//! be known only once the form around them is chosen. What they hold is typed at its place all the same, and the contextual
+//! form alone waits for its type.
+
+use sa_check_choice::{Typed, Variable};
+use sa_core::ExprCore;
+use sa_tree::{Mode, NoMemory, Pos};
+use std::alloc::Global;
+
+/// An expression whose children are typed: with the type that it has by itself, or else to be checked against the type that
+/// its place expects.
+#[cycle(synthesised)]
+#[derive(Drop)]
+pub enum Synthesised {
+    /// An expression that has a type by itself, with its position.
+    Typed(Typed, Pos),
+    /// `void`
+    Void(Pos),
+    /// `#(..)` without a type
+    Create(Vec<SynthesisedArg>, Pos),
+    /// An array literal
+    Items(Vec<Synthesised>, Pos),
+}
+
+/// An argument whose children are typed.
+#[cycle(synthesised)]
+#[derive(Drop)]
+pub enum SynthesisedArg {
+    Value(Synthesised),
+    /// A variable that the call writes: the mode is `out` or `inout`.
+    Variable(Mode, Variable),
+    /// An argument that a bind leaves open, with the number of its type where one is written.
+    Left(Option<u32>),
+}
+
+impl SynthesisedArg {
+    /// The mode that is written at the argument.
+    pub(crate) fn mode(&self) -> Mode {
+        match self {
+            SynthesisedArg::Value(_) | SynthesisedArg::Left(_) => Mode::In,
+            SynthesisedArg::Variable(mode, _) => *mode,
+        }
+    }
+
+    /// Whether a bind leaves it open.
+    pub fn is_left(&self) -> bool {
+        matches!(self, SynthesisedArg::Left(_))
+    }
+}
+
+impl Synthesised {
+    /// The position of the expression.
+    pub fn pos(&self) -> Pos {
+        match self {
+            Synthesised::Typed(_, pos)
+            | Synthesised::Void(pos)
+            | Synthesised::Create(_, pos)
+            | Synthesised::Items(_, pos) => *pos,
+        }
+    }
+
+    /// The first iter call in one that has a type by itself.
+    pub fn iter(&self) -> Option<Pos> {
+        match self {
+            Synthesised::Typed(value, _) => value.iter,
+            _ => None,
+        }
+    }
+
+    /// The expression, where it has a type by itself.
+    pub fn into_core(self) -> Result<ExprCore, NoMemory> {
+        match self {
+            Synthesised::Typed(value, _) => Ok(value.core),
+            _ => Err(NoMemory),
+        }
+    }
+
+    /// Whether it has a type by itself.
+    pub(crate) fn is_typed(&self) -> bool {
+        matches!(self, Synthesised::Typed(_, _))
+    }
+}
+
+/// A value as the only argument of a call. It fails only where memory runs out.
+pub fn only_argument(alloc: Global, value: Synthesised) -> Result<Vec<SynthesisedArg>, NoMemory> {
+    let mut args = Vec::new(alloc);
+    args.push(SynthesisedArg::Value(value))?;
+    Ok(args)
+}
