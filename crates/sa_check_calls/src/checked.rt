@@ -1,11 +1,11 @@
 //! Contextual forms checked against the type that their place expects.
 
-use crate::calls::{Call, called_value, callee};
-use crate::passing::{PassedArgs, passed};
+use crate::calls::called_value;
+use crate::passing::{PassedArgs, passed, seen_arguments};
 use crate::receiver::Receiver;
 use crate::synthesised::{Synthesised, SynthesisedArg};
 use sa_check_choice::{
-    Built, ChosenFeature, Expected, Reached, Typed, View, first_iter, is_concrete, is_sub,
+    Built, ChosenFeature, Expected, Reached, Typed, View, chosen, first_iter, is_concrete, is_sub,
     number_of, type_of, widened,
 };
 use sa_core::ExprCore;
@@ -53,21 +53,10 @@ fn create(
     expected: Expected,
     pos: Pos,
 ) -> Result<Typed, FrontFault> {
-    let form = Call {
-        on: created(view, expected),
-        name: b"create",
-        args,
-        pos,
-    };
-    let callee = callee(view, built, &form, Expected::Value)?;
-    let Call {
-        on,
-        name: _name,
-        args,
-        pos,
-    } = form;
-    let passed = passed(view, built, args, callee.params.as_slice(), pos)?;
-    Ok(made(view.alloc, callee, on, passed, pos)?)
+    let on = created(view, expected);
+    let chosen = created_by(view, built, &on, args.as_slice(), pos)?;
+    let passed = passed(view, built, args, chosen.params.as_slice(), pos)?;
+    Ok(made(view.alloc, chosen, on, passed, pos)?)
 }
 
 /// What `#(..)` without a type calls `create` on: nothing that has a type, unless a concrete one is expected.
@@ -78,10 +67,23 @@ fn created(view: &View<'_>, expected: Expected) -> Receiver {
     }
 }
 
+/// The `create` that is chosen.
+fn created_by(
+    view: &View<'_>,
+    built: &Built,
+    on: &Receiver,
+    args: &[SynthesisedArg],
+    pos: Pos,
+) -> Result<ChosenFeature, FrontFault> {
+    let of = on.ty(view, pos)?;
+    let seen = seen_arguments(view, built, args)?;
+    chosen(view, of, b"create", seen.as_slice(), Expected::Value, pos)
+}
+
 /// The call of `create`, or its value where it is a const.
 fn made(
     alloc: Global,
-    callee: ChosenFeature,
+    chosen: ChosenFeature,
     on: Receiver,
     passed: PassedArgs,
     pos: Pos,
@@ -90,7 +92,7 @@ fn made(
         reached,
         params: _params,
         result: ty,
-    } = callee;
+    } = chosen;
     match reached {
         Reached::Called(called) => called_value(alloc, called, on, passed, ty, pos),
         Reached::Value(core) => Ok(Typed {

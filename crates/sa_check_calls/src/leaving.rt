@@ -84,8 +84,5 @@ fn test(
         return Err(Rule::NoFeatureFits.at(pos).into());
     };
     let value = checked(view, built, value, Expected::Type(BOOL))?;
-    if value.ty != Some(BOOL) {
-        return Err(Rule::WrongType.at(pos).into());
-    }
-    Ok(value.core)
+    value.into_bool(pos)
 }

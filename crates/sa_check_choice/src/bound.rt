@@ -1,8 +1,11 @@
 //! Calls of bound values: `call` of a bound routine, and `call!` of a bound iter.
 
 use crate::choice::{ChosenFeature, Param};
+use crate::expected::Expected;
 use crate::target::Reached;
-use crate::view::{Built, Expected, View, number_of, type_of};
+use crate::typed::Built;
+use crate::types::{number_of, type_of};
+use crate::view::View;
 use sa_core::CalledCore;
 use sa_signatures::{ArgIn, Cand, fits};
 use sa_tree::{FrontFault, ModeTy, NoMemory, Pos, Rule, Ty, held};

@@ -1,8 +1,9 @@
 //! Which candidate a call chooses, and what it then reaches.
 
 use crate::candidates::{Candidate, candidates, described};
+use crate::expected::Expected;
 use crate::target::{Reached, reached_by};
-use crate::view::{Expected, View};
+use crate::view::View;
 use sa_signatures::{ArgIn, Cand, Choice, choose, fits};
 use sa_tree::{FrontFault, Mode, NoMemory, Pos, Rule, held};
 use sqlite_items::Items;

@@ -1,6 +1,7 @@
 //! Forms without children: literals, `self`, `exception` and `new`.
 
-use crate::view::{Place, Typed, View};
+use crate::typed::Typed;
+use crate::view::{Place, View};
 use sa_check_program::{BOOL, CHAR, INT, STR};
 use sa_core::ExprCore;
 use sa_tree::{FrontFault, Name, NoMemory, Pos, Rule, held};

@@ -1,6 +1,7 @@
 //! Names of variables.
 
-use crate::view::{Place, Typed, Variable};
+use crate::typed::Typed;
+use crate::view::{Place, Variable};
 use sa_core::ExprCore;
 use sa_tree::{Expr, Recv};
 

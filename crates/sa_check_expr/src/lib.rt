@@ -4,13 +4,13 @@
 mod children;
 mod inside;
 mod leaving;
-mod part;
+mod parts;
 mod receiver;
 mod rows;
 
 pub use children::{synthesised, synthesised_all};
 pub use leaving::leave;
-pub use part::parts;
+pub use parts::parts;
 pub use receiver::operand;
 pub use rows::typed;
 pub use sa_check_calls::{

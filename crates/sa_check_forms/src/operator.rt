@@ -14,7 +14,7 @@ use sqlite_items::Boxed;
 use std::alloc::Global;
 
 /// The feature that an operator calls.
-fn called_name(op: Op) -> &'static [u8] {
+pub(crate) fn called_name(op: Op) -> &'static [u8] {
     match op {
         Op::Plus => b"plus",
         Op::Minus => b"minus",

@@ -1,16 +1,13 @@
 //! Comparisons that are called on their second operand.
 
-use crate::operator::Operation;
+use crate::operator::{Operation, called_name};
 use sa_check_calls::{Receiver, Synthesised};
 use sa_check_choice::{Built, Expected, Typed, View, chosen, first_iter, type_of, widened};
 use sa_check_program::BOOL;
 use sa_core::{CalledCore, ExprCore, Target};
 use sa_signatures::ArgIn;
-use sa_tree::{FrontFault, Mode, NoMemory, Pos, Rule, held};
+use sa_tree::{FrontFault, Mode, NoMemory, Op, Pos, Rule, held};
 use sqlite_items::Boxed;
-
-/// The feature that is called.
-const IS_LT: &[u8] = b"is_lt";
 
 /// `a > b` as `b < a`: a call of `is_lt` on the second operand, with the first as its argument.
 ///
@@ -98,7 +95,7 @@ fn less(
         return Err(none_on_abstract(view, of).at(pos).into());
     }
     let arg = argument(view, built, from)?;
-    let less = chosen(view, of, IS_LT, &[arg], expected, pos)?;
+    let less = chosen(view, of, called_name(Op::Lt), &[arg], expected, pos)?;
     let Some(CalledCore::Static(target, _)) = less.reached.called() else {
         return Err(FrontFault::NoMemory);
     };
@@ -115,7 +112,7 @@ fn less(
 
 /// The rule that a call on an abstract type breaks here: it has no `is_lt`, or none that fits.
 fn none_on_abstract(view: &View<'_>, of: u32) -> Rule {
-    if view.signatures.named(of, IS_LT).is_empty() {
+    if view.signatures.named(of, called_name(Op::Lt)).is_empty() {
         Rule::UnknownName
     } else {
         Rule::NoFeatureFits

@@ -6,7 +6,7 @@ use sa_check_expr::{
     Built, Expected, LoopExit, View, leave, leave_form, only_argument, parts, position,
     synthesised, typed, widened,
 };
-use sa_check_program::{BOOL, OB};
+use sa_check_program::OB;
 use sa_core::{ExprCore, StmtCore};
 use sa_tree::{Expr, FaultKind, FrontFault, Op, Pos, Recv, Rule, held};
 use sqlite_items::Items;
@@ -52,10 +52,7 @@ pub(crate) fn assert_true(
     pos: Pos,
 ) -> Result<StmtCore, FrontFault> {
     let test = test(view.at(&draft.place), built, e)?;
-    if test.ty != Some(BOOL) {
-        return Err(Rule::WrongType.at(pos).into());
-    }
-    asserted(view.alloc, test.core, pos)
+    asserted(view.alloc, test.into_bool(pos)?, pos)
 }
 
 /// Nothing where a test is true, and else a stop.

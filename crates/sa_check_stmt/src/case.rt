@@ -5,10 +5,10 @@ use sa_check_expr::{
     Built, Call, Context, Expected, Receiver, Synthesised, Typed, View, call, synthesised,
     synthesised_all,
 };
-use sa_check_program::{BOOL, OB};
+use sa_check_program::OB;
 use sa_check_simple::{Draft, with_type};
 use sa_core::{ExprCore, StmtCore, TestCore};
-use sa_tree::{CaseArm, Expr, FaultKind, FrontFault, NoMemory, Pos, Rule, held};
+use sa_tree::{CaseArm, Expr, FaultKind, FrontFault, NoMemory, Pos, held};
 use sqlite_items::Items;
 use std::alloc::Global;
 
@@ -168,10 +168,7 @@ fn comparison(
     let pos = variable.pos;
     let form = Call::with_value(context.view.alloc, on, b"is_eq", value, pos)?;
     let test = call(context, built, form, Expected::Value)?;
-    if test.ty != Some(BOOL) {
-        return Err(Rule::WrongType.at(pos).into());
-    }
-    Ok(test.core)
+    test.into_bool(pos)
 }
 
 /// The variable, as what a call is made on, before which there are so many sites.

@@ -1,0 +1,80 @@
+//! Types by their numbers, and where a value goes from one to another.
+//!
+//! The numbers below the program's count are its needed instances; those from there on are the bound types that binds
+//! make and that the program writes nowhere, in the order of the binds.
+
+use crate::typed::Built;
+use crate::view::View;
+use sa_core::ExprCore;
+use sa_tree::{Kind, NoMemory, Pos, Ty};
+use sqlite_items::Boxed;
+
+/// The type with a number.
+pub fn type_of<'a>(view: &'a View<'_>, built: &'a Built, number: u32) -> Option<&'a Ty> {
+    let needed = view.program.count();
+    if number < needed {
+        return view.program.ty(number);
+    }
+    let (ty, _) = built.bound.get_index((number - needed) as usize)?;
+    Some(ty)
+}
+
+/// The number of a type without parameters of the class and without SAME. Whether none has: it is no needed instance, and
+/// no bind has made it yet.
+pub fn number_of(view: &View<'_>, built: &Built, ty: &Ty) -> Option<u32> {
+    if let Some(number) = view.program.number(ty) {
+        return Some(number);
+    }
+    let place = built.bound.get_index_of(ty)?;
+    let place = u32::try_from(place).ok()?;
+    view.program.count().checked_add(place)
+}
+
+/// The number of a type as the text of the class writes it.
+pub fn written(view: &View<'_>, ty: &Ty) -> Option<u32> {
+    match view.program.number_of(view.class, ty) {
+        None => view.program.number(ty),
+        number => number,
+    }
+}
+
+/// Whether the type with the first number is a subtype of the type with the second.
+pub fn is_sub(view: &View<'_>, built: &Built, s: u32, t: u32) -> bool {
+    if s == t {
+        return true;
+    }
+    match (type_of(view, built, s), type_of(view, built, t)) {
+        (Some(s), Some(t)) => view.program.edges().is_sub(s, t),
+        _ => false,
+    }
+}
+
+/// A value of one type where another one is expected. A value of an immutable class is widened where an abstract type is
+/// expected; the position is that of the expression which is widened.
+pub fn widened(
+    view: &View<'_>,
+    value: ExprCore,
+    from: u32,
+    to: u32,
+    pos: Pos,
+) -> Result<ExprCore, NoMemory> {
+    if !is_widening(view, from, to) {
+        return Ok(value);
+    }
+    Ok(ExprCore::Widen(from, Boxed::new(view.alloc, value)?, pos))
+}
+
+/// Whether a value of the first type is widened where the second type is expected.
+fn is_widening(view: &View<'_>, from: u32, to: u32) -> bool {
+    kind_of(view, from) == Kind::Immutable && kind_of(view, to) == Kind::Abstract
+}
+
+/// The kind of the type with a number. A bound type has the kind of a reference class, also one that a bind makes.
+pub fn kind_of(view: &View<'_>, number: u32) -> Kind {
+    view.program.kind(number).unwrap_or(Kind::Reference)
+}
+
+/// Whether the type with a number is one of a class whose features are known: no abstract type.
+pub fn is_concrete(view: &View<'_>, number: u32) -> bool {
+    matches!(kind_of(view, number), Kind::Reference | Kind::Immutable)
+}
