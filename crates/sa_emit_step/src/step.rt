@@ -57,7 +57,7 @@ pub fn add_step(
         }
         FlatStep::Unwrap { to, from, ty } => add_unwrap(code, around, *to, *from, *ty),
         FlatStep::TypeIs { to, from, ty } => add_type_is(code, around, *to, *from, *ty),
-        FlatStep::NotVoid { from, fail } => { add_void_test(alloc, code, around, *from, fail) }
+        FlatStep::NotVoid { from, fail } => add_void_test(alloc, code, around, *from, fail),
         FlatStep::InitShared { shared, from } => add_init_shared(code, around, *shared, *from),
         FlatStep::Call { plan } => add_call(alloc, code, around, plan),
         FlatStep::Raising { value, place, to } => add_raising(code, around, *value, *place, to),
