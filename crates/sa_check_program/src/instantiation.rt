@@ -8,7 +8,7 @@ use std::alloc::Global;
 
 /// The greatest number of types that the needed instances are made of, counted by place, as many as a source has bytes.
 /// Past it the answer is that memory has run out.
-pub(crate) const MOST_TYPES: u64 = 4_194_304;
+pub(crate) const MOST_NODES: u64 = 4_194_304;
 
 /// What stands for the parameters of a class and for SAME at an instance.
 #[derive(Drop)]
@@ -34,7 +34,7 @@ impl<'a> Instantiation<'a> {
     /// What a written type is at the instance. Where it may be made of more types than a program's types may be, the answer
     /// is that memory has run out.
     pub(crate) fn put_into(&self, alloc: Global, written: &Ty) -> Result<Ty, NoMemory> {
-        if size(written).saturating_mul(self.size) > MOST_TYPES {
+        if size(written).saturating_mul(self.size) > MOST_NODES {
             return Err(NoMemory);
         }
         subst_with(alloc, written, &self.by)

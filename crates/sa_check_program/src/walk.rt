@@ -3,7 +3,7 @@
 //! The list begins with nine types. Then its instances are gone through in order, and each type of an instance that isn't
 //! in the list yet is checked and put at its end.
 
-use crate::instantiation::{Instantiation, MOST_TYPES};
+use crate::instantiation::{Instantiation, MOST_NODES};
 use crate::type_list::{TypeList, first_terms, given};
 use indexmap::IndexSet;
 use sa_check_classes::{DEEPEST, depth, size};
@@ -30,7 +30,7 @@ struct Walk<'a> {
     /// The classes that have a table, by their places among the program's classes, in the order of the tables.
     tabled: IndexSet<u32>,
     /// How many types the instances so far are made of.
-    types: u64,
+    nodes: u64,
 }
 
 /// The needed instances of flattened classes, in the order of first need.
@@ -44,7 +44,7 @@ pub(crate) fn needed_types<'a>(
         edges,
         list: TypeList::new(alloc),
         tabled: IndexSet::new(alloc),
-        types: 0,
+        nodes: 0,
     };
     for name in FIRST.iter() {
         walk.add_first(alloc, *name)?;
@@ -127,13 +127,13 @@ impl<'a> Walk<'a> {
         }
         let table = self.usable(alloc, &ty)?;
         self.check_limits(&ty)?;
-        self.count_types(&ty)?;
+        self.count_nodes(&ty)?;
         Ok(self.list.add(alloc, ty, table)?)
     }
 
-    fn count_types(&mut self, ty: &Ty) -> Result<(), NoMemory> {
-        self.types = self.types.saturating_add(size(ty));
-        if self.types > MOST_TYPES {
+    fn count_nodes(&mut self, ty: &Ty) -> Result<(), NoMemory> {
+        self.nodes = self.nodes.saturating_add(size(ty));
+        if self.nodes > MOST_NODES {
             return Err(NoMemory);
         }
         Ok(())

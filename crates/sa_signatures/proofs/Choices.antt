@@ -10,7 +10,7 @@ use Rattle.sa_signatures.specs.Choice.{Call, Chosen, FirstTied, FirstTwo, Leads,
 past : (call : Call) (k : ℕ) → length call.cands ≤ k → fits_at call k ≡ false
 past call k h = rw (slice_get_past call.cands k h) refl
 
--- a candidate that is before those that follow it and those that precede it is before all others
+-- a candidate that stands before those behind it and those in front of it stands before all others
 pub before_others : (call : Call) (k n : ℕ) → length call.cands ≡ n
     → ((j : ℕ) → k + 1 ≤ j → j < n → IsTrue (fits_at call j) → IsTrue (is_before call k j))
     → ((j : ℕ) → 0 ≤ j → j < k → IsTrue (fits_at call j) → IsTrue (is_before call k j))

@@ -43,7 +43,7 @@ fn next_leader(call: &Candidates, from: usize, asked_first: Option<usize>) -> Op
     None
 }
 
-/// A candidate that fits and that candidate `k` isn't before: the one asked first, or the next one after `k`, or the first
+/// A candidate that fits and that candidate `k` isn't before: the one asked first, or the next one behind `k`, or the first
 /// one.
 fn objector(call: &Candidates, k: usize, asked_first: Option<usize>) -> Option<usize>
     requires within { k < length call.now.cands.now }
