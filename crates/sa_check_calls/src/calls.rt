@@ -72,7 +72,7 @@ pub fn call_form(
         args,
         pos,
     };
-    call(context, built, form, expected)
+    typed_call(context, built, form, expected)
 }
 
 /// A call by name, at a place that expects a result or none. It is refused at its position:
@@ -84,7 +84,7 @@ pub fn call_form(
 /// - E36, at the first iter call in the self or an argument of a `once` parameter of an iter call.
 ///
 /// A contextual argument is refused by its own rules where it doesn't go to the type of its parameter.
-pub fn call(
+pub fn typed_call(
     context: Context<'_>,
     built: &mut Built,
     form: Call<'_>,

@@ -10,7 +10,7 @@ mod passing;
 mod receiver;
 mod synthesised;
 
-pub use calls::{Call, CallHead, call, call_form};
+pub use calls::{Call, CallHead, call_form, typed_call};
 pub use checked::checked;
 pub use iter::is_iter_name;
 pub use leaving::{LoopExit, leave_form};

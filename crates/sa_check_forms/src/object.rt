@@ -1,6 +1,6 @@
 //! New objects, those that a class creates, and the test for void.
 
-use sa_check_calls::{Call, Receiver, Synthesised, SynthesisedArg, call};
+use sa_check_calls::{Call, Receiver, Synthesised, SynthesisedArg, typed_call};
 use sa_check_choice::{Built, Context, Expected, Typed, View, kind_of, of_type};
 use sa_check_program::{BOOL, INT};
 use sa_core::ExprCore;
@@ -53,7 +53,7 @@ pub fn create(
         args,
         pos,
     };
-    call(context, built, form, expected)
+    typed_call(context, built, form, expected)
 }
 
 /// `void(e)`: E41 where the expression is contextual.

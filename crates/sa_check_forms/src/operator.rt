@@ -5,7 +5,7 @@
 //! `~(a < b)` and `a /= b` means `~(a = b)`. Operands are evaluated from left to right all the same.
 
 use crate::swapped::swapped;
-use sa_check_calls::{Call, Receiver, Synthesised, SynthesisedArg, call};
+use sa_check_calls::{Call, Receiver, Synthesised, SynthesisedArg, typed_call};
 use sa_check_choice::{Built, Context, Expected, Typed, View, first_iter};
 use sa_check_program::BOOL;
 use sa_core::ExprCore;
@@ -75,7 +75,7 @@ pub fn unary(
         args: Vec::new(context.view.alloc),
         pos,
     };
-    call(context, built, form, expected)
+    typed_call(context, built, form, expected)
 }
 
 /// `e[..]` and `[..]`: a call of `aget`.
@@ -94,7 +94,7 @@ pub fn index(
         args,
         pos,
     };
-    call(context, built, form, expected)
+    typed_call(context, built, form, expected)
 }
 
 /// Arguments that are values.
@@ -134,7 +134,7 @@ pub fn binary(
     let name = called_name(op);
     if !is_derived(op) || has_feature(context.view, of, name) {
         let form = Call::with_value(context.view.alloc, one, name, other, pos)?;
-        return call(context, built, form, expected);
+        return typed_call(context, built, form, expected);
     }
     if op == Op::Gt {
         return swapped(context.view, built, operation, one, other, expected);
@@ -159,7 +159,7 @@ fn opposite(
         _ => called_name(Op::Eq),
     };
     let form = Call::with_value(context.view.alloc, one, name, other, operation.pos)?;
-    call(context, built, form, Expected::Value)
+    typed_call(context, built, form, Expected::Value)
 }
 
 /// Whether an operator means another call where the class of its left operand has no feature for it.
@@ -192,5 +192,5 @@ fn negated(
         args: Vec::new(context.view.alloc),
         pos,
     };
-    call(context, built, form, expected)
+    typed_call(context, built, form, expected)
 }

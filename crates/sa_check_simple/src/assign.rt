@@ -4,8 +4,8 @@ use crate::draft::Draft;
 use crate::leave::leave_assigned;
 use crate::value::fitting;
 use sa_check_expr::{
-    Built, Call, Context, Expected, LoopExit, Receiver, SynthesisedArg, Variable, View, call,
-    operand, position, synthesised, typed, variable_named, written,
+    Built, Call, Context, Expected, LoopExit, Receiver, SynthesisedArg, Variable, View, operand,
+    position, synthesised, typed, typed_call, variable_named, written,
 };
 use sa_core::StmtCore;
 use sa_tree::{Expr, FrontFault, Kind, Name, Part, Pos, Recv, Rule, held};
@@ -131,7 +131,7 @@ fn assign_feature(
     if is_attribute_of_immutable(view, &form.on, name) {
         return assign_changed(view, draft, built, form, changed);
     }
-    let done = call(view.at(&draft.place), built, form, Expected::Nothing)?;
+    let done = typed_call(view.at(&draft.place), built, form, Expected::Nothing)?;
     Ok(StmtCore::Do(done.core))
 }
 
@@ -147,7 +147,7 @@ fn assign_changed(
     let Some(variable) = changed else {
         return Err(Rule::NotAssignable.at(pos).into());
     };
-    let made = call(view.at(&draft.place), built, form, Expected::Value)?;
+    let made = typed_call(view.at(&draft.place), built, form, Expected::Value)?;
     if variable.narrowed {
         return Err(Rule::TypecaseVariable.at(pos).into());
     }
@@ -225,6 +225,6 @@ fn assign_element(
         args,
         pos,
     };
-    let done = call(context, built, form, Expected::Nothing)?;
+    let done = typed_call(context, built, form, Expected::Nothing)?;
     Ok(StmtCore::Do(done.core))
 }

@@ -2,8 +2,8 @@
 
 use crate::statement::statements;
 use sa_check_expr::{
-    Built, Call, Context, Expected, Receiver, Synthesised, Typed, View, call, synthesised,
-    synthesised_all,
+    Built, Call, Context, Expected, Receiver, Synthesised, Typed, View, synthesised,
+    synthesised_all, typed_call,
 };
 use sa_check_program::OB;
 use sa_check_simple::{Draft, with_type};
@@ -167,7 +167,7 @@ fn comparison(
     let on = variable_receiver(variable, built.sites.len());
     let pos = variable.pos;
     let form = Call::with_value(context.view.alloc, on, b"is_eq", value, pos)?;
-    let test = call(context, built, form, Expected::Value)?;
+    let test = typed_call(context, built, form, Expected::Value)?;
     test.into_bool(pos)
 }
 

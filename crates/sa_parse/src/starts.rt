@@ -14,8 +14,8 @@ use sa_tree::Kind;
 
 /// Whether the token begins a statement.
 pub(crate) fn begins_statement(token: Option<&TokenKind>) -> bool
-    ensures value { result ≡ begins_statement (option_copied token) }
-    ensures there { OnTrue result (IsSome token) }
+    ensures value { result ≡ begins_statement (option_copied token.entry) }
+    ensures there { OnTrue result (IsSome token.entry) }
 {
     match token {
         Some(
@@ -38,8 +38,8 @@ pub(crate) fn begins_statement(token: Option<&TokenKind>) -> bool
 
 /// Whether the token begins a member of this class.
 pub(crate) fn begins_member(token: Option<&TokenKind>, class: ClassContext<'_>) -> bool
-    ensures value { result ≡ begins_member class.kind class.file_kind (option_copied token) }
-    ensures there { OnTrue result (IsSome token) }
+    ensures value { result ≡ begins_member class.kind class.file_kind (option_copied token.entry) }
+    ensures there { OnTrue result (IsSome token.entry) }
 {
     match token {
         Some(
@@ -61,8 +61,8 @@ pub(crate) fn begins_member(token: Option<&TokenKind>, class: ClassContext<'_>) 
 
 /// Whether the token begins a class.
 pub(crate) fn begins_class(token: Option<&TokenKind>) -> bool
-    ensures value { result ≡ begins_class (option_copied token) }
-    ensures there { OnTrue result (IsSome token) }
+    ensures value { result ≡ begins_class (option_copied token.entry) }
+    ensures there { OnTrue result (IsSome token.entry) }
 {
     matches!(
         token,

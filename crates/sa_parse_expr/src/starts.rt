@@ -9,8 +9,8 @@ use sa_lex::{Sign, TokenKind, Word};
 
 /// Whether the token begins a type.
 pub(crate) fn begins_type(token: Option<&TokenKind>) -> bool
-    ensures value { result ≡ begins_type (option_copied token) }
-    ensures there { OnTrue result (IsSome token) }
+    ensures value { result ≡ begins_type (option_copied token.entry) }
+    ensures there { OnTrue result (IsSome token.entry) }
 {
     match token {
         Some(TokenKind::ClassName | TokenKind::AbstractName) => true,
@@ -21,8 +21,8 @@ pub(crate) fn begins_type(token: Option<&TokenKind>) -> bool
 
 /// Whether the token begins an expression.
 pub fn begins_expression(token: Option<&TokenKind>) -> bool
-    ensures value { result ≡ begins_expression (option_copied token) }
-    ensures there { OnTrue result (IsSome token) }
+    ensures value { result ≡ begins_expression (option_copied token.entry) }
+    ensures there { OnTrue result (IsSome token.entry) }
 {
     match token {
         Some(TokenKind::Word(word)) => matches!(
