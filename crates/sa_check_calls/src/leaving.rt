@@ -1,6 +1,6 @@
 //! `while!`, `until!` and `break!`, which leave the innermost loop and are built in.
 
-use crate::checked::checked;
+use crate::checking::checked;
 use crate::iter::innermost_loop;
 use crate::synthesised::SynthesisedArg;
 use sa_check_choice::{Built, Context, Expected, View};

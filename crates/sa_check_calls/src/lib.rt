@@ -2,7 +2,7 @@
 #![tactic(auto)]
 
 mod calls;
-mod checked;
+mod checking;
 mod constant;
 mod iter;
 mod leaving;
@@ -11,7 +11,7 @@ mod receiver;
 mod synthesised;
 
 pub use calls::{Call, CallHead, call_form, typed_call};
-pub use checked::checked;
+pub use checking::checked;
 pub use iter::is_iter_name;
 pub use leaving::{LoopExit, leave_form};
 pub use passing::{PassedArgs, passed, seen_arguments};

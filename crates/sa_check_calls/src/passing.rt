@@ -1,6 +1,6 @@
 //! The arguments of a call: what the choice sees of them, and what they are at the parameters of what is chosen.
 
-use crate::checked::checked_to;
+use crate::checking::checked_to;
 use crate::synthesised::{Synthesised, SynthesisedArg};
 use sa_check_choice::{Built, Param, View, first_iter, type_of};
 use sa_core::ArgCore;

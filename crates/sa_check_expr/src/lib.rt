@@ -4,13 +4,13 @@
 mod children;
 mod inside;
 mod leaving;
-mod parts;
+mod part;
 mod receiver;
 mod rows;
 
 pub use children::{synthesised, synthesised_all};
 pub use leaving::leave;
-pub use parts::parts;
+pub use part::parts;
 pub use receiver::operand;
 pub use rows::typed;
 pub use sa_check_calls::{

@@ -6,7 +6,7 @@ use crate::inside::{
     array, array_object, bound, called, indexed, joined, object_here, object_of, operated, signed,
     void_test, without_inside,
 };
-use crate::parts::parts;
+use crate::part::parts;
 use crate::receiver::{operand, receiver_of};
 use sa_check_calls::{CallHead, Receiver};
 use sa_check_choice::{Built, Context, Expected, Typed, position, variable_named, variable_value};
