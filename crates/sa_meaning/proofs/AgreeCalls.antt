@@ -1,5 +1,6 @@
 -- Calls and instances agree.
 use Rattle.std.proofs.Common.{◌≡◌, ℕ, Bool, true, false, if◌then◌else◌, List, [], ◌∷◌, map, Option, Some, None, refl, sym, ap, subst, ◌∙◌}
+use Rattle.std.proofs.lemmas.Option.{get_or_from_slice_get, slice_get_within}
 use Rattle.std.specs.Prelude.{◌==◌, nat_lt, slice_get}
 use Rattle.sa_tree.specs.declared.pos.Pos.{Pos}
 use Rattle.sa_core.specs.declared.feature.CalledCore.{CalledCore}
@@ -183,6 +184,9 @@ found_unguarded site (Entry k i inside others) u = one_unguarded (k == site) (i,
 
 -- ---- the ends of routines and instances
 
+body_unguarded : (p : Program) → HasNoProtect p → (k : ℕ) (f : Feature) → slice_get p.features k ≡ Some f → AreUnguarded f.body
+body_unguarded p none k f is = subst (λ (g : Feature). AreUnguarded g.body) (get_or_from_slice_get p.features k f f is) (none k f (slice_get_within p.features k f is))
+
 pub all_unguarded : (list : Stmts) → AreUnguarded list → RestUnguarded (all_of list)
 all_unguarded no_stmts u = tt
 all_unguarded (stmt a more) u = (u.0, all_unguarded more u.1)
@@ -252,7 +256,7 @@ module _ (p : Program) (none : HasNoProtect p) (go to : Residue → Eval Flow) (
     agree_entered {feature} k f is self given caller fits =
         agree_then (agree_or_stuck_same _ _ (ap (λ voids. filled f.modes (map voids f.vars) given) (same_void p)))
         (λ variables. agree_before (agree_checked_depth at caller) (agree_going {via = Some k} _ (λ s e. (refl, tt))
-        (agree_resolve (alike k f is _ (all_unguarded f.body (none k f is))) (λ flow u. agree_returned feature k caller fits flow) (passes_raised_out feature k caller fits))))
+        (agree_resolve (alike k f is _ (all_unguarded f.body (body_unguarded p none k f is))) (λ flow u. agree_returned feature k caller fits flow) (passes_raised_out feature k caller fits))))
 
     pub agree_routine : {feature : Option ℕ} (k : ℕ) (self : Value) (given : List (Option Value)) → Agree feature (routine p go at k self given) (routine (before p) to at k self given)
     agree_routine k self given =
@@ -287,7 +291,7 @@ module _ (p : Program) (none : HasNoProtect p) (go to : Residue → Eval Flow) (
     agree_begun k f is c h =
         agree_then (agree_or_stuck_same _ _ (ap (λ voids. filled f.modes (map voids f.vars) h.given) (same_void p)))
         (λ variables. agree_before (agree_checked_depth here.at here.caller) (agree_before (agree_checked_live here.at)
-        (agree_then agree_add_instance (λ number. agree_run_instance h _ f is (all_unguarded f.body (none k f is)) Empty tt))))
+        (agree_then agree_add_instance (λ number. agree_run_instance h _ f is (all_unguarded f.body (body_unguarded p none k f is)) Empty tt))))
 
     agree_start_of : (t : Target) (c : Callee) (h : Handed) → Agree feature (start_of p go here t c h) (start_of (before p) to here t c h)
     agree_start_of (target.Feature k) c h = agree_some _ (λ f is. agree_if _ (agree_turn (agree_begun k f is c h)) agree_stuck)

@@ -30,7 +30,9 @@ IsGrowing core = (input : Input) (room n m : ℕ) → n ≤ m → IsPrefix (outp
 abbrev pub IsSpending : Core → Type 0
 IsSpending core = (input : Input) (room n : ℕ) → IsSpent (run core input room n) → (last_state (outcome (program_of core) input room n)).turns ≡ 0
 
--- Where no protect stands it makes no difference whether faults can be caught: with each input, in each room and in each number
--- of turns the run ends in the same way where a fault raises an object as where it stops the program at once.
+-- Where no protect stands it makes no difference whether faults can be caught: on each input, with each room and each number of
+-- turns, the run in which a fault raises an object ends as the run does in which the fault stops the program at once. It gives
+-- the same output, and stops with the same kind and position.
 abbrev pub IsSameBefore : Core → Type 0
-IsSameBefore core = HasNoProtect (program_of core) → (input : Input) (room turns : ℕ) → run_before core input room turns ≡ run core input room turns
+IsSameBefore core =
+    HasNoProtect (program_of core) → (input : Input) (room turns : ℕ) → run_before core input room turns ≡ run core input room turns

@@ -1,7 +1,7 @@
 -- Statements and programs in which no protect stands.
-use Rattle.std.specs.Prelude.{◌≡◌, ℕ, Some, slice_get}
+use Rattle.std.specs.Prelude.{All}
 use Rattle.sa_core.specs.Tree.{Stmt, If, Loop, TypeCase, Protect, Stmts, no_stmts, stmt, Tests, no_tests, branch, Arms, no_arms, arm, Else, no_else, otherwise}
-use Rattle.sa_meaning.specs.Program.{Program, Feature}
+use Rattle.sa_meaning.specs.Program.{Program}
 
 abbrev mutual
   pub IsUnguarded : Stmt → Type 0
@@ -27,6 +27,6 @@ abbrev mutual
   ElseUnguarded no_else = Unit {0}
   ElseUnguarded (otherwise body) = AreUnguarded body
 
--- Initialisers have no statements.
+-- in no feature's body; initialisers have no statements
 abbrev pub HasNoProtect : Program → Type 0
-HasNoProtect p = (k : ℕ) (f : Feature) → slice_get p.features k ≡ Some f → AreUnguarded f.body
+HasNoProtect p = All (λ f. AreUnguarded f.body) p.features
