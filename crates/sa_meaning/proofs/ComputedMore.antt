@@ -1,13 +1,15 @@
 -- The other sample programs run.
 use Rattle.std.proofs.Common.{◌≡◌, [], ◌∷◌, None, refl}
+use Rattle.std.proofs.lemmas.List.Elements.{All-from_recursion, recursion_from_All}
 use Rattle.std.specs.Prelude.{pos, codes}
 use Rattle.std.specs.Fmt.{digits}
 use Rattle.sa_meaning.specs.Value.{Void, Int, Ref}
-use Rattle.sa_meaning.specs.Program.{Program, before}
+use Rattle.sa_meaning.specs.Program.{Program, Feature, before}
+use Rattle.sa_meaning.specs.Protects.{AreUnguarded, HasNoProtect}
 use Rattle.sa_meaning.specs.Sequence.{last_state, resolve, or_stuck}
 use Rattle.sa_meaning.specs.State.{Input}
 use Rattle.sa_meaning.specs.Run.{End, Ended, Stopped, Stuck, outcome, run_program}
-use Rattle.sa_meaning.specs.Samples.{here, tells_fault, overflows}
+use Rattle.sa_meaning.specs.Samples.{here, tells_fault, overflows, catches_fault_of_iter}
 use Rattle.sa_meaning.specs.MoreSamples as sample
 
 abbrev no_input : Input
@@ -78,6 +80,19 @@ before_overflow = refl
 before_caught : run_program (before tells_fault) no_input 65536 1000 ≡ Stopped [] 2 here
 unfolding outcome resolve or_stuck digits
 before_caught = refl
+
+-- out of an iter, and out of the loop that resumes it
+before_out_of_iter : run_program (before catches_fault_of_iter) no_input 65536 1000 ≡ Stopped (codes "1") 2 here
+unfolding outcome resolve or_stuck digits
+before_out_of_iter = refl
+
+-- ---- protects
+
+stands_nowhere : HasNoProtect overflows
+stands_nowhere = All-from_recursion (λ (f : Feature). AreUnguarded f.body) overflows.features ((tt, (tt, (tt, tt))), tt)
+
+stands_in_main : HasNoProtect (sample.catches_stop 5) → ⊥
+stands_in_main none = (recursion_from_All (λ (f : Feature). AreUnguarded f.body) (sample.catches_stop 5).features none).0.0
 
 -- ---- programs of which no rule speaks
 

@@ -2,9 +2,10 @@
 use Rattle.std.specs.Prelude.{◌≡◌, ℕ, ◌≤◌, List, ◌++◌}
 use Rattle.sa_core.specs.declared.program.Core.{Core}
 use Rattle.sa_meaning.specs.Program.{program_of}
+use Rattle.sa_meaning.specs.Protects.{HasNoProtect}
 use Rattle.sa_meaning.specs.State.{Input}
 use Rattle.sa_meaning.specs.Sequence.{last_state}
-use Rattle.sa_meaning.specs.Run.{End, Spent, run, outcome, output}
+use Rattle.sa_meaning.specs.Run.{End, Spent, run, run_before, outcome, output}
 
 abbrev pub IsOver : End → Type 0
 IsOver (Spent output) = ⊥
@@ -28,3 +29,10 @@ IsGrowing core = (input : Input) (room n m : ℕ) → n ≤ m → IsPrefix (outp
 -- a run that isn't over has no turn left
 abbrev pub IsSpending : Core → Type 0
 IsSpending core = (input : Input) (room n : ℕ) → IsSpent (run core input room n) → (last_state (outcome (program_of core) input room n)).turns ≡ 0
+
+-- Where no protect stands it makes no difference whether faults can be caught: on each input, with each room and each number of
+-- turns, the run in which a fault raises an object ends as the run does in which the fault stops the program at once. It gives
+-- the same output, and stops with the same kind and position.
+abbrev pub IsSameBefore : Core → Type 0
+IsSameBefore core =
+    HasNoProtect (program_of core) → (input : Input) (room turns : ℕ) → run_before core input room turns ≡ run core input room turns

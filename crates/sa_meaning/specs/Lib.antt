@@ -5,6 +5,7 @@ pub mod Instances
 pub mod Law
 pub mod MoreSamples
 pub mod Program
+pub mod Protects
 pub mod Run
 pub mod Samples
 pub mod Sequence

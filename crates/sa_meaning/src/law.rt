@@ -2,7 +2,7 @@
 
 ghost use Rattle.std.specs.Prelude.{◌≡◌};
 ghost use Rattle.sa_meaning.specs.Builtin.{builtins};
-ghost use Rattle.sa_meaning.specs.Law.{IsGrowing, IsSpending, IsSteady};
+ghost use Rattle.sa_meaning.specs.Law.{IsGrowing, IsSameBefore, IsSpending, IsSteady};
 
 use sa_core::Core;
 use sa_prelude::BUILTIN_FEATURES;
@@ -23,6 +23,12 @@ pub fn is_growing(core: &Core)
 #[tactic(auto, using(crate::proofs::WholeRuns::spending))]
 pub fn is_spending(core: &Core)
     ensures { IsSpending core.now }
+{}
+
+/// Where no protect stands, a run ends in the same way whether faults can be caught or not.
+#[tactic(auto, using(crate::proofs::SameBefore::same_before))]
+pub fn is_same_before(core: &Core)
+    ensures { IsSameBefore core.now }
 {}
 
 /// The definitions number the built-in features as the prelude's crate does.
