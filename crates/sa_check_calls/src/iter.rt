@@ -3,7 +3,7 @@
 use crate::calls::{Call, callee};
 use crate::passing::{PassedArgs, passed};
 use crate::receiver::Receiver;
-use sa_check_choice::{Built, Context, Expected, Place, Typed, first_iter};
+use sa_check_choice::{Built, ChosenFeature, Context, Expected, Place, Typed, View, first_iter};
 use sa_core::{ExprCore, SiteCore};
 use sa_tree::{FrontFault, NoMemory, Pos, Rule, held};
 use sqlite_items::Boxed;
@@ -35,6 +35,17 @@ pub(crate) fn iter_call(
 ) -> Result<Typed, FrontFault> {
     let owner = innermost_loop(context.place, form.pos)?;
     let callee = callee(context.view, built, &form, expected)?;
+    in_loop(context.view, built, form, callee, owner)
+}
+
+/// The iter call of what is chosen, in the loop with the number `owner`.
+fn in_loop(
+    view: &View<'_>,
+    built: &mut Built,
+    form: Call<'_>,
+    callee: ChosenFeature,
+    owner: u32,
+) -> Result<Typed, FrontFault> {
     let called = held(callee.reached.called())?;
     let Call {
         on,
@@ -42,12 +53,9 @@ pub(crate) fn iter_call(
         args,
         pos,
     } = form;
-    let passed = passed(context.view, built, args, callee.params.as_slice(), pos)?;
-    if let Some(inner) = first_iter(on.iter(), passed.once) {
-        return Err(Rule::IterInSelfOrOnce.at(inner).into());
-    }
+    let passed = passed(view, built, args, callee.params.as_slice(), pos)?;
     let site = SiteCore { owner, called, pos };
-    Ok(at_site(context.view.alloc, built, site, on, passed, callee.result)?)
+    at_site(view.alloc, built, site, on, passed, callee.result)
 }
 
 /// The iter call at a new site, whose result has the type `ty`.
@@ -58,9 +66,13 @@ fn at_site(
     on: Receiver,
     passed: PassedArgs,
     ty: Option<u32>,
-) -> Result<Typed, NoMemory> {
+) -> Result<Typed, FrontFault> {
+    if let Some(inner) = first_iter(on.iter(), passed.once) {
+        return Err(Rule::IterInSelfOrOnce.at(inner).into());
+    }
+    let pos = site.pos;
     let number = new_site(built, site)?;
-    iter_value(alloc, number, on, passed, ty, site.pos)
+    Ok(iter_value(alloc, number, on, passed, ty, pos)?)
 }
 
 /// The iter call at a site, whose result has the type `ty`.
