@@ -78,22 +78,28 @@ def tell_missing(told):
         told.lacks('wabt (wasm-validate, wasm-interp)', 'nothing was compared with it')
 
 
-def v8(tasks, stack=None):
-    """Judges modules by one process of node, with so many bytes of stack where they are given. A task is a module, an input,
-    and whether to run it. Gives for each whether it is valid, and its run or None; or None for all where node is missing."""
+def node(script, tasks, stack=None):
+    """What a script of this folder, run by node, says of each task, as JSON, or None where node is missing. It has so many bytes of
+    stack where they are given."""
     if not has_node():
         return None
-    words = ['node', os.path.join(HERE, 'v8.js')]
+    words = ['node', os.path.join(HERE, script)]
     if stack is not None:
         words.insert(1, '--stack-size=%d' % (stack_within(stack) // 1024))
-    lines = [json.dumps({'module': module.hex(), 'input': given.hex(), 'run': run}) for module, given, run in tasks]
-    ended = subprocess.run(words, input='\n'.join(lines) + '\n', capture_output=True, text=True,
+    ended = subprocess.run(words, input='\n'.join(map(json.dumps, tasks)) + '\n', capture_output=True, text=True,
                            timeout=SECONDS + len(tasks), preexec_fn=None if stack is None else large_stack)
     answers = [json.loads(line) for line in ended.stdout.splitlines()]
     if len(answers) != len(tasks):
-        raise RuntimeError('node answered %d of %d modules: %s' % (len(answers), len(tasks), ended.stderr))
-    return [(answer['valid'], Run(answer['end'], bytes.fromhex(answer['output'])) if 'end' in answer else None)
-            for answer in answers]
+        raise RuntimeError('node answered %d of %d tasks: %s' % (len(answers), len(tasks), ended.stderr))
+    return answers
+
+
+def v8(tasks, stack=None):
+    """Judges modules by one process of node, with so many bytes of stack where they are given. A task is a module, an input,
+    and whether to run it. Gives for each whether it is valid, and its run or None; or None for all where node is missing."""
+    answers = node('v8.js', [{'module': module.hex(), 'input': given.hex(), 'run': run} for module, given, run in tasks], stack)
+    return answers and [(answer['valid'], Run(answer['end'], bytes.fromhex(answer['output'])) if 'end' in answer else None)
+                        for answer in answers]
 
 
 def stack_within(stack):
