@@ -280,7 +280,8 @@ def bodies():
     for _ in range(190):
         inner = 'loop x := x + 1; until!(x > 9); %s %s end;' % ('if x = 7 then x := x + 2; end;' * 20, inner)
     yield build('190 loops inside one another, with branches at each level', main_of('x ::= 1; ' + inner))
-    yield build('190 protects inside one another', main_of('x ::= 1; ' + nested('protect x := x / x; ', '', 'when STR then x := 2; end;', 190)))
+    yield build('190 protects inside one another', main_of('x ::= 1; ' + nested(
+        'protect x := x / x; ', '', 'when STR then x := 2; end;', 190)))
     yield build('20,000 protects in a row', main_of('x ::= 1; ' + 'protect x := x / x; when FAULT then end;' * 20_000))
     yield build('150,000 routines', main_with(numbered(150_000, 'f@ is end;')))
     yield build('60,000 texts', main_of('x:STR; ' + numbered(60_000, 'x := "text @";')))
@@ -320,8 +321,8 @@ def emission():
                 + main_of('p:P; p.a1 := 1;'), built(), NO_MEMORY)
     yield build('20,000 changes of 1,000 attributes', 'immutable class P is %s end; ' % numbered(1_000, 'attr a@:INT;') + main_of(
         'p:P; ' + numbered(1_000, 'p.a@ := 1;') * 20), built(), NO_MEMORY)
-    yield build('20,000 values of 1,000 attributes are widened', 'immutable class P is %s end; ' % numbered(1_000, 'attr a@:INT;') + main_of(
-        'p:P; x:$OB; ' + 'x := p;' * 20_000), built(), NO_MEMORY)
+    yield build('20,000 values of 1,000 attributes are widened', 'immutable class P is %s end; ' % numbered(1_000, 'attr a@:INT;')
+                + main_of('p:P; x:$OB; ' + 'x := p;' * 20_000), built(), NO_MEMORY)
     yield build('180 branches over 1,900 classes', numbered(1900, 'class C@ < $A is end;') + 'abstract class $A is end;' + main_with(
         numbered(1900, 'attr c@:C@;'), 'a:$A; typecase a %s else end;' % ('when $A then ' * 180)))
 

@@ -21,6 +21,7 @@ import glob
 import itertools
 import os
 import random
+import subprocess
 import sys
 import time
 
@@ -128,6 +129,8 @@ def asked(program, tree, one):
         return verdicts.of_module(program, one.content, one.kind == 'valid')
     except verdicts.Breach as breach:
         return breach.wrong
+    except subprocess.TimeoutExpired as late:
+        return Wrong('an answer comes in time', str(late))
 
 
 def judged(program, tree, inputs):

@@ -100,7 +100,7 @@ class Host:
 
     def call(self, *words):
         """What the program left, which has ended by itself."""
-        left = report.run([self.program, *words], self.folder, input=GIVEN, preexec_fn=limited)
+        left = report.run([self.program, *words], self.folder, judges.BUSY * SECONDS, input=GIVEN, preexec_fn=limited)
         require(left.status >= 0, 'it ends by itself', 'signal %d at %s' % (-left.status, ' '.join(words)))
         return left
 
