@@ -1,5 +1,6 @@
 """What a blow-up is: a small input that is built to cost much, and the answers that it may have."""
 import dataclasses
+import typing
 
 import verdicts
 from report import Left
@@ -9,11 +10,23 @@ NO_MEMORY = [Left(lines=b'out of memory\n', status=125)]
 
 @dataclasses.dataclass
 class Blowup:
-    """A name, the words of the command, the files, and the answers that are right."""
+    """A name, the words of the command, the files, as bytes or by what makes them, and the answers that are right. `is_quick` says
+    whether it is answered at once, and `asks_memory` whether a module itself asks for more memory than the bar."""
     name: str
     words: str
-    files: dict[str, bytes]
+    files: dict[str, bytes | typing.Callable[[], bytes]]
     wanted: list[Left]
+    is_quick: bool = True
+    asks_memory: bool = False
+
+    def contents(self):
+        """The files as bytes."""
+        return {name: content if isinstance(content, bytes) else content() for name, content in self.files.items()}
+
+
+def slow(make):
+    """What makes the same, but such as isn't answered at once."""
+    return lambda *given: dataclasses.replace(make(*given), is_quick=False)
 
 
 def of_source(words, name, source, wanted):

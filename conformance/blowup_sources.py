@@ -1,7 +1,7 @@
 """Sources within the limit of their size that are built to cost time or memory far beyond it, for each phase of the compiler. What
 each is answered by comes from the rules of docs/LANGUAGE.md; want of memory is an answer where docs/DECISIONS.md says that no limit
 of the language bounds what the source asks for."""
-from blowup import NO_MEMORY, accepted, built, faulted, of_source, one_of, printed, refused
+from blowup import NO_MEMORY, accepted, built, faulted, of_source, one_of, printed, refused, slow
 from deep import main_of, nested
 
 LARGEST = 4_194_304
@@ -76,11 +76,11 @@ def grammar():
     yield check('semicolons between classes', ';' * LARGEST, refused(1, 'E24'))
     yield check('semicolons between features', filled('class MAIN is', ';', 'main is end end'))
     yield check('semicolons between statements', filled_main('', ';', ''))
-    yield check('two million arguments', filled_main('f(1', ',1', ');'), refused(1, 'E30'))
-    yield check('two million formal arguments', filled('class MAIN is main is end;f(a', ',a', ':INT)is end end'), refused(1, 'E43'))
-    yield check('a million types of a class', filled('class C{T} is end;class MAIN is main is x:C{INT', ',INT', '} end end'),
+    yield slow(check)('two million arguments', filled_main('f(1', ',1', ');'), refused(1, 'E30'))
+    yield slow(check)('two million formal arguments', filled('class MAIN is main is end;f(a', ',a', ':INT)is end end'), refused(1, 'E43'))
+    yield slow(check)('a million types of a class', filled('class C{T} is end;class MAIN is main is x:C{INT', ',INT', '} end end'),
                 refused(1, 'E13'))
-    yield check('two million names of one declaration', filled_main('x', ',x', ':INT;'), refused(1, 'E43'))
+    yield slow(check)('two million names of one declaration', filled_main('x', ',x', ':INT;'), refused(1, 'E43'))
     yield check('300,000 classes of one name', filled('', 'class A is end;', MAIN), refused(1, 'E10'))
     yield check('190,000 classes', numbered(190_000, 'class A@ is end;') + MAIN)
 
@@ -102,12 +102,12 @@ def classes():
 def includes():
     """Features that includes bring, and their conflicts."""
     words = numbered(24, 'class C@{T} is include C<@{A{T}}; include C<@{B{T}}; end;', 1)
-    yield check('a tower of includes that doubles the features',
+    yield slow(check)('a tower of includes that doubles the features',
                 'class C0{T} is f(x:T) is end; end; class A{T} is end; class B{T} is end;' + words + MAIN, accepted(), NO_MEMORY)
     pairs = numbered(40, 'class C@{T} is include C<@{P{T,T}}; end;', 1)
-    yield check('a tower of includes that doubles a type', 'class P{S,T} is end; class C0{T} is f(x:T) is end; end;' + pairs + MAIN,
+    yield slow(check)('a tower of includes that doubles a type', 'class P{S,T} is end; class C0{T} is f(x:T) is end; end;' + pairs + MAIN,
                 accepted(), NO_MEMORY)
-    yield check('20,000 includes in a chain, each with a feature', 'class C0 is f0 is end; end;' + numbered(
+    yield slow(check)('20,000 includes in a chain, each with a feature', 'class C0 is f0 is end; end;' + numbered(
         20_000, 'class C@ is include C<@; f@ is end; end;', 1) + MAIN, accepted(), NO_MEMORY)
     yield check('50,000 includes in a chain, each with a change', 'class C0 is f0 is end; end;' + numbered(
         50_000, 'class C@ is include C<@ f<@->f@; end;', 1) + MAIN)
@@ -148,7 +148,7 @@ def supertypes():
         orders[0], above, orders[1], above, orders[2]))
     yield check('a diamond of 30 levels that takes 20 parameters in all orders', ordered + main_of(
         'x:$A0{%s};' % ','.join(['INT'] * 20)), accepted(), NO_MEMORY)
-    yield check('supertypes that double their arguments', 'class P{S,T} is end;' + numbered(
+    yield slow(check)('supertypes that double their arguments', 'class P{S,T} is end;' + numbered(
         30, 'abstract class $A<@{T} < $A@{P{T,T}} is end;', 1) + 'abstract class $A30{T} is end;' + main_of('x:$A0{INT};'),
         refused(1, 'E52'), NO_MEMORY)
     yield check('a supertype that holds the class in its argument', 'class P{T} is end; abstract class $A{T} < $B{$A{P{T}}} is end;'
@@ -162,7 +162,7 @@ def supertypes():
                 + numbered(100_000, 'abstract class $A@ is end;') + MAIN)
     below = ''.join('abstract class $A%d%s is end;' % (n, ' < ' + ','.join('$A%d' % m for m in range(max(n - 300, 0), n)) if n else '')
                     for n in range(1900))
-    yield check('1,900 classes, each below the 300 before it', below + main_of('x:$A1899; y:$A0 := x;'))
+    yield slow(check)('1,900 classes, each below the 300 before it', below + main_of('x:$A1899; y:$A0 := x;'))
 
 
 def instances():
@@ -173,7 +173,7 @@ def instances():
     letters, deep = 'ABCDEFGH', 'T'
     for _ in range(6):
         deep = 'W{%s}' % ','.join([deep] * len(letters))
-    yield check('a type of 300,000 parts', 'class W{%s} is end; class C{T} is attr x:%s; end;' % (','.join(letters), deep)
+    yield slow(check)('a type of 300,000 parts', 'class W{%s} is end; class C{T} is attr x:%s; end;' % (','.join(letters), deep)
                 + main_of('y:C{%s};' % 'W{INT,INT,INT,INT,INT,INT,INT,INT}'), accepted(), NO_MEMORY)
     wide = ','.join(letters)
     breeding = 'class W{%s} is attr x:W{%s}; end;' % (wide, ','.join(['W{%s}' % wide] * len(letters)))
@@ -183,8 +183,9 @@ def instances():
     features = numbered(100, 'f@(s:S):T is return void; end;')
     yield check('1,800 instances of 100 features each', kinds() + 'class C{S,T} is %s end;' % features + main_with(pairs),
                 refused(1, 'E55'))
-    yield check('600 instances of a class of 100,000 attributes', kinds() + 'class C{S,T} is %s end;' % numbered(100_000, 'attr a@:T;')
-                + main_with(''.join('attr a%d:C{K%d,K%d};' % (number, *pair(number)) for number in range(600))))
+    attributes = numbered(100_000, 'attr a@:T;')
+    yield slow(check)('600 instances of a class of 100,000 attributes', kinds() + 'class C{S,T} is %s end;' % attributes + main_with(
+        ''.join('attr a%d:C{K%d,K%d};' % (number, *pair(number)) for number in range(600))))
     bounds = 'abstract class $A{T} is end; class K < $A{K} is end; class B0{T < $A{T}} is end;'
     yield check('a chain of 1,900 bounds', bounds + numbered(1900, 'class B@{T < $A{T}} is attr b:B<@{T}; end;', 1)
                 + main_of('x:B1900{K};'))
@@ -204,13 +205,13 @@ def conformance():
             + numbered(count, 'class C@ < $A is include B; end;') + main_with('attr a:$A;' + numbered(count, 'attr c@:C@;'))
     yield check('310 signatures of 310 classes', grid(310))
     yield check('330 signatures of 330 classes', grid(330), refused(1, 'E56'))
-    yield check('1,800 signatures of 1,800 classes', grid(1800), refused(1, 'E56'), NO_MEMORY)
+    yield slow(check)('1,800 signatures of 1,800 classes', grid(1800), refused(1, 'E56'), NO_MEMORY)
     overloads = ''.join('f(a:K%d,b:K%d,c:K%d):INT is return 1 end;' % (*pair(number % 10_000), number // 10_000)
                         for number in range(40_000))
     yield check('40,000 overloads that don\'t conform', kinds() + 'abstract class $A is f(a:INT):INT; end; class C < $A is %s end;'
                 % overloads + main_with('attr a:$A; attr c:C;'), refused(1, 'E20'))
     yield check('50,000 signatures of one class', 'abstract class $A is %s end;' % numbered(50_000, 'f@(x:INT):INT;') + main_of('a:$A;'))
-    yield check('1,900 classes below one another, each with a signature', numbered(
+    yield slow(check)('1,900 classes below one another, each with a signature', numbered(
         1900, 'abstract class $A<@ < $A@ is f@:INT; end;', 1) + 'abstract class $A1900 is end;' + main_of('x:$A0;'),
         accepted(), NO_MEMORY)
     of_one = diamond(30, lambda above: '{T}' if above is None else '{T} < $A%d{T}, $B%d{T}' % (above, above)).replace(
@@ -226,22 +227,23 @@ def constants():
     yield check('50,000 constants, each of the one before it twice', main_with('const c0:INT:=0;' + numbered(
         50_000, 'const c@:INT:=c<@+c<@;', 1)))
     text = 'x' * 2_000_000
-    yield check('50,000 constants that name one text', main_with('const c0:STR:="%s";' % text + numbered(
-        50_000, 'const c@:STR:=c<@;', 1)))
-    yield build('50,000 uses of a constant of two million bytes', main_with('const c:STR:="%s";' % text, 's:STR;' + 's:=c;' * 50_000))
-    yield check('300,000 numbered constants', main_with('const c%s;' % numbered(300_000, ',c@')))
-    yield run('60,000 shareds, each of the one before it', main_with('shared c0:INT:=1;' + numbered(
+    yield slow(check)('50,000 constants that name one text', main_with('const c0:STR:="%s";' % text + numbered(
+        50_000, 'const c@:STR:=c<@;', 1)), accepted(), NO_MEMORY)
+    yield slow(build)('50,000 uses of a constant of two million bytes', main_with('const c:STR:="%s";' % text, 's:STR;' + 's:=c;' * 50_000),
+                built(), NO_MEMORY)
+    yield slow(check)('300,000 numbered constants', main_with('const c%s;' % numbered(300_000, ',c@')))
+    yield slow(run)('60,000 shareds, each of the one before it', main_with('shared c0:INT:=1;' + numbered(
         60_000, 'shared c@:INT:=c<@;', 1), '#OUT + c60000;'), printed(b'1'))
-    yield run('150,000 shareds without a value', main_with(numbered(150_000, 'shared s@:INT;'), '#OUT + s149999;'), printed(b'0'))
+    yield slow(run)('150,000 shareds without a value', main_with(numbered(150_000, 'shared s@:INT;'), '#OUT + s149999;'), printed(b'0'))
 
 
 def choices():
     """Choices among many candidates, and what waits for a type."""
     overloads = ''.join('f(%s) is end;' % ','.join('a%d:%s' % (n, '$OB' if bits >> n & 1 else 'INT') for n in range(11))
                         for bits in range(2048))
-    yield check('300 calls that 2,048 overloads fit', main_with(overloads, ('f(%s);' % ','.join('1' * 11)) * 300))
+    yield slow(check)('300 calls that 2,048 overloads fit', main_with(overloads, ('f(%s);' % ','.join('1' * 11)) * 300))
     overloads = ''.join('f(a:K%d,b:K%d):INT is return 1 end;' % pair(number) for number in range(8000))
-    yield check('500 calls that leave 8,000 overloads open up to the last argument', kinds() + main_with(
+    yield slow(check)('500 calls that leave 8,000 overloads open up to the last argument', kinds() + main_with(
         ''.join('f(a:STR,b:K%d,c:K%d) is end;' % pair(number) for number in range(8000)), 'x:K7; y:K9; ' + 'f(void,x,y);' * 500))
     yield check('a call with void of 8,000 overloads that fit', kinds() + main_with(overloads, 'x:INT := f(void,void);'),
                 refused(1, 'E32'))
@@ -256,19 +258,19 @@ def choices():
     yield check('objects of the context inside one another, for 90 candidates', links + 'class C90 is create(a:INT):SAME is '
                 'return new end; end;' + main_with(overloads, 'f(%s);' % nested('#(', '1', ')', 60)),
                 refused(1, 'E32'), refused(1, 'E31'), refused(1, 'E41'))
-    yield check('200 variables in each of 900 routines', main_with(numbered(900, 'f@ is %s end;' % ''.join(
+    yield check('199 variables in each of 490 routines', main_with(numbered(490, 'f@ is %s end;' % ''.join(
         'v%d:INT;' % n for n in range(199)))))
     yield check('40,000 sums before a name that is unknown', main_of('x ::= 1;' + 'x := x + 1;' * 40_000 + 'y := 1;'), refused(1, 'E30'))
 
 
 def bodies():
     """Long and deep lists of statements."""
-    yield check('four million bytes of one body', filled_main('x ::= 1; ', 'x:=x+1;', ''), refused(1, 'E55'))
-    yield check('two million values of a case', filled_main('x ::= 1; case x when 1', ',1', ' then end;'), refused(1, 'E55'))
-    yield check('two million elements of an array', filled_main('x ::= |1', ',1', '|;'), refused(1, 'E55'))
+    yield slow(check)('four million bytes of one body', filled_main('x ::= 1; ', 'x:=x+1;', ''), refused(1, 'E55'))
+    yield slow(check)('two million values of a case', filled_main('x ::= 1; case x when 1', ',1', ' then end;'), refused(1, 'E55'))
+    yield slow(check)('two million elements of an array', filled_main('x ::= |1', ',1', '|;'), refused(1, 'E55'))
     yield run('the last of 30,000 values of a case', main_of('x ::= 29999; case x when %s then #OUT + "a"; end;' % ','.join(
         map(str, range(30_000)))), printed(b'a'))
-    yield run('an array of 150,000 elements', main_of('x ::= |%s|; #OUT + x.size;' % ','.join(['1'] * 150_000)), printed(b'150000'))
+    yield run('an array of 150,000 elements', main_of('x:ARRAY{INT} := |1%s|; #OUT + x.size;' % (',1' * 149_999)), printed(b'150000'))
     yield build('25,000 branches of one condition', main_of('x ::= 1; if x = 0 then %s end;' % ''.join(
         'elsif x = %d then x := 1;' % n for n in range(1, 25_000))))
     yield build('90,000 branches of a typecase', main_of('x:$OB := 1; typecase x %s end;' % ('when STR then ' * 90_000)),
@@ -283,15 +285,15 @@ def bodies():
     yield build('190 protects inside one another', main_of('x ::= 1; ' + nested(
         'protect x := x / x; ', '', 'when STR then x := 2; end;', 190)))
     yield build('20,000 protects in a row', main_of('x ::= 1; ' + 'protect x := x / x; when FAULT then end;' * 20_000))
-    yield build('150,000 routines', main_with(numbered(150_000, 'f@ is end;')))
+    yield slow(build)('150,000 routines', main_with(numbered(150_000, 'f@ is end;')))
     yield build('60,000 texts', main_of('x:STR; ' + numbered(60_000, 'x := "text @";')))
 
 
 def iters():
     """Sites and suspensions."""
     yield build('10,000 iters of one loop', main_of('loop %s end;' % ('1.times!;' * 10_000)))
-    yield run('10,000 iters of one loop that are live', main_of('loop %s end;' % ('9.times!;' * 10_000)), printed(b''))
-    yield run('10,001 iters of one loop', main_of('loop\n%s\nend;' % ('9.times!;' * 10_001)), faulted(2, 'frames'))
+    yield slow(run)('10,000 iters of one loop that are live', main_of('loop %s end;' % ('9.times!;' * 10_000)), printed(b''))
+    yield slow(run)('10,001 iters of one loop', main_of('loop\n%s\nend;' % ('9.times!;' * 10_001)), faulted(2, 'frames'))
     yield build('an iter of 10,000 sites and 10,000 suspensions', main_with('f! is loop %s %s end; end;' % (
         '9.times!;' * 10_000, 'yield;' * 10_000), 'loop f!; end;'), built(), NO_MEMORY)
     yield build('an iter of 190 variables and 40,000 suspensions', main_with('f! is %s %s %s end;' % (
@@ -313,7 +315,7 @@ def emission():
         return ''.join('class C%d%s is f:INT is return 1 end; end;' % (n, ' < $A' if n % step == 0 else '') for n in range(1850)) \
             + 'abstract class $A is f:INT; end;' + main_with(numbered(1850, 'attr c@:C@;'), 'a:$A; x:INT; ' + 'x := a.f;' * 40_000)
     yield build('40,000 dispatched calls on two classes far apart', below(1849), built(), NO_MEMORY)
-    yield build('40,000 dispatched calls on every eighth class', below(8), built(), NO_MEMORY)
+    yield slow(build)('40,000 dispatched calls on every eighth class', below(8), built(), NO_MEMORY)
     yield build('40,000 dispatched calls on all classes', below(1), built(), NO_MEMORY)
     yield build('a change of one of 5,000 attributes', 'immutable class P is %s end; ' % numbered(5_000, 'attr a@:INT;')
                 + main_of('p:P; p.a1 := 1;'), built(), NO_MEMORY)
