@@ -267,7 +267,7 @@ def bodies():
     """Long and deep lists of statements."""
     yield slow(check)('four million bytes of one body', filled_main('x ::= 1; ', 'x:=x+1;', ''), refused(1, 'E55'))
     yield slow(check)('two million values of a case', filled_main('x ::= 1; case x when 1', ',1', ' then end;'), refused(1, 'E55'))
-    yield slow(check)('two million elements of an array', filled_main('x ::= |1', ',1', '|;'), refused(1, 'E55'))
+    yield slow(check)('two million elements of an array', filled_main('x:ARRAY{INT} := |1', ',1', '|;'), refused(1, 'E55'))
     yield run('the last of 30,000 values of a case', main_of('x ::= 29999; case x when %s then #OUT + "a"; end;' % ','.join(
         map(str, range(30_000)))), printed(b'a'))
     yield run('an array of 150,000 elements', main_of('x:ARRAY{INT} := |1%s|; #OUT + x.size;' % (',1' * 149_999)), printed(b'150000'))

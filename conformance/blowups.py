@@ -90,7 +90,7 @@ def measure_all(program, told, word, shows_table):
         if shows_table:
             told.line('| %s | %s | %d | %.2f | %.0f | %s |' % (
                 phase, blowup.name, sum(map(len, files.values())), found.seconds, found.mebibytes, answer_of(found.left)))
-        told.count('%s: %s' % (phase, blowup.name), wrong_answer(blowup, found.left) or over_bar(blowup, found))
+        told.count('%s: %s' % (phase, blowup.name), over_bar(blowup, found) or wrong_answer(blowup, found.left))
 
 
 def tried(program, blowup):

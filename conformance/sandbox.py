@@ -145,6 +145,12 @@ def task_of(module, **task):
     return {'module': module.hex(), 'input': [END], 'returns': False, 'runs': 1, **task}
 
 
+def observed(tasks):
+    """What sandbox.js observes of each task. One process is asked of a few, since V8 sets much of its addresses aside for each."""
+    parts = [tasks[at:at + programs.TASKS] for at in range(0, len(tasks), programs.TASKS)]
+    return [seen for part in parts for seen in judges.node('sandbox.js', part, STACK)]
+
+
 def wrong_shape(seen):
     """What a module imports, exports or does before `main`, or does to its memory, that it shouldn't, or None."""
     wanted = {'imports': IMPORTS, 'exports': EXPORTS, 'early': 0, 'kept': True, 'grows': False}
@@ -170,7 +176,7 @@ def try_programs(command, told, word):
         if isinstance(module, str):
             told.count(one.name, module)
     pairs = [(one, module) for one, module in zip(chosen, made) if not isinstance(module, str)]
-    for (one, _), seen in zip(pairs, judges.node('sandbox.js', [task_of(module, **one.task) for one, module in pairs], STACK)):
+    for (one, _), seen in zip(pairs, observed([task_of(module, **one.task) for one, module in pairs])):
         told.count(one.name, wrong_shape(seen) or wrong_run(one.wanted, seen))
 
 
@@ -223,8 +229,7 @@ def try_shapes(command, told, word):
     """Looks at what the modules of the table's programs import, export and hold. None is run."""
     chosen = [one for one in list(programs.programs(''))[::STEP] if word in one.name]
     modules = [(one, module) for one, module in zip(chosen, report.side_by_side(functools.partial(module_of, command), chosen)) if module]
-    seen = judges.node('sandbox.js', [task_of(module, runs=0) for _, module in modules]) if modules else []
-    for (one, module), of_v8 in zip(modules, seen):
+    for (one, module), of_v8 in zip(modules, observed([task_of(module, runs=0) for _, module in modules])):
         told.count('the module of %s' % one.name, wrong_shape(of_v8) or wrong_code(module))
 
 
@@ -239,7 +244,7 @@ def try_instances(command, told, word):
     name = 'instances of one module share nothing'
     if word in name:
         module = built(command, COUNTS, 64)
-        first, second = judges.node('sandbox.js', [task_of(module), task_of(module)])
+        first, second = observed([task_of(module), task_of(module)])
         wanted = done(b'1', '1')
         told.count(name, wrong_run(wanted, first) or wrong_run(wanted, second))
 
