@@ -2,6 +2,7 @@
 
 An end is one of the words 'malformed', 'invalid', 'unlinked N', 'segment', 'trap', 'too deep', 'spent', 'stop CODE at SITE'
 and 'done STATUS'."""
+import functools
 import json
 import os
 import re
@@ -11,6 +12,7 @@ import subprocess
 
 HERE = os.path.dirname(os.path.abspath(__file__))
 SECONDS = 60
+BUSY = 20           # how many times longer than its seconds of a processor a process may take on a busy machine
 OWN_LINE = re.compile(rb'm: (malformed|invalid|unlinked \d+|segment|trap|too deep)\n')
 STOPPED = re.compile(rb'm: (stop \d+ at \d+)\n')
 STATS = re.compile(rb'steps (\d+), bytes (\d+)\n$')
@@ -78,22 +80,28 @@ def tell_missing(told):
         told.lacks('wabt (wasm-validate, wasm-interp)', 'nothing was compared with it')
 
 
+def node(script, tasks, stack=None):
+    """What a script of this folder, run by node, says of each task, as JSON, or None where node is missing. It has so many bytes of
+    stack where they are given, and a minute of a processor and a second more for each task."""
+    if not has_node():
+        return None
+    words = ['node', os.path.join(HERE, script)]
+    if stack is not None:
+        words.insert(1, '--stack-size=%d' % (stack_within(stack) // 1024))
+    ended = subprocess.run(words, input='\n'.join(map(json.dumps, tasks)) + '\n', capture_output=True, text=True,
+                           timeout=BUSY * (SECONDS + len(tasks)), preexec_fn=functools.partial(limited, SECONDS + len(tasks), stack))
+    answers = [json.loads(line) for line in ended.stdout.splitlines()]
+    if len(answers) != len(tasks):
+        raise RuntimeError('node answered %d of %d tasks: %s' % (len(answers), len(tasks), ended.stderr))
+    return answers
+
+
 def v8(tasks, stack=None):
     """Judges modules by one process of node, with so many bytes of stack where they are given. A task is a module, an input,
     and whether to run it. Gives for each whether it is valid, and its run or None; or None for all where node is missing."""
-    if not has_node():
-        return None
-    words = ['node', os.path.join(HERE, 'v8.js')]
-    if stack is not None:
-        words.insert(1, '--stack-size=%d' % (stack_within(stack) // 1024))
-    lines = [json.dumps({'module': module.hex(), 'input': given.hex(), 'run': run}) for module, given, run in tasks]
-    ended = subprocess.run(words, input='\n'.join(lines) + '\n', capture_output=True, text=True,
-                           timeout=SECONDS + len(tasks), preexec_fn=None if stack is None else large_stack)
-    answers = [json.loads(line) for line in ended.stdout.splitlines()]
-    if len(answers) != len(tasks):
-        raise RuntimeError('node answered %d of %d modules: %s' % (len(answers), len(tasks), ended.stderr))
-    return [(answer['valid'], Run(answer['end'], bytes.fromhex(answer['output'])) if 'end' in answer else None)
-            for answer in answers]
+    answers = node('v8.js', [{'module': module.hex(), 'input': given.hex(), 'run': run} for module, given, run in tasks], stack)
+    return answers and [(answer['valid'], Run(answer['end'], bytes.fromhex(answer['output'])) if 'end' in answer else None)
+                        for answer in answers]
 
 
 def stack_within(stack):
@@ -102,10 +110,12 @@ def stack_within(stack):
     return stack if most == resource.RLIM_INFINITY else min(stack, most * 3 // 4)
 
 
-def large_stack():
-    """Lets the process have as large a stack as the system allows."""
-    _, most = resource.getrlimit(resource.RLIMIT_STACK)
-    resource.setrlimit(resource.RLIMIT_STACK, (most, most))
+def limited(seconds, stack):
+    """Lets the process have so many seconds of a processor, and where one is given as large a stack as the system allows."""
+    resource.setrlimit(resource.RLIMIT_CPU, (seconds, seconds + 5))
+    if stack is not None:
+        _, most = resource.getrlimit(resource.RLIMIT_STACK)
+        resource.setrlimit(resource.RLIMIT_STACK, (most, most))
 
 
 def has_wabt():

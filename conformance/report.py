@@ -24,13 +24,13 @@ class Left:
     status: int = 0
 
 
-def run(words, folder, **how):
-    """Runs a program in a folder, with no input where none is told, and gives what it left."""
+def run(words, folder, seconds=SECONDS, **how):
+    """Runs a program in a folder, with no input where none is told, and gives what it left within so many seconds."""
     if 'input' not in how:
         how.setdefault('stdin', subprocess.DEVNULL)
     how.setdefault('stdout', subprocess.PIPE)
     how.setdefault('stderr', subprocess.PIPE)
-    ended = subprocess.run(words, cwd=folder, timeout=SECONDS, **how)
+    ended = subprocess.run(words, cwd=folder, timeout=seconds, **how)
     return Left(ended.stdout or b'', ended.stderr or b'', ended.returncode)
 
 

@@ -1,0 +1,525 @@
+"""Reads sources by the rules of docs/LANGUAGE.md: the tokens, then the words and the levels, then the grammar. It shares nothing
+with the compiler that it judges, and tells the refusal of a source by these rules, E01 to E08, or that there is none."""
+import re
+import sys
+
+LARGEST = 4_194_304
+DEEPEST = 200
+WORDS = set(b"""abstract and assert attr bind builtin case class const else elsif end exception false if immutable in include inout is
+    loop new once or out partial private protect quit raise readonly return self shared stub then true typecase void when yield
+    ITER ROUT SAME pre post initial result invariant""".split())
+REFUSED_WORDS = set(b'external spread fork par parloop lock unlock guard cohort sync near far'.split())
+SIGNS = rb'::=|:=|::|/=|<=|>=|->|[()\[\]{},;:.=<>+\-*/%^~#|_]'
+
+GAP = re.compile(rb'(?:[ \t\n\f\r]|--[^\n]*)*')
+NAME = re.compile(rb'[A-Za-z][A-Za-z0-9_]*')
+ITER_NAME = re.compile(rb'(?=[A-Z0-9_]*[a-z])[A-Za-z][A-Za-z0-9_]*!')
+ABSTRACT_NAME = re.compile(rb'\$[A-Z][A-Z0-9_]*')
+NUMBERS = [(16, re.compile(rb'0x([0-9a-fA-F][0-9a-fA-F_]*)')), (8, re.compile(rb'0o([0-7][0-7_]*)')),
+           (2, re.compile(rb'0b([01][01_]*)')), (10, re.compile(rb'([0-9][0-9_]*)'))]
+PREFIX = re.compile(rb'0[xob]')
+GOES_ON = re.compile(rb'[A-Za-z0-9]|\.[0-9]')
+LITERALS = {quote: re.compile(rb'%b((?:[^%b\\\n]|\\[^\n])*)%b' % (quote, quote, quote)) for quote in (b"'", b'"')}
+ITEM = re.compile(rb'\\[0-7]{1,3}|\\.|[^\\]', re.S)
+SIGN = re.compile(SIGNS)
+ESCAPED = b'abfnrtv\\\'"'
+
+MODES = ('in', 'out', 'inout', 'once')
+LOGICAL, COMPARING, ADDING, MULTIPLYING = ('and', 'or'), ('=', '/=', '<', '<=', '>', '>='), ('+', '-'), ('*', '/', '%')
+TYPES = ('CNAME', 'ANAME', 'SAME', 'ROUT', 'ITER')
+FEATURES = ('LNAME', 'INAME')
+EXPRESSIONS = ('-', '~', 'number', 'character', 'text', 'true', 'false', 'self', 'exception', '(', 'void', 'new', '#', '|', 'bind', '[',
+               *FEATURES, *TYPES)
+BLOCKS = ('if', 'loop', 'case', 'typecase', 'protect')
+STATEMENTS = (*BLOCKS, 'return', 'yield', 'quit', 'raise', 'assert', *EXPRESSIONS)
+DECLARED = ('attr', 'shared')
+MEMBERS = ('private', 'readonly', 'const', 'include', 'stub', *DECLARED, *FEATURES)
+CLASSES = ('abstract', 'class', 'immutable', 'partial')
+END = 'the end'
+
+
+class Refused(Exception):
+    """A rule that a source breaks, by its code, and the byte at which it stands."""
+
+    def __init__(self, code, at):
+        super().__init__(code)
+        self.code, self.at = code, at
+
+
+class Token:
+    """A token: its symbol in the grammar, which is its kind, or itself where it is a word or a sign, and the bytes it spans."""
+
+    def __init__(self, symbol, at, end):
+        self.symbol, self.at, self.end = symbol, at, end
+
+
+# ---- tokens
+
+def number_end(text, at):
+    """The end of the number at a place."""
+    if PREFIX.match(text, at) and not any(form.match(text, at) for base, form in NUMBERS if base != 10):
+        raise Refused('E04', at)
+    base, found = next((base, found) for base, form in NUMBERS for found in [form.match(text, at)] if found)
+    if int(found.group(1).replace(b'_', b''), base) >= 2 ** 31:
+        raise Refused('E03', at)
+    if GOES_ON.match(text, found.end()):
+        raise Refused('E04', at)
+    return found.end()
+
+
+def is_known(item):
+    """Whether an item of a literal stands for a byte."""
+    if not item.startswith(b'\\'):
+        return True
+    return int(item[1:], 8) < 256 if item[1:2].isdigit() and item[1:2] < b'8' else item[1:] in [bytes([byte]) for byte in ESCAPED]
+
+
+def literal_end(text, at):
+    """The end of the character or the text at a place."""
+    found = LITERALS[text[at:at + 1]].match(text, at)
+    items = list(ITEM.finditer(found.group(1))) if found else []
+    if not found or text[at:at + 1] == b"'" and len(items) != 1:
+        raise Refused('E02', at)
+    for item in items:
+        if not is_known(item.group()):
+            raise Refused('E05', at + 1 + item.start())
+    return found.end()
+
+
+def token_at(text, at):
+    """The longest token at a place."""
+    first = text[at:at + 1]
+    iter_name, name, abstract = ITER_NAME.match(text, at), NAME.match(text, at), ABSTRACT_NAME.match(text, at)
+    if iter_name:
+        return Token('INAME', at, iter_name.end())
+    if name:
+        spelled = name.group()
+        kind = 'LNAME' if re.search(rb'[a-z]', spelled) else 'CNAME'
+        return Token(spelled.decode() if spelled in WORDS | REFUSED_WORDS else kind, at, name.end())
+    if abstract:
+        return Token('ANAME', at, abstract.end())
+    if first.isdigit():
+        return Token('number', at, number_end(text, at))
+    if first in LITERALS:
+        return Token('character' if first == b"'" else 'text', at, literal_end(text, at))
+    sign = SIGN.match(text, at)
+    if not sign:
+        raise Refused('E01', at)
+    return Token(sign.group().decode(), at, sign.end())
+
+
+def tokens_of(text):
+    """The tokens of a source."""
+    tokens, at = [], GAP.match(text).end()
+    while at < len(text):
+        tokens.append(token_at(text, at))
+        at = GAP.match(text, tokens[-1].end).end()
+    return tokens
+
+
+# ---- words and levels
+
+OPENING = ('(', '[', '{', 'is', *BLOCKS)
+CLOSING = (')', ']', '}', 'end')
+COUNTED = ('[', '.', '::', '#', '^', '~', 'ROUT', 'ITER', *LOGICAL, *COMPARING, *ADDING, *MULTIPLYING)
+SETTING_BACK = (',', ';', ':=', '::=', 'then', 'else', 'elsif', 'when')
+
+
+class Levels:
+    """The levels that are open, the innermost one last: each has a count, and tells whether a `|` has opened it."""
+
+    def __init__(self):
+        self.open = []
+
+    def set(self, count):
+        """Gives the innermost level a count."""
+        if self.open:
+            self.open[-1] = (count, self.open[-1][1])
+
+    def bar(self):
+        """A `|` closes the level of another one, and else opens its own."""
+        if self.open and self.open[-1][1]:
+            self.open.pop()
+        else:
+            self.open.append((1, True))
+
+    def take(self, symbol):
+        """Counts a token."""
+        if symbol in COUNTED:
+            if self.open:
+                self.set(self.open[-1][0] + 1)
+            else:
+                self.open.append((1, False))
+        if symbol in OPENING:
+            self.open.append((1, False))
+        elif symbol in CLOSING:
+            del self.open[-1:]
+        elif symbol == '|':
+            self.bar()
+        elif symbol == 'class':
+            self.open.clear()
+        elif symbol in SETTING_BACK:
+            self.set(1)
+
+    def level(self):
+        return sum(count for count, _ in self.open)
+
+
+def scan(tokens):
+    """Refuses the first word that isn't taken, or the first token behind which the level is too great."""
+    levels = Levels()
+    for token in tokens:
+        if token.symbol.encode() in REFUSED_WORDS:
+            raise Refused('E08', token.at)
+        levels.take(token.symbol)
+        if levels.level() > DEEPEST:
+            raise Refused('E07', token.at)
+
+
+# ---- the grammar: a method for each production of the page
+
+class Grammar:
+    """A place in the tokens of a file. A method reads its production there."""
+
+    def __init__(self, tokens, length):
+        self.symbols = [token.symbol for token in tokens] + [END] * 2
+        self.places = [token.at for token in tokens] + [length] * 2
+        self.at = 0
+
+    def next(self):
+        return self.symbols[self.at]
+
+    def has(self, *symbols):
+        """Whether one of the symbols comes next, which is then read."""
+        found = self.next() in symbols
+        self.at += found
+        return found
+
+    def need(self, *symbols):
+        if not self.has(*symbols):
+            raise Refused('E06', self.places[self.at])
+
+    def several(self, part, *separators):
+        """x {separator x}"""
+        part()
+        while self.has(*separators):
+            part()
+
+    def listed(self, part, first):
+        """[x] {";" [x]}"""
+        while True:
+            if self.next() in first:
+                part()
+            if not self.has(';'):
+                return
+
+    def between(self, opening, part, closing):
+        self.need(opening)
+        part()
+        self.need(closing)
+
+    # Files and classes
+
+    def file(self):
+        self.listed(self.class_, CLASSES)
+        self.need(END)
+
+    def class_(self):
+        if self.has('abstract'):
+            self.need('class')
+            self.head('ANAME')
+            if self.has('>'):
+                self.types()
+            self.need('is')
+            self.listed(self.sig, FEATURES)
+        else:
+            is_partial = self.next() == 'partial'
+            self.has('immutable', 'partial')
+            self.need('class')
+            self.head('CNAME')
+            self.need('is')
+            members = MEMBERS if is_partial else [symbol for symbol in MEMBERS if symbol != 'stub']
+            self.listed(lambda: self.feature(members), members)
+        self.need('end')
+
+    def head(self, name):
+        """The name, the parameters and the types above."""
+        self.need(name)
+        if self.next() == '{':
+            self.between('{', lambda: self.several(self.param, ','), '}')
+        if self.has('<'):
+            self.types()
+
+    def param(self):
+        self.need('CNAME')
+        if self.has('<'):
+            self.type()
+
+    # Types
+
+    def types(self):
+        self.several(self.type, ',')
+
+    def type(self):
+        if self.next() in ('ROUT', 'ITER'):
+            of_iter = self.next() == 'ITER'
+            self.has('ROUT', 'ITER')
+            if self.next() == '{':
+                self.between('{', lambda: self.several(lambda: self.mode_type(of_iter), ','), '}')
+            self.result()
+        elif not self.has('SAME'):
+            self.need('CNAME', 'ANAME')
+            if self.next() == '{':
+                self.between('{', self.types, '}')
+
+    def mode(self, of_iter):
+        self.has(*MODES if of_iter else MODES[:3])
+
+    def mode_type(self, of_iter):
+        self.mode(of_iter)
+        self.type()
+
+    def result(self):
+        if self.has(':'):
+            self.type()
+
+    # Features
+
+    def sig(self):
+        of_iter = self.next() == 'INAME'
+        self.need(*FEATURES)
+        if self.next() == '(':
+            self.between('(', lambda: self.several(lambda: self.formal(of_iter), ','), ')')
+        self.result()
+
+    def formal(self, of_iter):
+        self.mode(of_iter)
+        self.names()
+        self.need(':')
+        self.type()
+
+    def names(self):
+        self.several(lambda: self.need('LNAME'), ',')
+
+    def feature(self, members):
+        if self.has('private'):
+            members = [symbol for symbol in members if symbol not in ('private', 'readonly')]
+        elif self.has('readonly'):
+            members = DECLARED
+        if self.next() not in members:
+            self.need()
+        if self.has('stub'):
+            self.sig()
+        elif self.has('attr'):
+            self.names()
+            self.need(':')
+            self.type()
+        elif self.has('shared'):
+            self.shared()
+        elif self.has('const'):
+            self.const()
+        elif self.has('include'):
+            self.include()
+        else:
+            self.sig()
+            self.between('is', self.stmts, 'end')
+
+    def shared(self):
+        self.names()
+        self.need(':')
+        self.type()
+        self.assigned()
+
+    def assigned(self):
+        if self.has(':='):
+            self.expr()
+
+    def const(self):
+        self.need('LNAME')
+        if self.has(':'):
+            self.type()
+            self.need(':=')
+            self.expr()
+        else:
+            self.assigned()
+            while self.has(','):
+                self.need('LNAME')
+
+    def include(self):
+        self.type()
+        if self.next() in FEATURES:
+            self.several(self.change, ',')
+
+    def change(self):
+        self.need(*FEATURES)
+        self.need('->')
+        if self.has('private', 'readonly'):
+            self.need(*FEATURES)
+        else:
+            self.has(*FEATURES)
+
+    # Statements
+
+    def stmts(self):
+        self.listed(self.stmt, STATEMENTS)
+
+    def stmt(self):
+        symbol = self.next()
+        if symbol in BLOCKS:
+            getattr(self, symbol + '_')()
+        elif self.has('return', 'yield'):
+            if self.next() in EXPRESSIONS:
+                self.expr()
+        elif self.has('raise', 'assert'):
+            self.expr()
+        elif not self.has('quit'):
+            self.simple()
+
+    def simple(self):
+        """A declaration, an assignment or an expression alone."""
+        behind = self.symbols[self.at + 1]
+        if self.next() == 'LNAME' and behind == '::=':
+            self.at += 2
+            self.expr()
+        elif self.next() == 'LNAME' and behind in (',', ':'):
+            self.names()
+            self.need(':')
+            self.type()
+            self.assigned()
+        else:
+            self.expr()
+            self.assigned()
+
+    def if_(self):
+        self.need('if')
+        self.several(lambda: (self.expr(), self.need('then'), self.stmts()), 'elsif')
+        self.rest()
+
+    def rest(self):
+        """The `else` and the `end` of a block."""
+        if self.has('else'):
+            self.stmts()
+        self.need('end')
+
+    def loop_(self):
+        self.between('loop', self.stmts, 'end')
+
+    def branches(self, head):
+        while self.has('when'):
+            head()
+            self.need('then')
+            self.stmts()
+        self.rest()
+
+    def case_(self):
+        self.need('case')
+        self.expr()
+        self.branches(lambda: self.several(self.expr, ','))
+
+    def typecase_(self):
+        self.need('typecase')
+        self.need('LNAME')
+        self.branches(self.type)
+
+    def protect_(self):
+        self.need('protect')
+        self.stmts()
+        self.branches(self.type)
+
+    # Expressions. In an array literal without a bracket between, a `|` ends it
+
+    def expr(self, in_array=False):
+        self.several(lambda: self.comp(in_array), *LOGICAL)
+
+    def comp(self, in_array):
+        self.several(lambda: self.sum(in_array), *COMPARING)
+
+    def sum(self, in_array):
+        self.several(lambda: self.prod(in_array), *ADDING)
+
+    def prod(self, in_array):
+        self.several(lambda: self.unary(in_array), *MULTIPLYING)
+
+    def unary(self, in_array):
+        while self.has('-', '~'):
+            pass
+        self.power(in_array)
+
+    def power(self, in_array):
+        self.post(in_array)
+        while self.has('^'):
+            self.post(in_array)
+
+    def post(self, in_array=False):
+        self.first(in_array)
+        while self.next() in ('.', '['):
+            if self.has('.'):
+                self.call()
+            else:
+                self.index()
+
+    def index(self):
+        self.between('[', lambda: self.several(self.expr, ','), ']')
+
+    def call(self):
+        self.need(*FEATURES)
+        self.args()
+
+    def args(self):
+        if self.next() == '(':
+            self.between('(', lambda: self.several(self.arg, ','), ')')
+
+    def arg(self):
+        if self.has('_'):
+            self.result()
+        else:
+            self.has('out', 'inout')
+            self.expr()
+
+    def first(self, in_array):
+        symbol = self.next()
+        if symbol in FEATURES:
+            self.call()
+        elif symbol in TYPES:
+            self.type()
+            self.need('::')
+            self.call()
+        elif symbol == '(':
+            self.between('(', self.expr, ')')
+        elif symbol == '[':
+            self.index()
+        elif symbol == '|' and not in_array:
+            self.between('|', lambda: self.several(lambda: self.expr(True), ','), '|')
+        elif self.has('text'):
+            while self.has('text'):
+                pass
+        elif self.has('void', 'new'):
+            if self.next() == '(':
+                self.between('(', self.expr, ')')
+        elif self.has('bind'):
+            self.between('(', self.post, ')')
+        elif self.has('#'):
+            if self.next() in TYPES:
+                self.type()
+            self.args()
+        else:
+            self.need('number', 'character', 'true', 'false', 'self', 'exception')
+
+
+def line_of(text, at):
+    """The line of a place."""
+    return text.count(b'\n', 0, at) + 1
+
+
+def refusal(text):
+    """The code and the line with which the source of one file is refused by these rules, or None."""
+    sys.setrecursionlimit(20_000)
+    try:
+        if len(text) > LARGEST:
+            raise Refused('E50', LARGEST)
+        tokens = tokens_of(text)
+        scan(tokens)
+        Grammar(tokens, len(text)).file()
+    except Refused as fault:
+        return fault.code, line_of(text, fault.at)
+    return None
