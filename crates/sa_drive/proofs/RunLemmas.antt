@@ -18,6 +18,10 @@ use Rattle.sa_drive.specs.declared.outcome.Outcome.{Outcome}
 abbrev pub sure : {T : Type 0} → T → T → Part T
 sure old new = record { before = Some old; after = Some new; faults_before = 0; faults_after = 0 }
 
+-- the texts of the outcome are these
+pub ran_of : (input : Part Input) (out : Part (List ℕ)) (fuel : ℕ) (sources : Sources) (outcome : Outcome) → outcome.sources ≡ sources → Ran input out fuel (IsOfModule sources) outcome → Ran input out fuel (IsOfModule outcome.sources) outcome
+ran_of input out fuel sources outcome same ran = subst (λ told. Ran input out fuel (IsOfModule told) outcome) (sym same) ran
+
 -- the outcome of what ended so is that of the run
 pub shown : (input : Part Input) (out : Part (List ℕ)) (IsCause : Cause → Cause → Type 0) (bytes : List ℕ) (fuel : ℕ) (ended : Ended) (run : Run) (outcome : Outcome) → ended ≡ ended_of fuel run → IsRunOf input out bytes fuel run → outcome.«module».items ≡ bytes → IsCause ended.cause outcome.cause → outcome.done ≡ ended.done → ((steps : ℕ) → outcome.steps ≡ Some steps → steps ≡ ended.steps) → Ran input out fuel IsCause outcome
 shown input out IsCause bytes fuel ended run outcome is ran same cause done steps = (

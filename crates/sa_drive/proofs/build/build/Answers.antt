@@ -7,7 +7,7 @@ pub returns-in-Ok-clause-does : goal.returns-in-Ok-clause-does
 returns-in-Ok-clause-does g c =
     rw (← c.as_slice.ensures.value) (inr (
       taken_of _ _ _ _ _ _ _ c.in-Ok.is c.compile_files-sources.ensures.«module» c.without_run.ensures.sources,
-      written_earlier _ _ _ _ _ _ _ _ _ _ _ c.compile_files-sources.ensures.files c.compile_files-sources.ensures.count (c.without_run.ensures.bytes ∙ sym c.as_slice-2.ensures.value) c.without_run.ensures.cause c.written-cause.ensures.written,
+      written_earlier _ _ _ _ _ _ _ _ _ _ _ c.compile_files-sources.ensures.files c.compile_files-sources.ensures.count (c.without_run.ensures.bytes ∙ sym c.as_slice-in-Ok.ensures.value) c.without_run.ensures.cause c.written-cause.ensures.written,
     ))
 
 pub returns-in-Err-clause-does : goal.returns-in-Err-clause-does
