@@ -6,7 +6,5 @@ pub mod Literal
 pub mod Name
 pub mod Number
 pub mod Sign
-pub mod Signs
 pub mod Token
 pub mod Tokens
-pub mod Words

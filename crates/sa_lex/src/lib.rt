@@ -9,11 +9,9 @@ mod lexer;
 mod literal;
 mod name;
 mod number;
-mod sign;
+pub mod sign;
 mod token;
-mod word;
+pub mod word;
 
 pub use lexer::lex;
-pub use sign::Sign;
 pub use token::{Token, TokenKind, slice_of};
-pub use word::Word;

@@ -3,15 +3,13 @@
 ghost use Rattle.std.specs.Prelude.{◌≡◌, slice_range};
 ghost use Rattle.sa_lex.specs.Token.{IsWithin};
 
-use crate::sign::Sign;
-use crate::word::Word;
 use sa_tree::Name;
 
 /// What a token is.
 #[derive(Debug, Drop)]
 pub enum TokenKind {
-    /// A word.
-    Word(Word),
+    /// A word, by its place in `word::WORDS`.
+    Word(u8),
     /// A name without a lower-case letter that is no word.
     ClassName,
     /// `$` and a class name.
@@ -26,8 +24,8 @@ pub enum TokenKind {
     Char(u8),
     /// A text literal, by the bytes that it stands for.
     Text(Name),
-    /// A sign.
-    Sign(Sign),
+    /// A sign, by its place in `sign::SIGNS`.
+    Sign(u8),
 }
 
 /// A token of a text, which spans the bytes from `start` up to `end`.

@@ -1,44 +1,32 @@
 //! Classes: one function for each production of their grammar.
 //!
 //! ```text
-//! class         = "abstract" "class" abstract_head "is" signatures "end"
-//!               | ["immutable" | "partial"] "class" concrete_head "is" members "end"
-//! abstract_head = ANAME params subs [">" types]
-//! concrete_head = CNAME params subs
-//! params        = ["{" param_list "}"]
-//! param_list    = param {"," param}
-//! param         = CNAME ["<" type]
-//! subs          = ["<" types]
-//! signatures    = [sig] {";" [sig]}
-//! members       = [member] {";" [member]}
+//! class  = "abstract" "class" ANAME params subs [">" types] "is" [sig] {";" [sig]} "end"
+//!        | ["immutable" | "partial"] "class" CNAME params subs "is" [feature] {";" [feature]} "end"
+//! params = ["{" param {"," param} "}"]
+//! param  = CNAME ["<" type]
+//! subs   = ["<" types]
 //! ```
 
 ghost use Rattle.std.specs.Prelude.{◌≤◌, IfErr, IfOk, length};
 ghost use Rattle.sa_parse_expr.specs.Places.{IsBehind, IsFrom, IsUnexpected};
 
-use crate::file::FileKind;
-use crate::member::{ClassContext, Member, member, of_sig};
+use crate::feature::{Member, Within, feature, of_sig};
 use crate::names::{abstract_name, class_name};
 use crate::sharing::Sharing;
 use crate::signature::sig;
-use crate::starts::begins_member;
-use sa_lex::{Sign, TokenKind, Word};
+use crate::starts::begins_feature;
+use sa_lex::{TokenKind, sign, word};
 use sa_parse_expr::{Tokens, read_type, read_types};
 use sa_tree::{Access, Class, Feature, FrontFault, Include, Kind, Local, Param, Part, Ty};
 use sqlite_items::Items;
-use std::alloc::{AllocError, Global};
+use std::alloc::Global;
 
-/// What stands between the `class` of a class and its `is`.
+/// What stands between the name of a class and its `is`.
 #[derive(Drop)]
 struct Head {
     name: Local,
     params: Items<Param>,
-    edges: Edges,
-}
-
-/// The types that a class is declared to be below and above.
-#[derive(Drop)]
-struct Edges {
     below: Items<Ty>,
     above: Items<Ty>,
 }
@@ -50,31 +38,13 @@ struct Inside {
     features: Items<Feature>,
 }
 
-impl Inside {
-    fn new(alloc: Global) -> Inside {
-        Inside {
-            includes: Items::new(alloc),
-            features: Items::new(alloc),
-        }
-    }
-
-    /// Puts what a member gives at the end.
-    fn put(&mut self, member: Option<Member>) -> Result<(), AllocError> {
-        match member {
-            Some(Member::Features(features)) => self.features.append(features),
-            Some(Member::Include(include)) => self.includes.push(include),
-            None => Ok(()),
-        }
-    }
-}
-
 fn whole_class(kind: Kind, head: Head, inside: Inside) -> Class {
     Class {
         kind,
         name: head.name,
         params: head.params,
-        below: head.edges.below,
-        above: head.edges.above,
+        below: head.below,
+        above: head.above,
         includes: inside.includes,
         features: inside.features,
     }
@@ -84,7 +54,7 @@ fn whole_class(kind: Kind, head: Head, inside: Inside) -> Class {
 pub(crate) fn class(
     alloc: Global,
     tokens: &Tokens<'_>,
-    file_kind: FileKind,
+    prelude: bool,
     sharing: &mut Sharing,
     from: u32,
 ) -> Result<(Class, u32), FrontFault>
@@ -92,17 +62,17 @@ pub(crate) fn class(
     ensures refused { IfErr result (IsUnexpected tokens.now.file) }
 {
     let (kind, next) = match tokens.kind(from) {
-        Some(TokenKind::Word(Word::Abstract)) => {
+        Some(TokenKind::Word(word::ABSTRACT)) => {
             return abstract_class(alloc, tokens, sharing, from + 1);
         }
-        Some(TokenKind::Word(Word::Immutable)) => (Kind::Immutable, from + 1),
-        Some(TokenKind::Word(Word::Partial)) => (Kind::Partial, from + 1),
+        Some(TokenKind::Word(word::IMMUTABLE)) => (Kind::Immutable, from + 1),
+        Some(TokenKind::Word(word::PARTIAL)) => (Kind::Partial, from + 1),
         _ => (Kind::Reference, from),
     };
-    concrete_class(alloc, tokens, file_kind, sharing, kind, next)
+    concrete_class(alloc, tokens, prelude, sharing, kind, next)
 }
 
-/// `"class" abstract_head "is" signatures "end"`
+/// `"class" ANAME params subs [">" types] "is" [sig] {";" [sig]} "end"`
 fn abstract_class(
     alloc: Global,
     tokens: &Tokens<'_>,
@@ -112,64 +82,32 @@ fn abstract_class(
     ensures next { IfOk result (λ read. IsBehind tokens.now.list.now from read.1) }
     ensures refused { IfErr result (IsUnexpected tokens.now.file) }
 {
-    let next = tokens.after_word(from, Word::Class)?;
-    let (head, next) = abstract_head(alloc, tokens, next)?;
-    let (inside, next) = abstract_inside(alloc, tokens, sharing, next)?;
-    Ok((whole_class(Kind::Abstract, head, inside), next))
-}
-
-/// `ANAME params subs [">" types]`
-fn abstract_head(alloc: Global, tokens: &Tokens<'_>, from: u32) -> Result<(Head, u32), FrontFault>
-    ensures next { IfOk result (λ read. IsBehind tokens.now.list.now from read.1) }
-    ensures refused { IfErr result (IsUnexpected tokens.now.file) }
-{
-    let (name, next) = abstract_name(alloc, tokens, from)?;
+    let next = tokens.after_word(from, word::CLASS)?;
+    let (name, next) = abstract_name(alloc, tokens, next)?;
     let (params, next) = params(alloc, tokens, next)?;
-    let (edges, next) = edges(alloc, tokens, next)?;
+    let (below, next) = types_after(alloc, tokens, sign::LESS, next)?;
+    let (above, next) = types_after(alloc, tokens, sign::GREATER, next)?;
+    let next = tokens.after_word(next, word::IS)?;
+    let (features, next) = signatures(alloc, tokens, sharing, next)?;
+    let next = tokens.after_word(next, word::END)?;
     let head = Head {
         name,
         params,
-        edges,
+        below,
+        above,
     };
-    Ok((head, next))
-}
-
-/// `subs [">" types]`
-fn edges(alloc: Global, tokens: &Tokens<'_>, from: u32) -> Result<(Edges, u32), FrontFault>
-    requires { from ≤ length tokens.now.list.now }
-    ensures next { IfOk result (λ read. IsFrom tokens.now.list.now from read.1) }
-    ensures refused { IfErr result (IsUnexpected tokens.now.file) }
-{
-    let (below, next) = types_after(alloc, tokens, Sign::Less, from)?;
-    let (above, next) = types_after(alloc, tokens, Sign::Greater, next)?;
-    Ok((Edges { below, above }, next))
-}
-
-/// `"is" signatures "end"`
-fn abstract_inside(
-    alloc: Global,
-    tokens: &Tokens<'_>,
-    sharing: &mut Sharing,
-    from: u32,
-) -> Result<(Inside, u32), FrontFault>
-    ensures next { IfOk result (λ read. IsBehind tokens.now.list.now from read.1) }
-    ensures refused { IfErr result (IsUnexpected tokens.now.file) }
-{
-    let next = tokens.after_word(from, Word::Is)?;
-    let (features, next) = signatures(alloc, tokens, sharing, next)?;
-    let next = tokens.after_word(next, Word::End)?;
     let inside = Inside {
         includes: Items::new(alloc),
         features,
     };
-    Ok((inside, next))
+    Ok((whole_class(Kind::Abstract, head, inside), next))
 }
 
-/// `"class" concrete_head "is" members "end"`
+/// `"class" CNAME params subs "is" [feature] {";" [feature]} "end"`
 fn concrete_class(
     alloc: Global,
     tokens: &Tokens<'_>,
-    file_kind: FileKind,
+    prelude: bool,
     sharing: &mut Sharing,
     kind: Kind,
     from: u32,
@@ -177,84 +115,45 @@ fn concrete_class(
     ensures next { IfOk result (λ read. IsBehind tokens.now.list.now from read.1) }
     ensures refused { IfErr result (IsUnexpected tokens.now.file) }
 {
-    let next = tokens.after_word(from, Word::Class)?;
-    let (head, next) = concrete_head(alloc, tokens, next)?;
-    let class = ClassContext {
-        name: &head.name.name,
-        kind,
-        file_kind,
-    };
-    let (inside, next) = concrete_inside(alloc, tokens, class, sharing, next)?;
-    Ok((whole_class(kind, head, inside), next))
-}
-
-/// `CNAME params subs`
-fn concrete_head(alloc: Global, tokens: &Tokens<'_>, from: u32) -> Result<(Head, u32), FrontFault>
-    ensures next { IfOk result (λ read. IsBehind tokens.now.list.now from read.1) }
-    ensures refused { IfErr result (IsUnexpected tokens.now.file) }
-{
-    let (name, next) = class_name(alloc, tokens, from)?;
+    let next = tokens.after_word(from, word::CLASS)?;
+    let (name, next) = class_name(alloc, tokens, next)?;
     let (params, next) = params(alloc, tokens, next)?;
-    let (below, next) = types_after(alloc, tokens, Sign::Less, next)?;
+    let (below, next) = types_after(alloc, tokens, sign::LESS, next)?;
+    let next = tokens.after_word(next, word::IS)?;
+    let within = Within {
+        class: &name.name,
+        kind,
+        prelude,
+    };
+    let (inside, next) = features(alloc, tokens, within, sharing, next)?;
+    let next = tokens.after_word(next, word::END)?;
     let head = Head {
         name,
         params,
-        edges: Edges {
-            below,
-            above: Items::new(alloc),
-        },
+        below,
+        above: Items::new(alloc),
     };
-    Ok((head, next))
+    Ok((whole_class(kind, head, inside), next))
 }
 
-/// `"is" members "end"`
-fn concrete_inside(
-    alloc: Global,
-    tokens: &Tokens<'_>,
-    class: ClassContext<'_>,
-    sharing: &mut Sharing,
-    from: u32,
-) -> Result<(Inside, u32), FrontFault>
-    ensures next { IfOk result (λ read. IsBehind tokens.now.list.now from read.1) }
-    ensures refused { IfErr result (IsUnexpected tokens.now.file) }
-{
-    let next = tokens.after_word(from, Word::Is)?;
-    let (inside, next) = members(alloc, tokens, class, sharing, next)?;
-    let next = tokens.after_word(next, Word::End)?;
-    Ok((inside, next))
-}
-
-/// `["{" param_list "}"]`
+/// `["{" param {"," param} "}"]`
 fn params(alloc: Global, tokens: &Tokens<'_>, from: u32) -> Result<(Items<Param>, u32), FrontFault>
     requires { from ≤ length tokens.now.list.now }
     ensures next { IfOk result (λ read. IsFrom tokens.now.list.now from read.1) }
     ensures refused { IfErr result (IsUnexpected tokens.now.file) }
 {
-    if !tokens.is_sign(from, Sign::LeftBrace) {
-        return Ok((Items::new(alloc), from));
-    }
-    let (params, next) = param_list(alloc, tokens, from + 1)?;
-    Ok((params, tokens.after_sign(next, Sign::RightBrace)?))
-}
-
-/// `param {"," param}`
-fn param_list(
-    alloc: Global,
-    tokens: &Tokens<'_>,
-    from: u32,
-) -> Result<(Items<Param>, u32), FrontFault>
-    ensures next { IfOk result (λ read. IsBehind tokens.now.list.now from read.1) }
-    ensures refused { IfErr result (IsUnexpected tokens.now.file) }
-{
-    let (first, mut next) = param(alloc, tokens, from)?;
     let mut params = Items::new(alloc);
+    if !tokens.is_sign(from, sign::LBRACE) {
+        return Ok((params, from));
+    }
+    let (first, mut next) = param(alloc, tokens, from + 1)?;
     params.push(first)?;
-    'more: while tokens.is_sign(next, Sign::Comma) {
+    'more: while tokens.is_sign(next, sign::COMMA) {
         let (param, end) = param(alloc, tokens, next + 1)?;
         params.push(param)?;
         next = end;
     }
-    Ok((params, next))
+    Ok((params, tokens.after_sign(next, sign::RBRACE)?))
 }
 
 /// `CNAME ["<" type]`
@@ -263,7 +162,7 @@ fn param(alloc: Global, tokens: &Tokens<'_>, from: u32) -> Result<(Param, u32), 
     ensures refused { IfErr result (IsUnexpected tokens.now.file) }
 {
     let (name, next) = class_name(alloc, tokens, from)?;
-    if !tokens.is_sign(next, Sign::Less) {
+    if !tokens.is_sign(next, sign::LESS) {
         return Ok((Param { name, bound: None }, next));
     }
     let (ty, next) = read_type(alloc, tokens, next + 1)?;
@@ -275,7 +174,7 @@ fn param(alloc: Global, tokens: &Tokens<'_>, from: u32) -> Result<(Param, u32), 
 fn types_after(
     alloc: Global,
     tokens: &Tokens<'_>,
-    sign: Sign,
+    sign: u8,
     from: u32,
 ) -> Result<(Items<Ty>, u32), FrontFault>
     requires { from ≤ length tokens.now.list.now }
@@ -299,44 +198,39 @@ fn signatures(
     ensures next { IfOk result (λ read. IsFrom tokens.now.list.now from read.1) }
     ensures refused { IfErr result (IsUnexpected tokens.now.file) }
 {
-    let (first, mut next) = optional_signature(alloc, tokens, sharing, from)?;
     let mut features = Items::new(alloc);
-    if let Some(feature) = first {
-        features.push(feature)?;
-    }
-    'more: while tokens.is_sign(next, Sign::Semicolon) {
-        let (one, end) = optional_signature(alloc, tokens, sharing, next + 1)?;
-        if let Some(feature) = one {
-            features.push(feature)?;
-        }
-        next = end;
+    let mut next = optional_signature(alloc, tokens, sharing, &mut features, from)?;
+    'more: while tokens.is_sign(next, sign::SEMICOLON) {
+        next = optional_signature(alloc, tokens, sharing, &mut features, next + 1)?;
     }
     Ok((features, next))
 }
 
-/// `[sig]`
+/// `[sig]`, put at the end of the features.
 fn optional_signature(
     alloc: Global,
     tokens: &Tokens<'_>,
     sharing: &mut Sharing,
+    features: &mut Items<Feature>,
     from: u32,
-) -> Result<(Option<Feature>, u32), FrontFault>
+) -> Result<u32, FrontFault>
     requires { from ≤ length tokens.now.list.now }
-    ensures next { IfOk result (λ read. IsFrom tokens.now.list.now from read.1) }
+    ensures next { IfOk result (IsFrom tokens.now.list.now from) }
     ensures refused { IfErr result (IsUnexpected tokens.now.file) }
 {
     if !tokens.is_feature_name(from) {
-        return Ok((None, from));
+        return Ok(from);
     }
     let (sig, next) = sig(alloc, tokens, sharing, from)?;
-    Ok((Some(of_sig(sig, Access::Public, Part::Signature)), next))
+    features.push(of_sig(sig, Access::Public, Part::Signature))?;
+    Ok(next)
 }
 
-/// `[member] {";" [member]}`
-fn members(
+/// `[feature] {";" [feature]}`
+fn features(
     alloc: Global,
     tokens: &Tokens<'_>,
-    class: ClassContext<'_>,
+    within: Within<'_>,
     sharing: &mut Sharing,
     from: u32,
 ) -> Result<(Inside, u32), FrontFault>
@@ -344,32 +238,37 @@ fn members(
     ensures next { IfOk result (λ read. IsFrom tokens.now.list.now from read.1) }
     ensures refused { IfErr result (IsUnexpected tokens.now.file) }
 {
-    let (first, mut next) = optional_member(alloc, tokens, class, sharing, from)?;
-    let mut inside = Inside::new(alloc);
-    inside.put(first)?;
-    'more: while tokens.is_sign(next, Sign::Semicolon) {
-        let (one, end) = optional_member(alloc, tokens, class, sharing, next + 1)?;
-        inside.put(one)?;
-        next = end;
+    let mut inside = Inside {
+        includes: Items::new(alloc),
+        features: Items::new(alloc),
+    };
+    let mut next = optional_feature(alloc, tokens, within, sharing, &mut inside, from)?;
+    'more: while tokens.is_sign(next, sign::SEMICOLON) {
+        next = optional_feature(alloc, tokens, within, sharing, &mut inside, next + 1)?;
     }
     Ok((inside, next))
 }
 
-/// `[member]`
-fn optional_member(
+/// `[feature]`, put at the end of what stands inside.
+fn optional_feature(
     alloc: Global,
     tokens: &Tokens<'_>,
-    class: ClassContext<'_>,
+    within: Within<'_>,
     sharing: &mut Sharing,
+    inside: &mut Inside,
     from: u32,
-) -> Result<(Option<Member>, u32), FrontFault>
+) -> Result<u32, FrontFault>
     requires { from ≤ length tokens.now.list.now }
-    ensures next { IfOk result (λ read. IsFrom tokens.now.list.now from read.1) }
+    ensures next { IfOk result (IsFrom tokens.now.list.now from) }
     ensures refused { IfErr result (IsUnexpected tokens.now.file) }
 {
-    if !begins_member(tokens.kind(from), class) {
-        return Ok((None, from));
+    if !begins_feature(tokens, within, from) {
+        return Ok(from);
     }
-    let (member, next) = member(alloc, tokens, class, sharing, from)?;
-    Ok((Some(member), next))
+    let (member, next) = feature(alloc, tokens, within, sharing, from)?;
+    match member {
+        Member::Features(features) => inside.features.append(features)?,
+        Member::Include(include) => inside.includes.push(include)?,
+    }
+    Ok(next)
 }

@@ -1,10 +1,9 @@
 //! Attributes, shareds and constants: one function for each production of their grammar.
 //!
 //! ```text
-//! attr         = "attr" LNAME {"," LNAME} ":" type
-//! shared       = "shared" LNAME {"," LNAME} ":" shared_parts
-//! shared_parts = type [":=" expr]
-//! const        = "const" LNAME (":" type ":=" expr | [":=" expr] {"," LNAME})
+//! attr   = "attr" LNAME {"," LNAME} ":" type
+//! shared = "shared" LNAME {"," LNAME} ":" type [":=" expr]
+//! const  = "const" LNAME (":" type ":=" expr | [":=" expr] {"," LNAME})
 //! ```
 //!
 //! Each name is a feature of its own. The type and the initialiser that several names share are read for each of them,
@@ -15,11 +14,11 @@ ghost use Rattle.std.specs.Prelude.{◌≤◌, IfErr, IfOk, length};
 ghost use Rattle.sa_parse_expr.specs.Places.{IsBehind, IsFrom, IsUnexpected};
 
 use crate::names::{lower_name, lower_names};
-use crate::sharing::{Sharing, counted_type};
+use crate::sharing::Sharing;
 use crate::statement::assigned;
-use sa_lex::Sign;
+use sa_lex::sign;
 use sa_parse_expr::{Tokens, read_expr, read_type};
-use sa_tree::{Access, Expr, Feature, FrontFault, Local, Part, Ty};
+use sa_tree::{Access, Feature, FrontFault, Local, Part, Ty};
 use sqlite_items::Items;
 use std::alloc::Global;
 
@@ -34,23 +33,6 @@ fn variable(alloc: Global, access: Access, name: Local, ty: Option<Ty>, part: Pa
     }
 }
 
-/// The type of a shared, and its initialiser.
-#[derive(Drop)]
-struct SharedParts {
-    ty: Ty,
-    value: Option<Expr>,
-}
-
-fn shared_of(alloc: Global, access: Access, name: Local, parts: SharedParts) -> Feature {
-    variable(
-        alloc,
-        access,
-        name,
-        Some(parts.ty),
-        Part::Shared(parts.value),
-    )
-}
-
 /// `LNAME {"," LNAME} ":" type`, behind `attr`.
 pub(crate) fn attr(
     alloc: Global,
@@ -63,18 +45,19 @@ pub(crate) fn attr(
     ensures refused { IfErr result (IsUnexpected tokens.now.file) }
 {
     let (names, next) = lower_names(alloc, tokens, from)?;
-    let at = tokens.after_sign(next, Sign::Colon)?;
+    let at = tokens.after_sign(next, sign::COLON)?;
     let mut end = at;
     let mut features = Items::new(alloc);
     'more: for name in names {
-        let (ty, behind) = counted_type(alloc, tokens, sharing, at)?;
+        let (ty, behind) = read_type(alloc, tokens, at)?;
+        sharing.count(tokens, at, behind)?;
         features.push(variable(alloc, access, name, Some(ty), Part::Attr))?;
         end = behind;
     }
     Ok((features, end))
 }
 
-/// `LNAME {"," LNAME} ":" shared_parts`, behind `shared`.
+/// `LNAME {"," LNAME} ":" type [":=" expr]`, behind `shared`.
 pub(crate) fn shared(
     alloc: Global,
     tokens: &Tokens<'_>,
@@ -86,44 +69,17 @@ pub(crate) fn shared(
     ensures refused { IfErr result (IsUnexpected tokens.now.file) }
 {
     let (names, next) = lower_names(alloc, tokens, from)?;
-    let at = tokens.after_sign(next, Sign::Colon)?;
+    let at = tokens.after_sign(next, sign::COLON)?;
     let mut end = at;
     let mut features = Items::new(alloc);
     'more: for name in names {
-        let (parts, behind) = counted_parts(alloc, tokens, sharing, at)?;
-        features.push(shared_of(alloc, access, name, parts))?;
+        let (ty, behind) = read_type(alloc, tokens, at)?;
+        let (value, behind) = assigned(alloc, tokens, behind)?;
+        sharing.count(tokens, at, behind)?;
+        features.push(variable(alloc, access, name, Some(ty), Part::Shared(value)))?;
         end = behind;
     }
     Ok((features, end))
-}
-
-/// `shared_parts`, counted for one of the names that share them.
-fn counted_parts(
-    alloc: Global,
-    tokens: &Tokens<'_>,
-    sharing: &mut Sharing,
-    from: u32,
-) -> Result<(SharedParts, u32), FrontFault>
-    ensures next { IfOk result (λ read. IsBehind tokens.now.list.now from read.1) }
-    ensures refused { IfErr result (IsUnexpected tokens.now.file) }
-{
-    let (parts, next) = shared_parts(alloc, tokens, from)?;
-    sharing.count(tokens, from, next)?;
-    Ok((parts, next))
-}
-
-/// `type [":=" expr]`
-fn shared_parts(
-    alloc: Global,
-    tokens: &Tokens<'_>,
-    from: u32,
-) -> Result<(SharedParts, u32), FrontFault>
-    ensures next { IfOk result (λ read. IsBehind tokens.now.list.now from read.1) }
-    ensures refused { IfErr result (IsUnexpected tokens.now.file) }
-{
-    let (ty, next) = read_type(alloc, tokens, from)?;
-    let (value, next) = assigned(alloc, tokens, next)?;
-    Ok((SharedParts { ty, value }, next))
 }
 
 /// `LNAME (":" type ":=" expr | [":=" expr] {"," LNAME})`, behind `const`.
@@ -138,7 +94,7 @@ pub(crate) fn constants(
     ensures refused { IfErr result (IsUnexpected tokens.now.file) }
 {
     let (first, next) = lower_name(alloc, tokens, from)?;
-    if tokens.is_sign(next, Sign::Colon) {
+    if tokens.is_sign(next, sign::COLON) {
         typed_constant(alloc, tokens, access, first, next + 1)
     } else {
         counted_constants(alloc, tokens, sharing, access, first, next)
@@ -157,7 +113,7 @@ fn typed_constant(
     ensures refused { IfErr result (IsUnexpected tokens.now.file) }
 {
     let (ty, next) = read_type(alloc, tokens, from)?;
-    let next = tokens.after_sign(next, Sign::Assign)?;
+    let next = tokens.after_sign(next, sign::ASSIGN)?;
     let (value, next) = read_expr(alloc, tokens, next)?;
     let part = Part::Const(Some(value), 0);
     let mut features = Items::new(alloc);
@@ -183,28 +139,14 @@ fn counted_constants(
     let mut features = Items::new(alloc);
     features.push(variable(alloc, access, first, None, part))?;
     let mut number = 0;
-    'more: while tokens.is_sign(next, Sign::Comma) {
+    'more: while tokens.is_sign(next, sign::COMMA) {
         let (name, end) = lower_name(alloc, tokens, next + 1)?;
-        let value = counted_value(alloc, tokens, sharing, from)?;
+        let (value, behind) = assigned(alloc, tokens, from)?;
+        sharing.count(tokens, from, behind)?;
         number += 1;
         let part = Part::Const(value, number);
         features.push(variable(alloc, access, name, None, part))?;
         next = end;
     }
     Ok((features, next))
-}
-
-/// `[":=" expr]`, counted for one of the names that share it.
-fn counted_value(
-    alloc: Global,
-    tokens: &Tokens<'_>,
-    sharing: &mut Sharing,
-    from: u32,
-) -> Result<Option<Expr>, FrontFault>
-    requires { from ≤ length tokens.now.list.now }
-    ensures { IfErr result (IsUnexpected tokens.now.file) }
-{
-    let (value, next) = assigned(alloc, tokens, from)?;
-    sharing.count(tokens, from, next)?;
-    Ok(value)
 }

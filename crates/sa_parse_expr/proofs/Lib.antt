@@ -1,3 +1,2 @@
 mod Innermost
-mod Precedences
 mod Taken

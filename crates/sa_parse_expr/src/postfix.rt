@@ -1,11 +1,10 @@
 //! What follows a first: calls on it and indexes, and the arguments of calls. One function for each production.
 //!
 //! ```text
-//! post     = first {"." F [args] | "[" exprs "]"}
-//! args     = "(" arg_list ")"
-//! arg_list = arg {"," arg}
-//! arg      = ["out" | "inout"] expr | "_" [":" type]
-//! exprs    = expr {"," expr}
+//! post  = first {"." F [args] | "[" exprs "]"}
+//! args  = "(" arg {"," arg} ")"
+//! arg   = ["out" | "inout"] expr | "_" [":" type]
+//! exprs = expr {"," expr}
 //! ```
 //!
 //! F is a lower name or an iter name. A call stands at this name, and an index at the first token of the whole form, a
@@ -18,7 +17,7 @@ ghost use Rattle.sa_parse_expr.specs.Places.{IsBehind, IsFrom, IsUnexpected};
 use crate::grammar::{Around, Form, Grammar};
 use crate::tokens::Tokens;
 use crate::types::read_type;
-use sa_lex::{Sign, TokenKind, Word};
+use sa_lex::{TokenKind, sign, word};
 use sa_tree::{Expr, FrontFault, Given, Mode, Recv};
 use sqlite_items::{Boxed, Items};
 use std::alloc::Global;
@@ -33,10 +32,10 @@ impl<F: Fn(Global, &Tokens<'_>, Form, u32) -> Result<(Expr, u32), FrontFault>> G
     {
         let (mut of, mut next) = self.first(around, from)?;
         'more: loop {
-            if self.tokens.is_sign(next, Sign::Dot) {
+            if self.tokens.is_sign(next, sign::DOT) {
                 let on = Recv::Of(Boxed::new(self.alloc, of)?);
                 (of, next) = self.call(on, next + 1)?;
-            } else if self.tokens.is_sign(next, Sign::LeftBracket) {
+            } else if self.tokens.is_sign(next, sign::LBRACKET) {
                 let (places, end) = self.index(next)?;
                 let on = Some(Boxed::new(self.alloc, of)?);
                 of = Expr::Index(on, places, self.tokens.pos(from));
@@ -70,30 +69,20 @@ impl<F: Fn(Global, &Tokens<'_>, Form, u32) -> Result<(Expr, u32), FrontFault>> G
         ensures next { IfOk result (λ read. IsFrom self.now.tokens.list.now from read.1) }
         ensures refused { IfErr result (IsUnexpected self.now.tokens.file) }
     {
-        if !self.tokens.is_sign(from, Sign::LeftParen) {
+        if !self.tokens.is_sign(from, sign::LPAREN) {
             return Ok((Items::new(self.alloc), from));
         }
-        let (given, next) = self.arg_list(from + 1)?;
-        Ok((given, self.tokens.after_sign(next, Sign::RightParen)?))
-    }
-
-    /// `arg {"," arg}`
-    fn arg_list(&self, from: u32) -> Result<(Items<Given>, u32), FrontFault>
-        requires nested { Nests self.now.from (F.pre self.now.nested) (F.post self.now.nested) }
-        requires from { self.now.from < from }
-        ensures next { IfOk result (λ read. IsBehind self.now.tokens.list.now from read.1) }
-        ensures refused { IfErr result (IsUnexpected self.now.tokens.file) }
-    {
-        let (first, mut next) = self.arg(from)?;
+        let (first, mut next) = self.arg(from + 1)?;
         let mut args = Vec::new(self.alloc);
         args.push(first)?;
-        'more: while self.tokens.is_sign(next, Sign::Comma) {
+        'more: while self.tokens.is_sign(next, sign::COMMA) {
             let (one, end) = self.arg(next + 1)?;
             args.push(one)?;
             next = end;
         }
         args.shrink_to_fit();
-        Ok((Items::from_vec(args), next))
+        let args = Items::from_vec(args);
+        Ok((args, self.tokens.after_sign(next, sign::RPAREN)?))
     }
 
     /// `["out" | "inout"] expr | "_" [":" type]`
@@ -103,12 +92,12 @@ impl<F: Fn(Global, &Tokens<'_>, Form, u32) -> Result<(Expr, u32), FrontFault>> G
         ensures next { IfOk result (λ read. IsBehind self.now.tokens.list.now from read.1) }
         ensures refused { IfErr result (IsUnexpected self.now.tokens.file) }
     {
-        if self.tokens.is_sign(from, Sign::Underscore) {
+        if self.tokens.is_sign(from, sign::UNDERSCORE) {
             return left_open(self.alloc, &self.tokens, from);
         }
         let (mode, next) = match self.tokens.kind(from) {
-            Some(TokenKind::Word(Word::Out)) => (Mode::Out, from + 1),
-            Some(TokenKind::Word(Word::Inout)) => (Mode::Inout, from + 1),
+            Some(TokenKind::Word(word::OUT)) => (Mode::Out, from + 1),
+            Some(TokenKind::Word(word::INOUT)) => (Mode::Inout, from + 1),
             _ => (Mode::In, from),
         };
         let (value, next) = self.inner(Form::Expr(Around::Open), next)?;
@@ -124,7 +113,7 @@ impl<F: Fn(Global, &Tokens<'_>, Form, u32) -> Result<(Expr, u32), FrontFault>> G
         ensures refused { IfErr result (IsUnexpected self.now.tokens.file) }
     {
         let (places, next) = self.exprs(Around::Open, from + 1)?;
-        Ok((places, self.tokens.after_sign(next, Sign::RightBracket)?))
+        Ok((places, self.tokens.after_sign(next, sign::RBRACKET)?))
     }
 
     /// `expr {"," expr}`
@@ -137,7 +126,7 @@ impl<F: Fn(Global, &Tokens<'_>, Form, u32) -> Result<(Expr, u32), FrontFault>> G
         let (first, mut next) = self.inner(Form::Expr(around), from)?;
         let mut exprs = Vec::new(self.alloc);
         exprs.push(first)?;
-        'more: while self.tokens.is_sign(next, Sign::Comma) {
+        'more: while self.tokens.is_sign(next, sign::COMMA) {
             let (one, end) = self.inner(Form::Expr(around), next + 1)?;
             exprs.push(one)?;
             next = end;
@@ -154,7 +143,7 @@ fn left_open(alloc: Global, tokens: &Tokens<'_>, from: u32) -> Result<(Given, u3
     ensures refused { IfErr result (IsUnexpected tokens.now.file) }
 {
     let pos = tokens.pos(from);
-    if !tokens.is_sign(from + 1, Sign::Colon) {
+    if !tokens.is_sign(from + 1, sign::COLON) {
         return Ok((Given::Left(None, pos), from + 1));
     }
     let (ty, next) = read_type(alloc, tokens, from + 2)?;

@@ -13,10 +13,9 @@ ghost use Rattle.sa_parse_expr.specs.Nests.{Nests};
 ghost use Rattle.sa_parse_expr.specs.Places.{IsBehind, IsFrom, IsUnexpected};
 
 use crate::grammar::{Around, Form, Grammar};
-use crate::starts::begins_type;
 use crate::tokens::Tokens;
-use crate::types::read_type;
-use sa_lex::{Sign, TokenKind, Word};
+use crate::types::{begins_type, read_type};
+use sa_lex::{TokenKind, sign, word};
 use sa_tree::{Expr, FrontFault, Name, Recv, Ty};
 use sqlite_items::Boxed;
 use std::alloc::{AllocError, Global};
@@ -46,7 +45,7 @@ impl<F: Fn(Global, &Tokens<'_>, Form, u32) -> Result<(Expr, u32), FrontFault>> G
     }
 
     /// A first that begins with this word.
-    fn first_word(&self, word: Word, from: u32) -> Result<(Expr, u32), FrontFault>
+    fn first_word(&self, word: u8, from: u32) -> Result<(Expr, u32), FrontFault>
         requires nested { Nests self.now.from (F.pre self.now.nested) (F.post self.now.nested) }
         requires from { self.now.from ≤ from }
         requires within { from < length self.now.tokens.list.now }
@@ -55,20 +54,20 @@ impl<F: Fn(Global, &Tokens<'_>, Form, u32) -> Result<(Expr, u32), FrontFault>> G
     {
         let pos = self.tokens.pos(from);
         match word {
-            Word::True => Ok((Expr::Bool(true, pos), from + 1)),
-            Word::False => Ok((Expr::Bool(false, pos), from + 1)),
-            Word::SelfWord => Ok((Expr::Me(pos), from + 1)),
-            Word::Exception => Ok((Expr::Exception(pos), from + 1)),
-            Word::Void => self.void(from),
-            Word::New => self.new(from),
-            Word::Bind => self.bind(from),
-            Word::Same | Word::Rout | Word::Iter => self.class_call(from),
+            word::TRUE => Ok((Expr::Bool(true, pos), from + 1)),
+            word::FALSE => Ok((Expr::Bool(false, pos), from + 1)),
+            word::SELF => Ok((Expr::Me(pos), from + 1)),
+            word::EXCEPTION => Ok((Expr::Exception(pos), from + 1)),
+            word::VOID => self.void(from),
+            word::NEW => self.new(from),
+            word::BIND => self.bind(from),
+            word::SAME | word::ROUT | word::ITER => self.class_call(from),
             _ => Err(self.tokens.unexpected(from)),
         }
     }
 
     /// A first that begins with this sign.
-    fn first_sign(&self, around: Around, sign: Sign, from: u32) -> Result<(Expr, u32), FrontFault>
+    fn first_sign(&self, around: Around, sign: u8, from: u32) -> Result<(Expr, u32), FrontFault>
         requires nested { Nests self.now.from (F.pre self.now.nested) (F.post self.now.nested) }
         requires from { self.now.from ≤ from }
         requires within { from < length self.now.tokens.list.now }
@@ -76,13 +75,13 @@ impl<F: Fn(Global, &Tokens<'_>, Form, u32) -> Result<(Expr, u32), FrontFault>> G
         ensures refused { IfErr result (IsUnexpected self.now.tokens.file) }
     {
         match sign {
-            Sign::LeftParen => self.parenthesised(from),
-            Sign::Hash => self.create(from),
-            Sign::LeftBracket => {
+            sign::LPAREN => self.parenthesised(from),
+            sign::HASH => self.create(from),
+            sign::LBRACKET => {
                 let (places, next) = self.index(from)?;
                 Ok((Expr::Index(None, places, self.tokens.pos(from)), next))
             }
-            Sign::Bar if around == Around::Open => self.items(from),
+            sign::BAR if around == Around::Open => self.items(from),
             _ => Err(self.tokens.unexpected(from)),
         }
     }
@@ -94,9 +93,9 @@ impl<F: Fn(Global, &Tokens<'_>, Form, u32) -> Result<(Expr, u32), FrontFault>> G
         ensures next { IfOk result (λ read. IsBehind self.now.tokens.list.now from read.1) }
         ensures refused { IfErr result (IsUnexpected self.now.tokens.file) }
     {
-        let next = self.tokens.after_sign(from, Sign::LeftParen)?;
+        let next = self.tokens.after_sign(from, sign::LPAREN)?;
         let (inner, next) = self.inner(Form::Expr(Around::Open), next)?;
-        Ok((inner, self.tokens.after_sign(next, Sign::RightParen)?))
+        Ok((inner, self.tokens.after_sign(next, sign::RPAREN)?))
     }
 
     /// `"void" ["(" expr ")"]`
@@ -108,7 +107,7 @@ impl<F: Fn(Global, &Tokens<'_>, Form, u32) -> Result<(Expr, u32), FrontFault>> G
         ensures refused { IfErr result (IsUnexpected self.now.tokens.file) }
     {
         let pos = self.tokens.pos(from);
-        if !self.tokens.is_sign(from + 1, Sign::LeftParen) {
+        if !self.tokens.is_sign(from + 1, sign::LPAREN) {
             return Ok((Expr::Void(pos), from + 1));
         }
         let (of, next) = self.parenthesised(from + 1)?;
@@ -124,7 +123,7 @@ impl<F: Fn(Global, &Tokens<'_>, Form, u32) -> Result<(Expr, u32), FrontFault>> G
         ensures refused { IfErr result (IsUnexpected self.now.tokens.file) }
     {
         let pos = self.tokens.pos(from);
-        if !self.tokens.is_sign(from + 1, Sign::LeftParen) {
+        if !self.tokens.is_sign(from + 1, sign::LPAREN) {
             return Ok((Expr::New(None, pos), from + 1));
         }
         let (count, next) = self.parenthesised(from + 1)?;
@@ -139,7 +138,7 @@ impl<F: Fn(Global, &Tokens<'_>, Form, u32) -> Result<(Expr, u32), FrontFault>> G
         ensures refused { IfErr result (IsUnexpected self.now.tokens.file) }
     {
         let (class, next) = read_type(self.alloc, &self.tokens, from)?;
-        let next = self.tokens.after_sign(next, Sign::DoubleColon)?;
+        let next = self.tokens.after_sign(next, sign::DOUBLE_COLON)?;
         self.call(Recv::OfClass(class), next)
     }
 
@@ -151,7 +150,7 @@ impl<F: Fn(Global, &Tokens<'_>, Form, u32) -> Result<(Expr, u32), FrontFault>> G
         ensures next { IfOk result (λ read. IsBehind self.now.tokens.list.now from read.1) }
         ensures refused { IfErr result (IsUnexpected self.now.tokens.file) }
     {
-        let (class, next) = optional_type(self.alloc, &self.tokens, from + 1)?;
+        let (class, next) = class_of_new(self.alloc, &self.tokens, from + 1)?;
         let (given, next) = self.args(next)?;
         Ok((Expr::Create(class, given, self.tokens.pos(from)), next))
     }
@@ -165,7 +164,7 @@ impl<F: Fn(Global, &Tokens<'_>, Form, u32) -> Result<(Expr, u32), FrontFault>> G
         ensures refused { IfErr result (IsUnexpected self.now.tokens.file) }
     {
         let (items, next) = self.exprs(Around::Items, from + 1)?;
-        let next = self.tokens.after_sign(next, Sign::Bar)?;
+        let next = self.tokens.after_sign(next, sign::BAR)?;
         Ok((Expr::Items(items, self.tokens.pos(from)), next))
     }
 
@@ -177,16 +176,16 @@ impl<F: Fn(Global, &Tokens<'_>, Form, u32) -> Result<(Expr, u32), FrontFault>> G
         ensures next { IfOk result (λ read. IsBehind self.now.tokens.list.now from read.1) }
         ensures refused { IfErr result (IsUnexpected self.now.tokens.file) }
     {
-        let next = self.tokens.after_sign(from + 1, Sign::LeftParen)?;
+        let next = self.tokens.after_sign(from + 1, sign::LPAREN)?;
         let (head, next) = self.inner(Form::Post, next)?;
-        let next = self.tokens.after_sign(next, Sign::RightParen)?;
+        let next = self.tokens.after_sign(next, sign::RPAREN)?;
         let head = Boxed::new(self.alloc, head)?;
         Ok((Expr::Bind(head, self.tokens.pos(from)), next))
     }
 }
 
-/// `[type]`
-fn optional_type(
+/// `[type]` behind a `#`
+fn class_of_new(
     alloc: Global,
     tokens: &Tokens<'_>,
     from: u32,
@@ -195,11 +194,11 @@ fn optional_type(
     ensures next { IfOk result (λ read. IsFrom tokens.now.list.now from read.1) }
     ensures refused { IfErr result (IsUnexpected tokens.now.file) }
 {
-    if !begins_type(tokens.kind(from)) {
+    if !begins_type(tokens, from) {
         return Ok((None, from));
     }
-    let (ty, next) = read_type(alloc, tokens, from)?;
-    Ok((Some(ty), next))
+    let (class, next) = read_type(alloc, tokens, from)?;
+    Ok((Some(class), next))
 }
 
 /// `{text}` behind a first text: one text of the bytes of all.
