@@ -86,7 +86,7 @@ fn declare_typed(
     e: &Expr,
 ) -> Result<Initialised, FrontFault> {
     let ty = held(written(view, ty))?;
-    let value = typed(view.at(&draft.place), built, e, Expected::Type(ty))?;
+    let value = typed((&*view).at(&draft.place), built, e, Expected::Type(ty))?;
     let numbers = declare_names(view.alloc, draft, declared.names, ty)?;
     let core = fitting(view, built, value, ty, position(e), declared.form)?;
     Ok(Initialised { numbers, core })
@@ -100,7 +100,7 @@ fn declare_by_value(
     declared: Declared<'_>,
     e: &Expr,
 ) -> Result<Initialised, FrontFault> {
-    let value = untyped_value(view.at(&draft.place), built, e, declared.form)?;
+    let value = untyped_value((&*view).at(&draft.place), built, e, declared.form)?;
     let ty = held(value.ty)?;
     let numbers = declare_names(view.alloc, draft, declared.names, ty)?;
     Ok(Initialised {

@@ -41,7 +41,7 @@ fn if_arm(
     arm: &Arm,
     list: &mut Items<TestCore>,
 ) -> Result<Option<u32>, FrontFault> {
-    let test = test(view.at(&draft.place), built, &arm.test)?;
+    let test = test((&*view).at(&draft.place), built, &arm.test)?;
     let ty = test.ty;
     let body = statements(view, draft, built, arm.body.as_slice())?;
     list.push(entry(view.alloc, test.core, body)?)?;

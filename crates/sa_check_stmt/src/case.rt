@@ -42,7 +42,7 @@ pub(crate) fn case_subject(
     tested: &Expr,
     pos: Pos,
 ) -> Result<Subject, FrontFault> {
-    let value = synthesised(view.at(&draft.place), built, tested)?;
+    let value = synthesised((&*view).at(&draft.place), built, tested)?;
     let ty = value_type(&value)?;
     let number = draft.variable(ty)?;
     let variable = CaseVariable { ty, number, pos };
@@ -80,7 +80,7 @@ fn case_arm(
     built: &mut Built,
     arm: &CaseArm,
 ) -> Result<TypedArm, FrontFault> {
-    let values = synthesised_all(view.at(&draft.place), built, arm.values.as_slice())?;
+    let values = synthesised_all((&*view).at(&draft.place), built, arm.values.as_slice())?;
     let body = statements(view, draft, built, arm.body.as_slice())?;
     Ok(TypedArm { values, body })
 }

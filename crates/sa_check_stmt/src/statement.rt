@@ -55,11 +55,11 @@ fn statement(
             let subject = case_subject(view, draft, built, tested, *pos)?;
             let arms = case_arms(view, draft, built, arms.as_slice())?;
             let Some(rest) = rest else {
-                let context = view.at(&draft.place);
+                let context = (&*view).at(&draft.place);
                 return case_cores(context, built, subject, arms, None, cores);
             };
             let rest = statements(view, draft, built, rest.as_slice())?;
-            let context = view.at(&draft.place);
+            let context = (&*view).at(&draft.place);
             case_cores(context, built, subject, arms, Some(rest), cores)
         }
         Stmt::TypeCase(local, arms, rest, pos) => {
