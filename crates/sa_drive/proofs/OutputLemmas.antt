@@ -1,5 +1,5 @@
 -- What a sink took.
-use Rattle.std.proofs.Common.{◌≡◌, ◌∙◌, ℕ, min, List, ◌++◌, length, take, Option, sym, subst, ap, arith, inl, inr}
+use Rattle.std.proofs.Common.{◌≡◌, ◌∙◌, ℕ, min, List, ◌++◌, length, take, Option, None, Some, append-nil, refl, sym, subst, ap, arith, inl, inr}
 use Rattle.std.proofs.Math.Seq.{take-length}
 use Rattle.std.proofs.lemmas.List.{take-append-le, take_all}
 use Rattle.std.proofs.lemmas.Bool.{cases_lt}
@@ -26,6 +26,11 @@ TookFront-longer old new bytes more (k, took) =
     let shorter : take (min k (length bytes)) (bytes ++ more) ≡ take k bytes =
     take-append-le (min k (length bytes)) bytes more (omega arith) ∙ take_min k bytes in
     (min k (length bytes), subst (λ taken. Took old new taken) (sym shorter) took)
+
+-- nothing is a front of any piece
+pub TookFront-nothing : (output : Option (List ℕ)) (bytes : List ℕ) → TookFront output output bytes
+TookFront-nothing None bytes = (0, refl)
+TookFront-nothing (Some taken) bytes = (0, ap Some (sym (append-nil taken)))
 
 -- all of a file's bytes are a front of them
 pub WritesFront-from_writes : (old new : Option Files) (name bytes : List ℕ) → Writes old new name bytes → WritesFront old new name bytes

@@ -1,59 +1,124 @@
--- What an outcome says of the words and the outside.
-use Rattle.std.specs.Prelude.{codes, ◌≡◌, ◌⊎◌, ◌&&◌, ⊤, ℕ, Bool, true, false, List, [], Option, None, Some, is_some}
-use Rattle.sa_tree.specs.declared.pos.Sources.{Sources}
+-- What the outcome of each command says of the outside.
+use Rattle.std.specs.Prelude.{codes, ◌≡◌, ◌≢◌, ◌≤◌, ◌^◌, ◌-◌, ◌⊎◌, ◌&&◌, ⊤, ℕ, Bool, true, false, List, [], length, Option, None, Some, is_some}
 use Rattle.sa_gen.specs.Generated.{generated}
-use Rattle.sa_outside.specs.Files.{Files, Lacks, Writes, WritesFront}
-use Rattle.sa_outside.specs.Output.{Took}
+use Rattle.sa_outside.specs.Files.{Files, Lacks}
+use Rattle.sa_outside.specs.Input.{Input}
 use Rattle.sa_read.specs.Read.{HasFile, HasLonger}
-use Rattle.wa_run.specs.declared.answer.Answer.{Answer}
-use Rattle.wa_run.specs.Modules.{SaysOf}
-use Rattle.sa_words.specs.Line.{Build, Check, Exec, Gen, Line, Run, Selftest, line_in}
-use Rattle.sa_drive.specs.Ends.{BuildEnds, PrintEnds, ProgramEnds, RunEnds, SelftestEnds, cause_of}
+use Rattle.sa_words.specs.Line.{Build, Check, Exec, Gen, Line, Run, Selftest}
+use Rattle.sa_drive.specs.Ends.{IsOfModule, IsPrinted, IsWritten}
 use Rattle.sa_drive.specs.Files.{ComesOfFiles, ComesOfGenerated, IsTakenGenerated, IsTakenProgram}
-use Rattle.sa_drive.specs.Lines.{lines_of, selftest_line}
-use Rattle.sa_drive.specs.Seen.{Failed, Seen}
+use Rattle.sa_drive.specs.Lines.{selftest_line}
+use Rattle.sa_drive.specs.Runs.{Ran}
+use Rattle.sa_drive.specs.Seen.{Failed, IsKept, Outside, Part}
 use Rattle.sa_drive.specs.declared.cause.Cause.{Cause}
 use Rattle.sa_drive.specs.declared.cause.Cause.TheVariants as cause
 use Rattle.sa_drive.specs.declared.exec.TheConstants.{MOST_MODULE_BYTES}
 use Rattle.sa_drive.specs.declared.outcome.Outcome.{Outcome}
 
--- the files give no module, or they give one and the command ends so
-abbrev pub ComesOfProgram : Seen → List (List ℕ) → (Cause → Type 0) → Sources → Cause → Type 0
-ComesOfProgram seen names Ends sources cause = ComesOfFiles seen.files (Failed seen.store) names sources cause ⊎ (IsTakenProgram seen.files names sources × Ends cause)
+-- there is no module of the outcome
+abbrev pub HasNoModule : Outcome → Type 0
+HasNoModule outcome = outcome.«module».items ≡ []
+
+-- the files give no module
+pub record GivesNone (store : Part Files) (names : List (List ℕ)) (outcome : Outcome) : Type 0 where
+  pub comes : ComesOfFiles store.before (Failed store) names outcome.sources outcome.cause
+  pub bytes : HasNoModule outcome
+  pub files : IsKept store
+
+-- the module of the program in these files was run, or there is none
+abbrev pub IsRun : Part Files → Part Input → Part (List ℕ) → ℕ → List (List ℕ) → Outcome → Type 0
+IsRun store input out fuel names outcome =
+    (GivesNone store names outcome × IsKept input × IsKept out)
+    ⊎ (IsTakenProgram store.before names outcome.sources × Ran input out fuel (IsOfModule outcome.sources) outcome)
+
+-- the module of the program in these files was written under this name, or there is none, and nothing is written
+abbrev pub IsBuilt : Part Files → List ℕ → List (List ℕ) → Outcome → Type 0
+IsBuilt store name names outcome =
+    GivesNone store names outcome
+    ⊎ (IsTakenProgram store.before names outcome.sources × IsWritten store name outcome.«module».items outcome.cause)
+
+-- it was told that the program in these files is accepted, or it isn't
+abbrev pub IsChecked : Part Files → Part (List ℕ) → List (List ℕ) → Outcome → Type 0
+IsChecked store out names outcome =
+    (GivesNone store names outcome × IsKept out)
+    ⊎ (IsTakenProgram store.before names outcome.sources × HasNoModule outcome × IsPrinted out (codes "accepted\n") outcome.cause)
 
 -- why no module was read from its file
-abbrev pub IsUnread : Seen → List ℕ → Cause → Type 0
-IsUnread seen file cause.StoreFault = Failed seen.store ⊎ Lacks seen.files file
-IsUnread seen file cause.Malformed = (bytes : List ℕ) × HasLonger seen.files file MOST_MODULE_BYTES bytes
-IsUnread seen file cause.NoMemory = ⊤
-IsUnread seen file _ = ⊥
+abbrev pub IsUnread : Part Files → List ℕ → Cause → Type 0
+IsUnread store file cause.StoreFault = Failed store ⊎ Lacks store.before file
+IsUnread store file cause.Malformed = (bytes : List ℕ) × HasLonger store.before file MOST_MODULE_BYTES bytes
+IsUnread store file cause.NoMemory = ⊤
+IsUnread store file _ = ⊥
 
--- the cause is that of an answer to these bytes, run with this fuel, and the answer says so of them
-abbrev pub IsAnswered : List ℕ → ℕ → Cause → Type 0
-IsAnswered bytes fuel cause = (answer : Answer) × (cause ≡ cause_of fuel answer) × SaysOf bytes answer
+-- these are the bytes of the module in the file
+abbrev pub IsModuleIn : Part Files → List ℕ → List ℕ → Type 0
+IsModuleIn store file bytes = HasFile store.before file bytes × (length bytes ≤ MOST_MODULE_BYTES)
 
--- no module was read from the file, or bytes were that are run with this answer, and end so
-abbrev pub ComesOfModule : Seen → List ℕ → ℕ → Cause → Type 0
-ComesOfModule seen file fuel cause = IsUnread seen file cause ⊎ ((bytes : List ℕ) × HasFile seen.files file bytes × IsAnswered bytes fuel cause × RunEnds seen fuel cause)
+-- the cause that is told is the module's
+abbrev pub IsSame : (of_module : Cause) → (told : Cause) → Type 0
+IsSame of_module told = told ≡ of_module
 
--- the generated program gives no module, or it gives one and the selftest ends so
-abbrev pub ComesOfSelftest : Seen → ℕ → Sources → Cause → Type 0
-ComesOfSelftest seen classes sources cause = ComesOfGenerated classes sources cause ⊎ (IsTakenGenerated classes sources × SelftestEnds seen cause)
+-- the module in this file was run, or none was read
+abbrev pub IsExecuted : Part Files → Part Input → Part (List ℕ) → ℕ → List ℕ → Outcome → Type 0
+IsExecuted store input out fuel file outcome =
+    (IsUnread store file outcome.cause × HasNoModule outcome × IsKept input × IsKept out)
+    ⊎ (IsModuleIn store file outcome.«module».items × Ran input out fuel IsSame outcome)
 
--- where the cause of a command comes from
-abbrev pub ComesOfLine : Seen → Line → Sources → Cause → Type 0
-ComesOfLine seen (Run fuel room stats names) sources cause = ComesOfProgram seen names (ProgramEnds seen fuel) sources cause
-ComesOfLine seen (Build room out names) sources cause = ComesOfProgram seen names (BuildEnds seen) sources cause
-ComesOfLine seen (Check names) sources cause = ComesOfProgram seen names (PrintEnds seen) sources cause
-ComesOfLine seen (Exec fuel stats file) sources cause = ComesOfModule seen file fuel cause
-ComesOfLine seen (Gen classes) sources cause = PrintEnds seen cause
-ComesOfLine seen (Selftest classes) sources cause = ComesOfSelftest seen classes sources cause
+-- the generated program was printed
+abbrev pub IsGenerated : Part (List ℕ) → ℕ → Outcome → Type 0
+IsGenerated out classes outcome = HasNoModule outcome × IsPrinted out (generated classes) outcome.cause
 
--- where the cause of a call comes from: the words are a command and it is one of that, or they are none
-abbrev pub ComesOf : Seen → List (List ℕ) → Sources → Cause → Type 0
-ComesOf seen words sources cause.Usage = line_in words ≡ None
-ComesOf seen words sources cause.NoMemory = ⊤
-ComesOf seen words sources cause = (line : Line) × (line_in words ≡ Some line) × ComesOfLine seen line sources cause
+-- an input of no bytes that never fails, of which this is left
+abbrev pub empty_input : Input → Part Input
+empty_input left = record { before = Some (record { left = []; ends = 0 }); after = Some left; faults_before = 0; faults_after = 0 }
+
+-- a sink of a run's own that never fails, and took this
+abbrev pub own_sink : List ℕ → Part (List ℕ)
+own_sink output = record { before = Some []; after = Some output; faults_before = 0; faults_after = 0 }
+
+-- the outcome is that of the run; and where this is Done, the bytes of its output and its status are printed
+pub record TellsRun (out : Part (List ℕ)) (classes : ℕ) (ran : Outcome) (output : List ℕ) (outcome : Outcome) : Type 0 where
+  pub sources : outcome.sources ≡ ran.sources
+  pub bytes : outcome.«module».items ≡ ran.«module».items
+  pub ended : ran.cause ≡ cause.Done → IsPrinted out (selftest_line classes (length output) ran.done) outcome.cause
+  pub other : ran.cause ≢ cause.Done → (outcome.cause ≡ ran.cause) × IsKept out
+
+-- the generated program was run with the greatest fuel, apart from the input and out of the call, and told of
+pub record IsRunApart (out : Part (List ℕ)) (classes : ℕ) (outcome : Outcome) : Type 0 where
+  pub taken : IsTakenGenerated classes outcome.sources
+  pub ran : Outcome
+  pub left : Input
+  pub output : List ℕ
+  pub runs : Ran (empty_input left) (own_sink output) (2 ^ 64 - 1) (IsOfModule ran.sources) ran
+  pub tells : TellsRun out classes ran output outcome
+
+-- the generated program was run, or it has no module
+abbrev pub IsTested : Part (List ℕ) → ℕ → Outcome → Type 0
+IsTested out classes outcome =
+    (ComesOfGenerated classes outcome.sources outcome.cause × HasNoModule outcome × IsKept out)
+    ⊎ IsRunApart out classes outcome
+
+-- the command was done, and this came of it
+abbrev pub Does : Outside → Line → Outcome → Type 0
+Does outside (Run fuel room stats names) outcome = IsRun outside.store outside.input outside.out fuel names outcome
+Does outside (Build room out names) outcome = IsBuilt outside.store out names outcome
+Does outside (Check names) outcome = IsChecked outside.store outside.out names outcome
+Does outside (Exec fuel stats file) outcome = IsExecuted outside.store outside.input outside.out fuel file outcome
+Does outside (Gen classes) outcome = IsGenerated outside.out classes outcome
+Does outside (Selftest classes) outcome = IsTested outside.out classes outcome
+
+-- nothing was done, for this cause
+pub record DoesNothing (outside : Outside) (outcome : Outcome) (ends : Cause) : Type 0 where
+  pub cause : outcome.cause ≡ ends
+  pub bytes : HasNoModule outcome
+  pub store : IsKept outside.store
+  pub input : IsKept outside.input
+  pub out : IsKept outside.out
+
+-- what the words ask for was done: the usage is told where they are no command, and only there, unless memory ran out
+abbrev pub Obeys : Outside → Option Line → Outcome → Type 0
+Obeys outside None outcome = DoesNothing outside outcome cause.Usage ⊎ DoesNothing outside outcome cause.NoMemory
+Obeys outside (Some line) outcome = DoesNothing outside outcome cause.NoMemory ⊎ Does outside line outcome
 
 -- the file whose module the command runs, and nothing for another command
 abbrev pub module_file : Option Line → List ℕ
@@ -74,25 +139,31 @@ has_steps (cause.Stopped code site) = true
 has_steps (cause.Spent steps) = true
 has_steps _ = false
 
--- a command takes from the input only where it runs a module
-abbrev pub TakesNoInput : Option Line → Type 0
-TakesNoInput (Some (Run fuel room stats names)) = ⊥
-TakesNoInput (Some (Exec fuel stats file)) = ⊥
-TakesNoInput _ = ⊤
+-- the lines of the outcome name the file of `exec`, and tell the steps exactly where they are asked for and may be told
+pub record IsTellable (line : Option Line) (outcome : Outcome) : Type 0 where
+  pub file : outcome.cause ≢ cause.NoMemory → outcome.file.now ≡ module_file line
+  pub steps : is_some outcome.steps ≡ (asks_stats line && has_steps outcome.cause)
 
--- what a call leaves of the files: `build` alone writes one, which has the module at Done, and else what it had or a front of the module
-abbrev pub LeavesFiles : Option Line → Cause → List ℕ → Option Files → Option Files → Type 0
-LeavesFiles (Some (Build room out names)) ends bytes old new = WritesFront old new out bytes × (ends ≡ cause.Done → Writes old new out bytes)
-LeavesFiles _ ends bytes old new = new ≡ old
+-- the command runs no module on the input and to out
+abbrev pub RunsNone : Option Line → Type 0
+RunsNone (Some (Run fuel room stats names)) = ⊥
+RunsNone (Some (Exec fuel stats file)) = ⊥
+RunsNone _ = ⊤
 
--- what out takes of a command that has done what it is for, where no module of a file is run
-abbrev pub Prints : Option Line → Option (List ℕ) → Option (List ℕ) → Type 0
-Prints (Some (Build room out names)) old new = new ≡ old
-Prints (Some (Check names)) old new = Took old new (codes "accepted\n")
-Prints (Some (Gen classes)) old new = Took old new (generated classes)
-Prints (Some (Selftest classes)) old new = (bytes : ℕ) × (status : ℕ) × Took old new (selftest_line classes bytes status)
-Prints _ old new = ⊤
+-- the command reads no file
+abbrev pub ReadsNone : Option Line → Type 0
+ReadsNone None = ⊤
+ReadsNone (Some (Gen classes)) = ⊤
+ReadsNone (Some (Selftest classes)) = ⊤
+ReadsNone _ = ⊥
 
--- err was told the lines of the outcome with this cause. They name the module's file of `exec`, and the steps exactly where they are asked for and may be told
-abbrev pub IsTold : Option Line → Outcome → Cause → (List ℕ → Type 0) → Type 0
-IsTold line outcome ends Tells = (outcome.file.now ≡ module_file line) × (is_some outcome.steps ≡ (asks_stats line && has_steps ends)) × Tells (lines_of outcome ends)
+-- the command writes no file
+abbrev pub WritesNone : Option Line → Type 0
+WritesNone (Some (Build room out names)) = ⊥
+WritesNone _ = ⊤
+
+-- the command puts nothing on out
+abbrev pub PrintsNone : Option Line → Type 0
+PrintsNone None = ⊤
+PrintsNone (Some (Build room out names)) = ⊤
+PrintsNone _ = ⊥

@@ -1,48 +1,43 @@
--- What a cause says of the outside, once there is a module.
-use Rattle.std.specs.Prelude.{◌≡◌, ◌^◌, ◌-◌, ⊤, ℕ}
+-- What a cause says of the outside, once there is something to write, to print or to run.
+use Rattle.std.specs.Prelude.{◌≡◌, ◌⊎◌, ⊤, ℕ, List}
+use Rattle.sa_outside.specs.Files.{Files, Writes, WritesFront}
+use Rattle.sa_outside.specs.Output.{Took, TookFront}
+use Rattle.sa_tree.specs.Faults.{fault_number}
+use Rattle.sa_tree.specs.declared.pos.Sources.{Sources}
 use Rattle.wa_run.specs.declared.answer.Answer.{Answer}
 use Rattle.wa_run.specs.declared.answer.Answer.TheVariants as answer
-use Rattle.sa_drive.specs.Seen.{Failed, Seen}
+use Rattle.sa_drive.specs.Lines.{IsInside}
+use Rattle.sa_drive.specs.Seen.{Failed, Part}
 use Rattle.sa_drive.specs.declared.cause.Cause.{Cause}
 use Rattle.sa_drive.specs.declared.cause.Cause.TheVariants as cause
 
--- the end of a module that is run with this fuel
-abbrev pub RunEnds : Seen → ℕ → Cause → Type 0
-RunEnds seen fuel cause.InFault = Failed seen.input
-RunEnds seen fuel cause.OutFault = Failed seen.out
-RunEnds seen fuel (cause.Spent steps) = steps ≡ fuel
-RunEnds seen fuel (cause.Refused refusal) = ⊥
-RunEnds seen fuel (cause.Fault kind pos) = ⊥
-RunEnds seen fuel cause.StoreFault = ⊥
-RunEnds seen fuel cause.Usage = ⊥
-RunEnds seen fuel (cause.NotListing line) = ⊥
-RunEnds seen fuel _ = ⊤
+-- the end of a command that writes a file
+abbrev pub WriteEnds : (store_failed : Type 0) → Cause → Type 0
+WriteEnds store_failed cause.Done = ⊤
+WriteEnds store_failed cause.StoreFault = store_failed
+WriteEnds store_failed cause.NoMemory = ⊤
+WriteEnds store_failed _ = ⊥
 
--- the end of a program that is run with this fuel: that of its module, or a fault
-abbrev pub ProgramEnds : Seen → ℕ → Cause → Type 0
-ProgramEnds seen fuel (cause.Fault kind pos) = ⊤
-ProgramEnds seen fuel ends = RunEnds seen fuel ends
-
--- the end of a generated program that is run with the greatest fuel, an empty input and an output of its own, and told of on out
-abbrev pub SelftestEnds : Seen → Cause → Type 0
-SelftestEnds seen cause.InFault = ⊥
-SelftestEnds seen ends = ProgramEnds seen (2 ^ 64 - 1) ends
-
--- the end of a module that is written
-abbrev pub BuildEnds : Seen → Cause → Type 0
-BuildEnds seen cause.Done = ⊤
-BuildEnds seen cause.StoreFault = Failed seen.store
-BuildEnds seen cause.NoMemory = ⊤
-BuildEnds seen _ = ⊥
+-- the file of this name was to get these bytes, and did at Done; else it has what it had or a front of them
+pub record IsWritten (store : Part Files) (name bytes : List ℕ) (ends : Cause) : Type 0 where
+  pub comes : WriteEnds (Failed store) ends
+  pub whole : ends ≡ cause.Done → Writes store.before store.after name bytes
+  pub front : WritesFront store.before store.after name bytes
 
 -- the end of a command that puts a text on out
-abbrev pub PrintEnds : Seen → Cause → Type 0
-PrintEnds seen cause.Done = ⊤
-PrintEnds seen cause.OutFault = Failed seen.out
-PrintEnds seen cause.NoMemory = ⊤
-PrintEnds seen _ = ⊥
+abbrev pub PrintEnds : (out_failed : Type 0) → Cause → Type 0
+PrintEnds out_failed cause.Done = ⊤
+PrintEnds out_failed cause.OutFault = out_failed
+PrintEnds out_failed cause.NoMemory = ⊤
+PrintEnds out_failed _ = ⊥
 
--- a cause that stands before anything is put on out
+-- out was to take this text, and did at Done; else it took a front of it
+pub record IsPrinted (out : Part (List ℕ)) (text : List ℕ) (ends : Cause) : Type 0 where
+  pub comes : PrintEnds (Failed out) ends
+  pub whole : ends ≡ cause.Done → Took out.before out.after text
+  pub front : TookFront out.before out.after text
+
+-- a cause that stands before anything is put on out or taken from the input
 abbrev pub ComesBeforeOutput : Cause → Type 0
 ComesBeforeOutput (cause.Refused refusal) = ⊤
 ComesBeforeOutput cause.StoreFault = ⊤
@@ -67,3 +62,12 @@ cause_of fuel answer.Spent = cause.Spent fuel
 cause_of fuel answer.InFault = cause.InFault
 cause_of fuel answer.OutFault = cause.OutFault
 cause_of fuel answer.NoMemory = cause.NoMemory
+
+-- a stop of a module is the fault of the program: its first number is that of the kind, and the place is in one of these texts
+abbrev pub IsFaultOf : Sources → (of_module : Cause) → (of_program : Cause) → Type 0
+IsFaultOf sources (cause.Stopped code site) (cause.Fault kind pos) = (fault_number kind ≡ code) × IsInside sources pos
+IsFaultOf sources _ _ = ⊥
+
+-- the cause of a program of these texts is that of its module, or the fault that a stop of the module is
+abbrev pub IsOfModule : Sources → (of_module : Cause) → (of_program : Cause) → Type 0
+IsOfModule sources of_module of_program = (of_program ≡ of_module) ⊎ IsFaultOf sources of_module of_program

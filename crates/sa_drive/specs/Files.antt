@@ -1,9 +1,8 @@
 -- What a cause says of the files of a program.
-use Rattle.std.specs.Prelude.{◌≡◌, ◌<◌, ◌⊎◌, ⊤, ℕ, List, [], ◌∷◌, codes, length, Option, None, Some}
+use Rattle.std.specs.Prelude.{◌≡◌, ◌<◌, ◌≤◌, ◌⊎◌, ⊤, ℕ, List, [], ◌∷◌, codes, length, slice_index_or, Option, None, Some}
 use Rattle.sa_gen.specs.Generated.{generated}
 use Rattle.sa_tree.specs.declared.pos.Sources.{Sources}
-use Rattle.sa_tree.specs.declared.refusal.FrontFault.{FrontFault}
-use Rattle.sa_tree.specs.declared.refusal.FrontFault.TheVariants.{NoMemory, Refused}
+use Rattle.sa_tree.specs.declared.pos.Pos.{Pos}
 use Rattle.sa_tree.specs.declared.refusal.Refusal.{Refusal}
 use Rattle.sa_outside.specs.Files.{Files}
 use Rattle.sa_prelude.specs.PreludeText.{prelude_text}
@@ -17,22 +16,18 @@ use Rattle.sa_drive.specs.declared.cause.Cause.TheVariants as cause
 abbrev pub IsTakenProgram : Option Files → List (List ℕ) → Sources → Type 0
 IsTakenProgram files names sources = IsReadAs files names sources None × IsTakenUpTo sources.texts (length sources.texts)
 
--- the grammar takes these texts, and the refusal is that of the checker, at a place in one of them
-abbrev pub IsRefusedByRules : List (List ℕ) → Refusal → Type 0
-IsRefusedByRules texts refusal = IsTakenUpTo texts (length texts) × (refusal.pos.file < length texts)
+-- the place is in one of these texts, or at its end
+pub record IsPlaceIn (texts : List (List ℕ)) (pos : Pos) : Type 0 where
+  pub file : pos.file < length texts
+  pub within : pos.at ≤ length (slice_index_or texts pos.file [])
 
--- the refusal is that of these texts: the first by tokens and grammar, or the checker's
+-- the refusal is that of these texts, at a place in one of them: the first by tokens and grammar, or else the checker's
 abbrev pub IsRefusalFor : List (List ℕ) → Refusal → Type 0
-IsRefusalFor texts refusal = IsRefusalOf texts refusal ⊎ IsRefusedByRules texts refusal
+IsRefusalFor texts refusal = (IsRefusalOf texts refusal ⊎ IsTakenUpTo texts (length texts)) × IsPlaceIn texts refusal.pos
 
 -- the refusal is that of the files: they are too large together, or it is that of their texts
 abbrev pub IsRefusedFor : Option Files → List (List ℕ) → Sources → Refusal → Type 0
 IsRefusedFor files names sources refusal = IsReadAs files names sources (Some refusal) ⊎ (IsReadAs files names sources None × IsRefusalFor sources.texts refusal)
-
--- the checker's refusal is in one of so many texts
-abbrev pub IsAmong : ℕ → FrontFault → Type 0
-IsAmong texts (Refused refusal) = refusal.pos.file < texts
-IsAmong texts NoMemory = ⊤
 
 -- why an accepted program has no module
 abbrev pub IsWantOfMemory : Cause → Type 0

@@ -1,16 +1,16 @@
--- What `exec` shows of the run of its module.
-use Rattle.std.specs.Prelude.{◌≡◌, ℕ, ◌%◌, ◌^◌, List, Option, Some, ⊤}
-use Rattle.sa_outside.specs.Files.{Files}
-use Rattle.sa_read.specs.Read.{HasFile}
-use Rattle.sa_words.specs.Line.{Exec, Line}
-use Rattle.wa_run.specs.Outside.{Sides}
+-- What a command shows of the run of a module.
+use Rattle.std.specs.Prelude.{◌≡◌, ◌≤◌, ℕ, ◌%◌, ◌^◌, List, Option, Some}
+use Rattle.sa_outside.specs.Input.{Input}
+use Rattle.wa_run.specs.Answers.{IsTold}
+use Rattle.wa_run.specs.Modules.{SaysOf}
+use Rattle.wa_run.specs.Outside.{sides}
 use Rattle.wa_run.specs.Runs.{HasRun}
 use Rattle.wa_run.specs.declared.answer.Answer.{Answer}
 use Rattle.wa_run.specs.declared.answer.Answer.TheVariants as answer
 use Rattle.wa_run.specs.declared.module_run.Run.{Run}
 use Rattle.sa_drive.specs.Ends.{cause_of}
+use Rattle.sa_drive.specs.Seen.{Failed, Part}
 use Rattle.sa_drive.specs.declared.cause.Cause.{Cause}
-use Rattle.sa_drive.specs.declared.cause.Cause.TheVariants as cause
 use Rattle.sa_drive.specs.declared.exec.Ended.{Ended}
 use Rattle.sa_drive.specs.declared.outcome.Outcome.{Outcome}
 
@@ -23,29 +23,21 @@ done_of _ = 0
 abbrev pub ended_of : ℕ → Run → Ended
 ended_of fuel run = record { cause = cause_of fuel run.answer; done = done_of run.answer; steps = run.steps }
 
--- the outcome has the cause and the status of the run, and its steps where they are told
-pub record Shows (outcome : Outcome) (fuel : ℕ) (run : Run) : Type 0 where
-  pub cause : outcome.cause ≡ cause_of fuel run.answer
+-- the module of these bytes was run with this fuel: by the machine of the standard, on what the input gave, to what out took
+pub record IsRunOf (input : Part Input) (out : Part (List ℕ)) (bytes : List ℕ) (fuel : ℕ) (run : Run) : Type 0 where
+  pub says : SaysOf bytes run.answer
+  pub told : IsTold run.answer (Failed input) (Failed out)
+  pub within : run.steps ≤ fuel
+  pub ran : HasRun bytes fuel run (sides input.before out.before) (sides input.after out.after)
+
+-- the outcome is that of the run: its cause is one by this rule for that of the module, and its status and its steps, where they are
+-- told, are the run's
+pub record Shows (fuel : ℕ) (IsCause : (of_module : Cause) → (told : Cause) → Type 0) (outcome : Outcome) (run : Run) : Type 0 where
+  pub cause : IsCause (cause_of fuel run.answer) outcome.cause
   pub done : outcome.done ≡ done_of run.answer
   pub steps : (steps : ℕ) → outcome.steps ≡ Some steps → steps ≡ run.steps
 
--- the cause is one with which a run of a module ends
-abbrev pub IsOfRun : Cause → Type 0
-IsOfRun cause.Done = ⊤
-IsOfRun (cause.Stopped code site) = ⊤
-IsOfRun (cause.Trap kind) = ⊤
-IsOfRun cause.TooDeep = ⊤
-IsOfRun (cause.Spent steps) = ⊤
-IsOfRun cause.InFault = ⊤
-IsOfRun cause.OutFault = ⊤
-IsOfRun _ = ⊥
-
--- the module in the file was run so: by the machine of the standard, on what the source gave, to what the sink took
-abbrev pub RunsFile : Option Files → (file : List ℕ) → (fuel : ℕ) → (before after : Sides) → Outcome → Type 0
-RunsFile files file fuel before after outcome =
-    IsOfRun outcome.cause → (bytes : List ℕ) × HasFile files file bytes × (run : Run) × Shows outcome fuel run × HasRun bytes fuel run before after
-
--- what a command runs of a file is the module of `exec`
-abbrev pub RunsLine : Option Line → Option Files → (before after : Sides) → Outcome → Type 0
-RunsLine (Some (Exec fuel stats file)) files before after outcome = RunsFile files file fuel before after outcome
-RunsLine _ files before after outcome = ⊤
+-- the module of the outcome was run with this fuel, and the outcome is that of the run
+abbrev pub Ran : Part Input → Part (List ℕ) → ℕ → ((of_module : Cause) → (told : Cause) → Type 0) → Outcome → Type 0
+Ran input out fuel IsCause outcome =
+    (run : Run) × IsRunOf input out outcome.«module».items fuel run × Shows fuel IsCause outcome run

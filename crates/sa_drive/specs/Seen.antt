@@ -1,26 +1,33 @@
--- What a call saw of the outside.
-use Rattle.std.specs.Prelude.{ℕ, Option}
+-- What a call saw of the outside, and what it left of it.
+use Rattle.std.specs.Prelude.{◌≡◌, ℕ, List, Option}
 use Rattle.sa_outside.specs.Faults.{Rose}
 use Rattle.sa_outside.specs.Files.{Files}
+use Rattle.sa_outside.specs.Input.{Input}
 
--- how often something had failed before a call, and after it
-pub record Count : Type 0 where
-  pub before : ℕ
-  pub after : ℕ
+-- what a part of the outside held before a call and holds after it, where it tells, and how often it had failed
+pub record Part (T : Type 0) : Type 0 where
+  pub before : Option T
+  pub after : Option T
+  pub faults_before : ℕ
+  pub faults_after : ℕ
 
-abbrev pub count : ℕ → ℕ → Count
-count before after = record { before = before; after = after }
+-- by what the part holds and how often it has failed, at any time, and as it was before the call and is after it
+abbrev pub part : {X T : Type 0} → (X → Option T) → (X → ℕ) → X → X → Part T
+part holds faults old new = record { before = holds old; after = holds new; faults_before = faults old; faults_after = faults new }
 
 -- it failed in the call
-abbrev pub Failed : Count → Type 0
-Failed count = Rose count.before count.after
+abbrev pub Failed : {T : Type 0} → Part T → Type 0
+Failed part = Rose part.faults_before part.faults_after
 
--- the files that the store had before the call, where it tells, and the faults of the store, the input and out
-pub record Seen : Type 0 where
-  pub files : Option Files
-  pub store : Count
-  pub input : Count
-  pub out : Count
+-- it holds what it held
+abbrev pub IsKept : {T : Type 0} → Part T → Type 0
+IsKept part = part.after ≡ part.before
 
-abbrev pub seen : Option Files → Count → Count → Count → Seen
-seen files store input out = record { files = files; store = store; input = input; out = out }
+-- the files of the store, what the input has left, and what out has taken
+pub record Outside : Type 0 where
+  pub store : Part Files
+  pub input : Part Input
+  pub out : Part (List ℕ)
+
+abbrev pub outside : Part Files → Part Input → Part (List ℕ) → Outside
+outside store input out = record { store = store; input = input; out = out }

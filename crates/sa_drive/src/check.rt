@@ -1,13 +1,12 @@
 //! The command `check`: it is told whether a program is accepted.
 
-ghost use Rattle.std.specs.Prelude.{◌≡◌, [], None, codes, map};
-ghost use Rattle.sa_outside.specs.Output.{Grew, Took};
-ghost use Rattle.sa_drive.specs.Answer.{ComesOfProgram};
-ghost use Rattle.sa_drive.specs.Ends.{ComesBeforeOutput, PrintEnds};
+ghost use Rattle.std.specs.Prelude.{◌≡◌, [], None, map};
+ghost use Rattle.sa_outside.specs.Output.{Grew};
+ghost use Rattle.sa_drive.specs.Answer.{IsChecked};
+ghost use Rattle.sa_drive.specs.Ends.{ComesBeforeOutput};
 ghost use Rattle.sa_drive.specs.Lines.{IsPlaced};
-ghost use Rattle.sa_drive.specs.Seen.{Count, count, seen};
+ghost use Rattle.sa_drive.specs.Seen.{part};
 
-use crate::cause::Cause;
 use crate::compile::{Compiled, Goal, compile_files};
 use crate::outcome::Outcome;
 use crate::print::print;
@@ -25,12 +24,13 @@ pub fn check<'a, S: ReadFiles, O: Sink>(
     store: &mut S,
     out: &mut O,
 ) -> Outcome<'a>
-    ensures comes { (input : Count) → ComesOfProgram (seen (S.files store.old) (count (S.faults store.old) (S.faults store.new)) input (count (O.faults out.old) (O.faults out.new))) (map (λ file. file.now) line.now.files.items) (PrintEnds (seen (S.files store.old) (count (S.faults store.old) (S.faults store.new)) input (count (O.faults out.old) (O.faults out.new)))) result.sources result.cause }
+    ensures does { IsChecked (part S.files S.faults store.old store.new) (part O.output O.faults out.old out.new)
+        (map (λ file. file.now) line.now.files.items) result }
     ensures placed { IsPlaced result.sources result.cause }
-    ensures told { result.steps ≡ None }
+    ensures steps { result.steps ≡ None }
     ensures file { result.file.now ≡ [] }
+    ensures done { result.done ≡ 0 }
     ensures files { S.files store.new ≡ S.files store.old }
-    ensures prints { result.cause ≡ Cause.Done → Took (O.output out.old) (O.output out.new) (codes "accepted\n") }
     ensures output { Grew (O.output out.old) (O.output out.new) }
     ensures untouched { ComesBeforeOutput result.cause → out.new ≡ out.old }
 {
@@ -41,7 +41,7 @@ pub fn check<'a, S: ReadFiles, O: Sink>(
         Goal::Check,
     );
     match module {
-        Ok(_module) => Outcome::without_run(print(ACCEPTED, out), sources, Vec::new(alloc)),
-        Err(cause) => Outcome::without_run(cause, sources, Vec::new(alloc)),
+        Ok(_module) => Outcome::without_module(alloc, print(ACCEPTED, out), sources),
+        Err(cause) => Outcome::without_module(alloc, cause, sources),
     }
 }

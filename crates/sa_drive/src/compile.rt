@@ -1,9 +1,9 @@
 //! A program's module, from its files.
 
-ghost use Rattle.std.specs.Prelude.{◌≡◌, ◌≤◌, ◌<◌, All, length, map, None, IfErr, IfOk, IfSome, MatchResult};
+ghost use Rattle.std.specs.Prelude.{◌≡◌, ◌≤◌, ◌<◌, ◌⊎◌, All, length, map, None, IfErr, IfOk, IfSome, IsTrue, MatchResult};
 ghost use Rattle.sa_outside.specs.Faults.{Rose};
-ghost use Rattle.sa_read.specs.Front.{IsTakenUpTo};
-ghost use Rattle.sa_drive.specs.Files.{ComesOfFiles, ComesOfGenerated, Explains, ExplainsProgram, IsAmong, IsTakenGenerated, IsTakenProgram, IsWantOfMemory, generated_sources};
+ghost use Rattle.sa_read.specs.Front.{IsRefusalOf, IsTakenUpTo};
+ghost use Rattle.sa_drive.specs.Files.{ComesOfFiles, ComesOfGenerated, Explains, ExplainsProgram, IsPlaceIn, IsTakenGenerated, IsTakenProgram, IsWantOfMemory, generated_sources};
 ghost use Rattle.sa_drive.specs.Lines.{IsPlaced};
 
 use crate::cause::Cause;
@@ -14,7 +14,7 @@ use sa_gen::generate;
 use sa_outside::ReadFiles;
 use sa_prelude::text;
 use sa_read::{Program, ReadFault, classes, read_program};
-use sa_tree::{Class, FrontFault, Name, NoMemory, Sources};
+use sa_tree::{Class, FrontFault, Name, NoMemory, Pos, Refusal, Sources};
 use sa_words::ROOM;
 use sqlite_items::Items;
 use std::alloc::Global;
@@ -154,29 +154,39 @@ fn compile(alloc: Global, texts: &[Items<u8>], goal: Goal) -> Result<Built, Caus
 {
     let classes = match classes(alloc, texts) {
         Ok(classes) => classes,
-        Err(FrontFault::Refused(refusal)) => return Err(Cause::Refused(refusal)),
+        Err(FrontFault::Refused(refusal)) => return Err(refused(refusal, texts)),
         Err(FrontFault::NoMemory) => return Err(Cause::NoMemory),
     };
-    match accepted(alloc, classes, texts.len()) {
+    match accepted(alloc, classes) {
         Ok(core) => made(alloc, core, texts, goal),
-        Err(FrontFault::Refused(broken)) => Err(Cause::Refused(broken)),
+        Err(FrontFault::Refused(refusal)) => Err(refused(refusal, texts)),
         Err(FrontFault::NoMemory) => Err(Cause::NoMemory),
     }
 }
 
-/// The typed program of the classes of so many texts, where they are accepted.
-fn accepted(alloc: Global, classes: Items<Class>, texts: usize) -> Result<Core, FrontFault>
-    ensures { IfErr result (IsAmong texts) }
+/// The typed program of these classes, of which nothing is kept.
+fn accepted(alloc: Global, classes: Items<Class>) -> Result<Core, FrontFault> {
+    check(alloc, classes.as_slice())
+}
+
+/// The cause of the refusal of these texts. A refusal at no place in them, which no phase gives, is answered as out of memory.
+fn refused(refusal: Refusal, texts: &[Items<u8>]) -> Cause
+    requires { IsRefusalOf texts.now refusal ⊎ IsTakenUpTo texts.now (length texts.now) }
+    ensures { Explains texts.now result }
 {
-    match check(alloc, classes.as_slice()) {
-        Ok(core) => Ok(core),
-        Err(FrontFault::Refused(refusal)) => {
-            if refusal.pos.file as usize >= texts {
-                return Err(FrontFault::NoMemory);
-            }
-            Err(FrontFault::Refused(refusal))
-        }
-        Err(FrontFault::NoMemory) => Err(FrontFault::NoMemory),
+    if is_in(texts, refusal.pos) {
+        return Cause::Refused(refusal);
+    }
+    Cause::NoMemory
+}
+
+/// Whether a place is in one of these texts, or at its end.
+fn is_in(texts: &[Items<u8>], pos: Pos) -> bool
+    ensures { IsTrue result → IsPlaceIn texts.now pos }
+{
+    match texts.get(pos.file as usize) {
+        Some(text) => pos.at as usize <= text.len(),
+        None => false,
     }
 }
 

@@ -1,16 +1,14 @@
 //! The command `exec`: a module is read from its file and run.
 
-ghost use Rattle.std.specs.Prelude.{◌≡◌, ◌<◌, ◌&&◌, ℕ, None, Some, Option, is_some, length};
-ghost use Rattle.sa_outside.specs.Files.{Files};
+ghost use Rattle.std.specs.Prelude.{◌≡◌, ◌<◌, ◌&&◌, ℕ, [], None, Some, is_some, length};
 ghost use Rattle.sa_outside.specs.Output.{Grew};
-ghost use Rattle.sa_drive.specs.Answer.{ComesOfModule, has_steps};
-ghost use Rattle.sa_drive.specs.Ends.{ComesBeforeOutput, RunEnds, cause_of};
+ghost use Rattle.sa_drive.specs.Answer.{IsExecuted, has_steps};
+ghost use Rattle.sa_drive.specs.Ends.{ComesBeforeOutput, cause_of};
 ghost use Rattle.sa_drive.specs.Lines.{IsPlaced};
-ghost use Rattle.sa_drive.specs.Runs.{RunsFile, done_of, ended_of};
-ghost use Rattle.sa_drive.specs.Seen.{Count, count, seen};
-ghost use Rattle.wa_run.specs.Outside.{sides};
-ghost use Rattle.wa_run.specs.Modules.{SaysOf};
-ghost use Rattle.wa_run.specs.Runs.{HasRun};
+ghost use Rattle.sa_drive.specs.Runs.{IsRunOf, done_of, ended_of};
+ghost use Rattle.sa_drive.specs.Seen.{part};
+ghost use Rattle.sa_tree.specs.declared.pos.Sources.{Sources as Places};
+ghost use Rattle.wa_run.specs.Answers.{IsBeforeRun};
 ghost use Rattle.wa_run.specs.declared.module_run.Run.{Run as Runs};
 
 use crate::cause::Cause;
@@ -49,6 +47,7 @@ impl Ended {
         ensures cause { result.cause ≡ self.cause }
         ensures sources { result.sources ≡ sources }
         ensures file { result.file.now ≡ file.entry.now }
+        ensures bytes { result.«module».items ≡ «module».items }
         ensures done { result.done ≡ self.done }
         ensures steps { (steps : ℕ) → result.steps ≡ Some steps → steps ≡ self.steps }
         ensures told { is_some result.steps ≡ (stats && has_steps self.cause) }
@@ -83,39 +82,34 @@ pub fn exec<'a, S: ReadFiles, I: Source, O: Sink>(
     input: &mut I,
     out: &mut O,
 ) -> Outcome<'a>
-    ensures comes { ComesOfModule (seen (S.files store.old) (count (S.faults store.old) (S.faults store.new)) (count (I.faults input.old) (I.faults input.new)) (count (O.faults out.old) (O.faults out.new))) line.now.«module».now line.now.fuel result.cause }
-    ensures runs { RunsFile (S.files store.old) line.now.«module».now line.now.fuel (sides (I.input input.old) (O.output out.old)) (sides (I.input input.new) (O.output out.new)) result }
+    ensures does { IsExecuted (part S.files S.faults store.old store.new) (part I.input I.faults input.old input.new)
+        (part O.output O.faults out.old out.new) line.now.fuel line.now.«module».now result }
     ensures placed { IsPlaced result.sources result.cause }
-    ensures told { is_some result.steps ≡ (line.now.stats && has_steps result.cause) }
+    ensures steps { is_some result.steps ≡ (line.now.stats && has_steps result.cause) }
     ensures file { result.file.now ≡ line.now.«module».now }
     ensures files { S.files store.new ≡ S.files store.old }
     ensures output { Grew (O.output out.old) (O.output out.new) }
-    ensures untouched { ComesBeforeOutput result.cause → out.new ≡ out.old }
+    ensures untouched { ComesBeforeOutput result.cause → (out.new ≡ out.old) × (input.new ≡ input.old) }
 {
     match read_file(alloc, store, line.module, MOST_MODULE_BYTES) {
         Ok(Read::Whole(bytes)) => {
             let ended = run_module(alloc, bytes.as_slice(), line.fuel, input, out);
             ended.outcome(no_sources(alloc), line.module, bytes, line.stats)
         }
-        Ok(Read::Cut(_bytes)) => without_module(alloc, line.module, Cause::Malformed),
-        Err(fault) => without_module(alloc, line.module, unread(fault)),
+        Ok(Read::Cut(_bytes)) => without_file(alloc, line.module, Cause::Malformed),
+        Err(fault) => without_file(alloc, line.module, unread(fault)),
     }
 }
 
 /// The outcome where no module was read.
-fn without_module<'a>(alloc: Global, file: &'a str, cause: Cause) -> Outcome<'a>
+fn without_file<'a>(alloc: Global, file: &'a str, cause: Cause) -> Outcome<'a>
     ensures cause { result.cause ≡ cause }
     ensures file { result.file.now ≡ file.entry.now }
+    ensures bytes { result.«module».items ≡ [] }
     ensures steps { result.steps ≡ None }
 {
-    Outcome {
-        cause,
-        done: 0,
-        sources: no_sources(alloc),
-        file,
-        module: Vec::new(alloc),
-        steps: None,
-    }
+    let outcome = Outcome::without_module(alloc, cause, no_sources(alloc));
+    Outcome { file, ..outcome }
 }
 
 /// Runs the module of these bytes.
@@ -127,22 +121,25 @@ pub fn run_module<I: Source, O: Sink>(
     out: &mut O,
 ) -> Ended
     requires { length bytes.now < 4294967295 }
-    ensures answered { (run : Runs) × (result ≡ ended_of fuel run) × SaysOf bytes.now run.answer × HasRun bytes.now fuel run (sides (I.input input.old) (O.output out.old)) (sides (I.input input.new) (O.output out.new)) }
-    ensures ends { (files : Option Files) (store : Count) → RunEnds (seen files store (count (I.faults input.old) (I.faults input.new)) (count (O.faults out.old) (O.faults out.new))) fuel result.cause }
+    ensures ran { (run : Runs) × (result ≡ ended_of fuel run) × IsRunOf (part I.input I.faults input.old input.new)
+        (part O.output O.faults out.old out.new) bytes.now fuel run }
+    ensures placed { (sources : Places) → IsPlaced sources result.cause }
     ensures output { Grew (O.output out.old) (O.output out.new) }
-    ensures untouched { ComesBeforeOutput result.cause → out.new ≡ out.old }
+    ensures untouched { ComesBeforeOutput result.cause → (out.new ≡ out.old) × (input.new ≡ input.old) }
 {
     let run = run_bytes(alloc, bytes, fuel, input, out);
     Ended {
         cause: cause_of(run.answer, fuel),
-        done: status_of(run.answer),
+        done: done_of(run.answer),
         steps: run.steps,
     }
 }
 
 /// The cause of an answer.
 fn cause_of(answer: Answer, fuel: u64) -> Cause
-    ensures { result ≡ cause_of fuel answer }
+    ensures value { result ≡ cause_of fuel answer }
+    ensures before { ComesBeforeOutput result → IsBeforeRun answer }
+    ensures placed { (sources : Places) → IsPlaced sources result }
 {
     match answer {
         Answer::Malformed => Cause::Malformed,
@@ -161,7 +158,7 @@ fn cause_of(answer: Answer, fuel: u64) -> Cause
 }
 
 /// The status of a module that ended: the low 8 bits of what `main` returned, and 0 where it returned nothing.
-fn status_of(answer: Answer) -> u8
+fn done_of(answer: Answer) -> u8
     ensures { result ≡ done_of answer }
 {
     match answer {

@@ -4,6 +4,7 @@ ghost use Rattle.std.specs.Prelude.{◌≡◌, [], None};
 
 use crate::cause::Cause;
 use sa_tree::Sources;
+use std::alloc::Global;
 
 /// How a command ended, and what is told of it.
 #[derive(Drop)]
@@ -25,6 +26,7 @@ impl<'a> Outcome<'a> {
     /// The outcome of a command that has run no module.
     pub fn without_run(cause: Cause, sources: Sources, module: Vec<u8>) -> Outcome<'a>
         ensures cause { result.cause ≡ cause }
+        ensures done { result.done ≡ 0 }
         ensures sources { result.sources ≡ sources }
         ensures bytes { result.«module».items ≡ «module».items }
         ensures file { result.file.now ≡ [] }
@@ -38,5 +40,17 @@ impl<'a> Outcome<'a> {
             module,
             steps: None,
         }
+    }
+
+    /// The outcome of a command that has made and read no module.
+    pub fn without_module(alloc: Global, cause: Cause, sources: Sources) -> Outcome<'a>
+        ensures cause { result.cause ≡ cause }
+        ensures done { result.done ≡ 0 }
+        ensures sources { result.sources ≡ sources }
+        ensures bytes { result.«module».items ≡ [] }
+        ensures file { result.file.now ≡ [] }
+        ensures steps { result.steps ≡ None }
+    {
+        Outcome::without_run(cause, sources, Vec::new(alloc))
     }
 }

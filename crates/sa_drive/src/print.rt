@@ -1,12 +1,12 @@
 //! The command `gen`: the text of a generated program is put on out.
 
-ghost use Rattle.std.specs.Prelude.{◌≡◌, [], None, Option};
+ghost use Rattle.std.specs.Prelude.{◌≡◌, [], None};
 ghost use Rattle.sa_gen.specs.Generated.{generated};
-ghost use Rattle.sa_outside.specs.Files.{Files};
-ghost use Rattle.sa_outside.specs.Output.{Grew, Took};
-ghost use Rattle.sa_drive.specs.Ends.{ComesBeforeOutput, PrintEnds};
+ghost use Rattle.sa_outside.specs.Output.{Grew};
+ghost use Rattle.sa_drive.specs.Answer.{IsGenerated};
+ghost use Rattle.sa_drive.specs.Ends.{ComesBeforeOutput, IsPrinted};
 ghost use Rattle.sa_drive.specs.Lines.{IsPlaced};
-ghost use Rattle.sa_drive.specs.Seen.{Count, count, seen};
+ghost use Rattle.sa_drive.specs.Seen.{part};
 
 use crate::cause::Cause;
 use crate::compile::no_sources;
@@ -17,22 +17,21 @@ use std::alloc::Global;
 
 /// Puts the text of the generated program of so many classes on out.
 pub fn print_generated<'a, O: Sink>(alloc: Global, classes: u32, out: &mut O) -> Outcome<'a>
-    ensures ends { (files : Option Files) (store input : Count) → PrintEnds (seen files store input (count (O.faults out.old) (O.faults out.new))) result.cause }
+    ensures does { IsGenerated (part O.output O.faults out.old out.new) classes result }
     ensures placed { IsPlaced result.sources result.cause }
-    ensures told { result.steps ≡ None }
+    ensures steps { result.steps ≡ None }
     ensures file { result.file.now ≡ [] }
-    ensures prints { result.cause ≡ Cause.Done → Took (O.output out.old) (O.output out.new) (generated classes) }
+    ensures done { result.done ≡ 0 }
     ensures output { Grew (O.output out.old) (O.output out.new) }
     ensures later { ComesBeforeOutput result.cause → ⊥ }
 {
     let cause = generate_on(alloc, classes, out);
-    Outcome::without_run(cause, no_sources(alloc), Vec::new(alloc))
+    Outcome::without_module(alloc, cause, no_sources(alloc))
 }
 
 /// The cause after the text of the generated program was put on out, or wasn't.
 fn generate_on<O: Sink>(alloc: Global, classes: u32, out: &mut O) -> Cause
-    ensures ends { (files : Option Files) (store input : Count) → PrintEnds (seen files store input (count (O.faults out.old) (O.faults out.new))) result }
-    ensures prints { result ≡ Cause.Done → Took (O.output out.old) (O.output out.new) (generated classes) }
+    ensures printed { IsPrinted (part O.output O.faults out.old out.new) (generated classes) result }
     ensures output { Grew (O.output out.old) (O.output out.new) }
     ensures later { ComesBeforeOutput result → ⊥ }
 {
@@ -44,8 +43,7 @@ fn generate_on<O: Sink>(alloc: Global, classes: u32, out: &mut O) -> Cause
 
 /// The cause after these bytes were put on out, or weren't.
 pub fn print<O: Sink>(bytes: &[u8], out: &mut O) -> Cause
-    ensures ends { (files : Option Files) (store input : Count) → PrintEnds (seen files store input (count (O.faults out.old) (O.faults out.new))) result }
-    ensures prints { result ≡ Cause.Done → Took (O.output out.old) (O.output out.new) bytes.now }
+    ensures printed { IsPrinted (part O.output O.faults out.old out.new) bytes.now result }
     ensures output { Grew (O.output out.old) (O.output out.new) }
     ensures later { ComesBeforeOutput result → ⊥ }
 {

@@ -1,11 +1,10 @@
 //! What is put on err at the end of a call.
 
-ghost use Rattle.std.specs.Prelude.{◌≡◌, ◌≢◌, ◌⊎◌, ◌≤◌};
-ghost use Rattle.sa_outside.specs.Faults.{Rose};
+ghost use Rattle.std.specs.Prelude.{◌≡◌, ◌≢◌, ◌⊎◌};
 ghost use Rattle.sa_outside.specs.Output.{TookFront};
 ghost use Rattle.sa_drive.specs.Lines.{IsPlaced, lines_of};
-ghost use Rattle.sa_drive.specs.Report.{Tells};
-ghost use Rattle.sa_drive.specs.declared.cause.Cause.{Cause as Causes};
+ghost use Rattle.sa_drive.specs.Report.{Tells, TellsPart};
+ghost use Rattle.sa_drive.specs.Seen.{part};
 
 use crate::cause::Cause;
 use crate::lines::{NO_MEMORY, lines};
@@ -18,9 +17,8 @@ use std::alloc::{AllocError, Global};
 pub fn report<E: Sink>(alloc: Global, outcome: &Outcome<'_>, err: &mut E) -> Cause
     requires { IsPlaced outcome.now.sources outcome.now.cause }
     ensures stands { (result ≡ Cause.NoMemory) ⊎ (result ≡ outcome.now.cause) }
-    ensures told { result ≢ Cause.NoMemory → Tells (E.output err.old) (E.output err.new) (E.faults err.old) (E.faults err.new) (lines_of outcome.now result) }
-    ensures told_part { result ≡ Cause.NoMemory → (told : Causes) × TookFront (E.output err.old) (E.output err.new) (lines_of outcome.now told) }
-    ensures count { E.faults err.old ≤ E.faults err.new }
+    ensures told { result ≢ Cause.NoMemory → Tells (part E.output E.faults err.old err.new) (lines_of outcome.now result) }
+    ensures told_part { result ≡ Cause.NoMemory → TellsPart (part E.output E.faults err.old err.new) outcome.now }
 {
     match lines(alloc, outcome) {
         Ok(lines) => tell(lines.as_slice(), outcome.cause, err),
@@ -31,9 +29,8 @@ pub fn report<E: Sink>(alloc: Global, outcome: &Outcome<'_>, err: &mut E) -> Cau
 /// Puts the line on err, and gives the cause, or want of memory where err has none.
 fn tell<E: Sink>(line: &[u8], cause: Cause, err: &mut E) -> Cause
     ensures stands { (result ≡ Cause.NoMemory) ⊎ (result ≡ cause) }
-    ensures told { result ≢ Cause.NoMemory → Tells (E.output err.old) (E.output err.new) (E.faults err.old) (E.faults err.new) line.now }
+    ensures told { result ≢ Cause.NoMemory → Tells (part E.output E.faults err.old err.new) line.now }
     ensures told_part { TookFront (E.output err.old) (E.output err.new) line.now }
-    ensures count { E.faults err.old ≤ E.faults err.new }
 {
     match err.put(line) {
         Ok(()) => cause,

@@ -1,12 +1,12 @@
 //! The command `run`: a program is compiled, and its module's bytes are run.
 
-ghost use Rattle.std.specs.Prelude.{◌≡◌, ◌<◌, ◌&&◌, ℕ, [], Option, is_some, length, map, IsTrue};
-ghost use Rattle.sa_outside.specs.Files.{Files};
+ghost use Rattle.std.specs.Prelude.{◌≡◌, ◌<◌, ◌&&◌, [], is_some, length, map, IsTrue};
 ghost use Rattle.sa_outside.specs.Output.{Grew};
-ghost use Rattle.sa_drive.specs.Answer.{ComesOfProgram, has_steps};
-ghost use Rattle.sa_drive.specs.Ends.{ComesBeforeOutput, ProgramEnds, RunEnds};
+ghost use Rattle.sa_drive.specs.Answer.{IsRun, has_steps};
+ghost use Rattle.sa_drive.specs.Ends.{ComesBeforeOutput, IsOfModule};
 ghost use Rattle.sa_drive.specs.Lines.{IsInside, IsPlaced};
-ghost use Rattle.sa_drive.specs.Seen.{Count, Seen, count, seen};
+ghost use Rattle.sa_drive.specs.Runs.{Ran};
+ghost use Rattle.sa_drive.specs.Seen.{part};
 
 use crate::cause::Cause;
 use crate::compile::{Compiled, Goal, compile_files};
@@ -26,19 +26,20 @@ pub fn run<'a, S: ReadFiles, I: Source, O: Sink>(
     input: &mut I,
     out: &mut O,
 ) -> Outcome<'a>
-    ensures comes { ComesOfProgram (seen (S.files store.old) (count (S.faults store.old) (S.faults store.new)) (count (I.faults input.old) (I.faults input.new)) (count (O.faults out.old) (O.faults out.new))) (map (λ file. file.now) line.now.files.items) (ProgramEnds (seen (S.files store.old) (count (S.faults store.old) (S.faults store.new)) (count (I.faults input.old) (I.faults input.new)) (count (O.faults out.old) (O.faults out.new))) line.now.fuel) result.sources result.cause }
+    ensures does { IsRun (part S.files S.faults store.old store.new) (part I.input I.faults input.old input.new)
+        (part O.output O.faults out.old out.new) line.now.fuel (map (λ file. file.now) line.now.files.items) result }
     ensures placed { IsPlaced result.sources result.cause }
-    ensures told { is_some result.steps ≡ (line.now.stats && has_steps result.cause) }
+    ensures steps { is_some result.steps ≡ (line.now.stats && has_steps result.cause) }
     ensures file { result.file.now ≡ [] }
     ensures files { S.files store.new ≡ S.files store.old }
     ensures output { Grew (O.output out.old) (O.output out.new) }
-    ensures untouched { ComesBeforeOutput result.cause → out.new ≡ out.old }
+    ensures untouched { ComesBeforeOutput result.cause → (out.new ≡ out.old) × (input.new ≡ input.old) }
 {
     let goal = Goal::Module(line.room);
     let Compiled { sources, module } = compile_files(alloc, store, line.files.as_slice(), goal);
     match module {
         Ok(built) => run_built(alloc, sources, built, line.fuel, line.stats, input, out),
-        Err(cause) => Outcome::without_run(cause, sources, Vec::new(alloc)),
+        Err(cause) => Outcome::without_module(alloc, cause, sources),
     }
 }
 
@@ -53,13 +54,14 @@ pub fn run_built<'a, I: Source, O: Sink>(
     out: &mut O,
 ) -> Outcome<'a>
     requires { length built.bytes.items < 4294967295 }
-    ensures ends { (files : Option Files) (store : Count) → ProgramEnds (seen files store (count (I.faults input.old) (I.faults input.new)) (count (O.faults out.old) (O.faults out.new))) fuel result.cause }
+    ensures ran { Ran (part I.input I.faults input.old input.new) (part O.output O.faults out.old out.new) fuel
+        (IsOfModule sources) result }
     ensures sources { result.sources ≡ sources }
     ensures placed { IsPlaced result.sources result.cause }
-    ensures told { is_some result.steps ≡ (stats && has_steps result.cause) }
+    ensures steps { is_some result.steps ≡ (stats && has_steps result.cause) }
     ensures file { result.file.now ≡ [] }
     ensures output { Grew (O.output out.old) (O.output out.new) }
-    ensures untouched { ComesBeforeOutput result.cause → out.new ≡ out.old }
+    ensures untouched { ComesBeforeOutput result.cause → (out.new ≡ out.old) × (input.new ≡ input.old) }
 {
     let Built { bytes, sites } = built;
     let ended = run_module(alloc, bytes.as_slice(), fuel, input, out);
@@ -69,9 +71,8 @@ pub fn run_built<'a, I: Source, O: Sink>(
 
 /// The cause of a program whose module ended with this one: where the module stopped, the fault at the position whose number
 /// it told.
-#[tactic(auto, using(crate::proofs::EndLemmas::of_run))]
 fn at_place(cause: Cause, sites: &[Pos], sources: &Sources) -> Cause
-    ensures ends { (s : Seen) (fuel : ℕ) → RunEnds s fuel cause → ProgramEnds s fuel result }
+    ensures of_module { IsOfModule sources.now cause result }
     ensures placed { IsPlaced sources.now cause → IsPlaced sources.now result }
     ensures untouched { ComesBeforeOutput result → ComesBeforeOutput cause }
 {
@@ -84,7 +85,7 @@ fn at_place(cause: Cause, sites: &[Pos], sources: &Sources) -> Cause
 /// The fault of this kind at the position with this number. A stop that tells no kind of a fault or no position of the
 /// program, which no module of a program makes, stays as it is.
 fn fault_at(code: u32, site: u32, sites: &[Pos], sources: &Sources) -> Cause
-    ensures ends { (s : Seen) (fuel : ℕ) → ProgramEnds s fuel result }
+    ensures of_module { IsOfModule sources.now (Cause.Stopped code site) result }
     ensures placed { IsPlaced sources.now result }
     ensures later { ComesBeforeOutput result → ⊥ }
 {

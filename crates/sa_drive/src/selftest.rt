@@ -1,12 +1,12 @@
 //! The command `selftest`: a generated program is compiled and run, and it is told what came of it.
 
-ghost use Rattle.std.specs.Prelude.{◌≡◌, ◌<◌, ℕ, [], Option, IfOk, false, is_some, length};
-ghost use Rattle.sa_outside.specs.Files.{Files};
-ghost use Rattle.sa_outside.specs.Output.{Grew, Took};
-ghost use Rattle.sa_drive.specs.Answer.{ComesOfSelftest};
-ghost use Rattle.sa_drive.specs.Ends.{ComesBeforeOutput, PrintEnds, SelftestEnds};
+ghost use Rattle.std.specs.Prelude.{◌≡◌, ◌<◌, [], IfOk, false, is_some, length};
+ghost use Rattle.sa_outside.specs.Output.{Grew};
+ghost use Rattle.sa_drive.specs.Answer.{IsRunApart, IsTested};
+ghost use Rattle.sa_drive.specs.Ends.{ComesBeforeOutput, IsPrinted};
+ghost use Rattle.sa_drive.specs.Files.{IsTakenGenerated};
 ghost use Rattle.sa_drive.specs.Lines.{IsPlaced, selftest_line};
-ghost use Rattle.sa_drive.specs.Seen.{Count, count, seen};
+ghost use Rattle.sa_drive.specs.Seen.{part};
 
 use crate::cause::Cause;
 use crate::compile::{Compiled, compile_generated};
@@ -22,18 +22,18 @@ use std::alloc::{AllocError, Global};
 /// Compiles and runs the generated program of so many classes. Where it ends, the number of bytes that it put out and its
 /// status are told on out; what it put out isn't.
 pub fn selftest<'a, O: Sink>(alloc: Global, classes: u32, out: &mut O) -> Outcome<'a>
-    ensures comes { (files : Option Files) (store input : Count) → ComesOfSelftest (seen files store input (count (O.faults out.old) (O.faults out.new))) classes result.sources result.cause }
+    ensures does { IsTested (part O.output O.faults out.old out.new) classes result }
     ensures placed { IsPlaced result.sources result.cause }
-    ensures told { is_some result.steps ≡ false }
+    ensures steps { is_some result.steps ≡ false }
     ensures file { result.file.now ≡ [] }
-    ensures prints { result.cause ≡ Cause.Done → (bytes status : ℕ) × Took (O.output out.old) (O.output out.new) (selftest_line classes bytes status) }
+    ensures done { result.cause ≡ Cause.Done → result.done ≡ 0 }
     ensures output { Grew (O.output out.old) (O.output out.new) }
     ensures untouched { ComesBeforeOutput result.cause → out.new ≡ out.old }
 {
     let Compiled { sources, module } = compile_generated(alloc, classes);
     match module {
         Ok(built) => run_apart(alloc, classes, sources, built, out),
-        Err(cause) => Outcome::without_run(cause, sources, Vec::new(alloc)),
+        Err(cause) => Outcome::without_module(alloc, cause, sources),
     }
 }
 
@@ -45,13 +45,13 @@ fn run_apart<'a, O: Sink>(
     built: Built,
     out: &mut O,
 ) -> Outcome<'a>
-    requires { length built.bytes.items < 4294967295 }
-    ensures ends { (files : Option Files) (store input : Count) → SelftestEnds (seen files store input (count (O.faults out.old) (O.faults out.new))) result.cause }
-    ensures sources { result.sources ≡ sources }
+    requires size { length built.bytes.items < 4294967295 }
+    requires taken { IsTakenGenerated classes sources }
+    ensures ran { IsRunApart (part O.output O.faults out.old out.new) classes result }
     ensures placed { IsPlaced result.sources result.cause }
-    ensures told { is_some result.steps ≡ false }
+    ensures steps { is_some result.steps ≡ false }
     ensures file { result.file.now ≡ [] }
-    ensures prints { result.cause ≡ Cause.Done → (bytes status : ℕ) × Took (O.output out.old) (O.output out.new) (selftest_line classes bytes status) }
+    ensures done { result.cause ≡ Cause.Done → result.done ≡ 0 }
     ensures output { Grew (O.output out.old) (O.output out.new) }
     ensures untouched { ComesBeforeOutput result.cause → out.new ≡ out.old }
 {
@@ -78,8 +78,7 @@ fn run_apart<'a, O: Sink>(
 
 /// The cause after the line of a selftest was put on out, or wasn't.
 fn tell<O: Sink>(alloc: Global, classes: u32, bytes: u64, status: u8, out: &mut O) -> Cause
-    ensures ends { (files : Option Files) (store input : Count) → PrintEnds (seen files store input (count (O.faults out.old) (O.faults out.new))) result }
-    ensures prints { result ≡ Cause.Done → Took (O.output out.old) (O.output out.new) (selftest_line classes bytes status) }
+    ensures printed { IsPrinted (part O.output O.faults out.old out.new) (selftest_line classes bytes status) result }
     ensures output { Grew (O.output out.old) (O.output out.new) }
     ensures later { ComesBeforeOutput result → ⊥ }
 {

@@ -1,17 +1,13 @@
 //! The top call.
 
-ghost use Rattle.std.specs.Prelude.{◌≡◌, ◌≢◌, ◌⊎◌, ◌&&◌, [], None, Some, is_some, map, string_bytes};
-ghost use Rattle.sa_outside.specs.Output.{Grew, TookFront};
+ghost use Rattle.std.specs.Prelude.{◌≡◌, ◌≢◌, ◌&&◌, [], None, Some, is_some, map, string_bytes};
+ghost use Rattle.sa_outside.specs.Output.{Grew};
 ghost use Rattle.sa_words.specs.Line.{line_in, line_of};
-ghost use Rattle.sa_drive.specs.Answer.{ComesOf, ComesOfLine, IsTold, LeavesFiles, Prints, TakesNoInput, asks_stats, has_steps, module_file};
+ghost use Rattle.sa_drive.specs.Answer.{Does, IsTellable, Obeys, PrintsNone, ReadsNone, RunsNone, WritesNone, asks_stats, has_steps, module_file};
 ghost use Rattle.sa_drive.specs.Ends.{ComesBeforeOutput};
-ghost use Rattle.sa_drive.specs.Lines.{IsPlaced, lines_of};
-ghost use Rattle.sa_drive.specs.Report.{Tells};
-ghost use Rattle.sa_drive.specs.Runs.{RunsLine};
-ghost use Rattle.sa_drive.specs.Seen.{count, seen};
-ghost use Rattle.sa_drive.specs.Status.{status_of};
-ghost use Rattle.wa_run.specs.Outside.{sides};
-ghost use Rattle.sa_drive.specs.declared.cause.Cause.{Cause as Causes};
+ghost use Rattle.sa_drive.specs.Lines.{IsPlaced};
+ghost use Rattle.sa_drive.specs.Report.{IsExitOf};
+ghost use Rattle.sa_drive.specs.Seen.{outside, part};
 ghost use Rattle.sa_drive.specs.declared.outcome.Outcome.{Outcome as Outcomes};
 
 use crate::build::build;
@@ -38,25 +34,26 @@ pub fn sather<S: WriteFiles, I: Source, O: Sink, E: Sink>(
     out: &mut O,
     err: &mut E,
 ) -> Exit
-    // There is an outcome that says where the cause comes from, what the run of the module of `exec` was, and the status at
-    // `Done`, and whose lines err takes, whole unless it fails. They name the module's file of `exec`, and the steps where they
-    // are asked for and the module ended by itself or at its fuel.
-    ensures answer { (outcome : Outcomes) × ComesOf (seen (S.files store.old) (count (S.faults store.old) (S.faults store.new)) (count (I.faults input.old) (I.faults input.new)) (count (O.faults out.old) (O.faults out.new))) (map string_bytes words.now) outcome.sources result.cause × RunsLine (line_in (map string_bytes words.now)) (S.files store.old) (sides (I.input input.old) (O.output out.old)) (sides (I.input input.new) (O.output out.new)) outcome × (result.cause ≡ Cause.Done → result.status ≡ outcome.done) × (result.cause ≢ Cause.NoMemory → (outcome.cause ≡ result.cause) × IsTold (line_in (map string_bytes words.now)) outcome result.cause (Tells (E.output err.old) (E.output err.new) (E.faults err.old) (E.faults err.new))) }
+    // What the words ask for was done with an outcome, by the definition of each command. The exit has its cause, or want of memory,
+    // its status and its module, and err took its lines.
+    ensures answer { (outcome : Outcomes) ×
+        Obeys (outside (part S.files S.faults store.old store.new) (part I.input I.faults input.old input.new)
+        (part O.output O.faults out.old out.new)) (line_in (map string_bytes words.now)) outcome
+        × IsTellable (line_in (map string_bytes words.now)) outcome
+        × IsExitOf outcome (part E.output E.faults err.old err.new) result }
 
-    // With want of memory err takes a front of some cause's lines.
-    ensures told_part { result.cause ≡ Cause.NoMemory → (outcome : Outcomes) × (told : Causes) × TookFront (E.output err.old) (E.output err.new) (lines_of outcome told) }
-    ensures untaken { line_in (map string_bytes words.now) ≡ None → (result.cause ≡ Cause.Usage) ⊎ (result.cause ≡ Cause.NoMemory) }
-    ensures status { result.cause ≢ Cause.Done → result.status ≡ status_of result.cause }
+    // A command that runs no module on the input takes nothing from it, and has the status 0 at `Done`.
+    ensures input { RunsNone (line_in (map string_bytes words.now)) → input.new ≡ input.old }
+    ensures done { RunsNone (line_in (map string_bytes words.now)) → result.cause ≡ Cause.Done → result.status ≡ 0 }
 
-    // `run` and `exec` alone take from the input, and `build` alone writes to the store, under its own name alone.
-    ensures input { TakesNoInput (line_in (map string_bytes words.now)) → input.new ≡ input.old }
-    ensures files { LeavesFiles (line_in (map string_bytes words.now)) result.cause result.«module» (S.files store.old) (S.files store.new) }
+    // `build` alone writes to the store, and no other part of the outside is touched by a command that has nothing to do with it.
+    ensures files { WritesNone (line_in (map string_bytes words.now)) → S.files store.new ≡ S.files store.old }
+    ensures store { ReadsNone (line_in (map string_bytes words.now)) → store.new ≡ store.old }
+    ensures silent { PrintsNone (line_in (map string_bytes words.now)) → out.new ≡ out.old }
 
-    // What out has is behind what it had, and nothing where the cause stands before any output. Where a command that runs no
-    // module of a file has done what it is for, out took its text.
-    ensures prints { result.cause ≡ Cause.Done → Prints (line_in (map string_bytes words.now)) (O.output out.old) (O.output out.new) }
+    // What out has is after what it had. Where the cause stands before any output, nothing is put on out or taken from the input.
     ensures output { Grew (O.output out.old) (O.output out.new) }
-    ensures untouched { ComesBeforeOutput result.cause → out.new ≡ out.old }
+    ensures untouched { ComesBeforeOutput result.cause → (out.new ≡ out.old) × (input.new ≡ input.old) }
 {
     let outcome = obey(alloc, words, store, input, out);
     let cause = report(alloc, &outcome, err);
@@ -79,17 +76,18 @@ fn obey<'a, S: WriteFiles, I: Source, O: Sink>(
     input: &mut I,
     out: &mut O,
 ) -> Outcome<'a>
-    ensures comes { ComesOf (seen (S.files store.old) (count (S.faults store.old) (S.faults store.new)) (count (I.faults input.old) (I.faults input.new)) (count (O.faults out.old) (O.faults out.new))) (map string_bytes words.now) result.sources result.cause }
-    ensures runs { RunsLine (line_in (map string_bytes words.now)) (S.files store.old) (sides (I.input input.old) (O.output out.old)) (sides (I.input input.new) (O.output out.new)) result }
-    ensures untaken { line_in (map string_bytes words.now) ≡ None → (result.cause ≡ Cause.Usage) ⊎ (result.cause ≡ Cause.NoMemory) }
+    ensures obeys { Obeys (outside (part S.files S.faults store.old store.new) (part I.input I.faults input.old input.new)
+        (part O.output O.faults out.old out.new)) (line_in (map string_bytes words.now)) result }
     ensures file { result.cause ≢ Cause.NoMemory → result.file.now ≡ module_file (line_in (map string_bytes words.now)) }
-    ensures told { is_some result.steps ≡ (asks_stats (line_in (map string_bytes words.now)) && has_steps result.cause) }
-    ensures input { TakesNoInput (line_in (map string_bytes words.now)) → input.new ≡ input.old }
-    ensures files { LeavesFiles (line_in (map string_bytes words.now)) result.cause result.«module».items (S.files store.old) (S.files store.new) }
-    ensures prints { result.cause ≡ Cause.Done → Prints (line_in (map string_bytes words.now)) (O.output out.old) (O.output out.new) }
+    ensures steps { is_some result.steps ≡ (asks_stats (line_in (map string_bytes words.now)) && has_steps result.cause) }
     ensures placed { IsPlaced result.sources result.cause }
+    ensures input { RunsNone (line_in (map string_bytes words.now)) → input.new ≡ input.old }
+    ensures done { RunsNone (line_in (map string_bytes words.now)) → result.cause ≡ Cause.Done → result.done ≡ 0 }
+    ensures files { WritesNone (line_in (map string_bytes words.now)) → S.files store.new ≡ S.files store.old }
+    ensures store { ReadsNone (line_in (map string_bytes words.now)) → store.new ≡ store.old }
+    ensures silent { PrintsNone (line_in (map string_bytes words.now)) → out.new ≡ out.old }
     ensures output { Grew (O.output out.old) (O.output out.new) }
-    ensures untouched { ComesBeforeOutput result.cause → out.new ≡ out.old }
+    ensures untouched { ComesBeforeOutput result.cause → (out.new ≡ out.old) × (input.new ≡ input.old) }
 {
     let command = match command_of(alloc, words) {
         Ok(command) => command,
@@ -107,16 +105,18 @@ fn do_command<'a, S: WriteFiles, I: Source, O: Sink>(
     input: &mut I,
     out: &mut O,
 ) -> Outcome<'a>
-    ensures comes { ComesOfLine (seen (S.files store.old) (count (S.faults store.old) (S.faults store.new)) (count (I.faults input.old) (I.faults input.new)) (count (O.faults out.old) (O.faults out.new))) (line_of command.entry) result.sources result.cause }
-    ensures runs { RunsLine (Some (line_of command.entry)) (S.files store.old) (sides (I.input input.old) (O.output out.old)) (sides (I.input input.new) (O.output out.new)) result }
+    ensures does { Does (outside (part S.files S.faults store.old store.new) (part I.input I.faults input.old input.new)
+        (part O.output O.faults out.old out.new)) (line_of command.entry) result }
     ensures file { result.file.now ≡ module_file (Some (line_of command.entry)) }
-    ensures told { is_some result.steps ≡ (asks_stats (Some (line_of command.entry)) && has_steps result.cause) }
-    ensures input { TakesNoInput (Some (line_of command.entry)) → input.new ≡ input.old }
-    ensures files { LeavesFiles (Some (line_of command.entry)) result.cause result.«module».items (S.files store.old) (S.files store.new) }
-    ensures prints { result.cause ≡ Cause.Done → Prints (Some (line_of command.entry)) (O.output out.old) (O.output out.new) }
+    ensures steps { is_some result.steps ≡ (asks_stats (Some (line_of command.entry)) && has_steps result.cause) }
     ensures placed { IsPlaced result.sources result.cause }
+    ensures input { RunsNone (Some (line_of command.entry)) → input.new ≡ input.old }
+    ensures done { RunsNone (Some (line_of command.entry)) → result.cause ≡ Cause.Done → result.done ≡ 0 }
+    ensures files { WritesNone (Some (line_of command.entry)) → S.files store.new ≡ S.files store.old }
+    ensures store { ReadsNone (Some (line_of command.entry)) → store.new ≡ store.old }
+    ensures silent { PrintsNone (Some (line_of command.entry)) → out.new ≡ out.old }
     ensures output { Grew (O.output out.old) (O.output out.new) }
-    ensures untouched { ComesBeforeOutput result.cause → out.new ≡ out.old }
+    ensures untouched { ComesBeforeOutput result.cause → (out.new ≡ out.old) × (input.new ≡ input.old) }
 {
     match command {
         Command::Run(line) => run(alloc, &line, store, input, out),
@@ -131,8 +131,10 @@ fn do_command<'a, S: WriteFiles, I: Source, O: Sink>(
 /// The outcome where the words give no command.
 fn without_command<'a>(alloc: Global, cause: Cause) -> Outcome<'a>
     ensures cause { result.cause ≡ cause }
+    ensures done { result.done ≡ 0 }
+    ensures bytes { result.«module».items ≡ [] }
     ensures file { result.file.now ≡ [] }
     ensures steps { result.steps ≡ None }
 {
-    Outcome::without_run(cause, no_sources(alloc), Vec::new(alloc))
+    Outcome::without_module(alloc, cause, no_sources(alloc))
 }

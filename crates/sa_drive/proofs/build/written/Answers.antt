@@ -1,5 +1,6 @@
+use Rattle.std.proofs.Common.{rules}
 use Rattle.sa_drive.proofs.OutputLemmas.{WritesFront-from_writes}
 use Rattle.sa_drive.proofs.build.written.Goals as goal
 
-pub returns-in-Ok-clause-files : goal.returns-in-Ok-clause-files
-returns-in-Ok-clause-files g c = WritesFront-from_writes _ _ _ _ c.in-Ok.ensures.ok
+pub returns-in-Ok-clause-written : goal.returns-in-Ok-clause-written
+returns-in-Ok-clause-written g c = record { comes = tt; whole = λ done. c.in-Ok.ensures.ok; front = WritesFront-from_writes _ _ _ _ c.in-Ok.ensures.ok }

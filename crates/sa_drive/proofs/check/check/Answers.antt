@@ -1,14 +1,20 @@
-use Rattle.std.proofs.Common.{sym, subst}
-use Rattle.sa_drive.specs.Ends.{PrintEnds}
+use Rattle.std.proofs.Common.{inl, inr, refl, subst, sym}
 use Rattle.sa_drive.specs.Lines.{IsPlaced}
-use Rattle.sa_drive.specs.Seen.{count, seen}
-use Rattle.sa_drive.proofs.EndLemmas.{of_module, placed_print}
+use Rattle.sa_drive.proofs.EndLemmas.{given_none, placed_print, taken_of}
 use Rattle.sa_drive.proofs.check.check.Goals as goal
 
-pub returns-in-Ok-clause-comes : goal.returns-in-Ok-clause-comes
-returns-in-Ok-clause-comes g c =
-    λ input. rw (← c.as_slice.ensures.value) (of_module (seen (g.S.ReadFiles.files c.args.store.now) (count (g.S.ReadFiles.faults c.args.store.now) (g.S.ReadFiles.faults c.compile_files-sources.new.store)) input (count (g.O.Sink.faults c.args.out.now) (g.O.Sink.faults c.print.new.out))) _ (PrintEnds (seen (g.S.ReadFiles.files c.args.store.now) (count (g.S.ReadFiles.faults c.args.store.now) (g.S.ReadFiles.faults c.compile_files-sources.new.store)) input (count (g.O.Sink.faults c.args.out.now) (g.O.Sink.faults c.print.new.out)))) _ c.compile_files-sources.result.«module» c.in-Ok._module _ _ _ _ c.in-Ok.is c.compile_files-sources.ensures.«module» c.without_run.ensures.sources c.without_run.ensures.cause (c.print.ensures.ends (g.S.ReadFiles.files c.args.store.now) (count (g.S.ReadFiles.faults c.args.store.now) (g.S.ReadFiles.faults c.compile_files-sources.new.store)) input))
+pub returns-in-Ok-clause-does : goal.returns-in-Ok-clause-does
+returns-in-Ok-clause-does g c =
+    rw (← c.as_slice.ensures.value) (inr (
+      taken_of _ _ _ _ _ _ _ c.in-Ok.is c.compile_files-sources.ensures.«module» c.without_module.ensures.sources,
+      c.without_module.ensures.bytes,
+      rw c.without_module.ensures.cause c.print.ensures.printed,
+    ))
+
+pub returns-in-Err-clause-does : goal.returns-in-Err-clause-does
+returns-in-Err-clause-does g c =
+    rw (← c.as_slice.ensures.value) (inl (given_none _ _ _ _ _ _ c.in-Err.is c.compile_files-sources.ensures.«module» c.compile_files-sources.ensures.files c.without_module-in-Err.ensures.sources c.without_module-in-Err.ensures.cause c.without_module-in-Err.ensures.bytes, refl))
 
 pub returns-in-Ok-clause-placed : goal.returns-in-Ok-clause-placed
 returns-in-Ok-clause-placed g c =
-    subst (IsPlaced c.without_run.result.sources) (sym c.without_run.ensures.cause) (placed_print (seen (g.S.ReadFiles.files c.args.store.now) (count 0 0) (count 0 0) _) c.without_run.result.sources _ (c.print.ensures.ends (g.S.ReadFiles.files c.args.store.now) (count 0 0) (count 0 0)))
+    subst (IsPlaced c.without_module.result.sources) (sym c.without_module.ensures.cause) (placed_print _ c.without_module.result.sources _ c.print.ensures.printed.comes)

@@ -1,6 +1,13 @@
 use Rattle.std.proofs.Common.{◌∙◌, subst}
-use Rattle.sa_outside.specs.Output.{Took}
+use Rattle.sa_drive.specs.Ends.{IsPrinted}
+use Rattle.sa_drive.specs.Seen.{part}
+use Rattle.sa_drive.specs.declared.cause.Cause.TheVariants as cause
+use Rattle.sa_drive.proofs.OutputLemmas.{TookFront-nothing}
 use Rattle.sa_drive.proofs.print.generate_on.Goals as goal
 
-pub returns-in-Ok-clause-prints : goal.returns-in-Ok-clause-prints
-returns-in-Ok-clause-prints g c = λ done. subst (λ text. Took (g.O.Sink.output c.args.out.now) (g.O.Sink.output c.print.new.out) text) (c.as_slice.ensures.value ∙ c.in-Ok.ensures) (c.print.ensures.prints done)
+pub returns-in-Ok-clause-printed : goal.returns-in-Ok-clause-printed
+returns-in-Ok-clause-printed g c =
+    subst (λ text. IsPrinted (part g.O.Sink.output g.O.Sink.faults c.args.out.now c.print.new.out) text c.print.result) (c.as_slice.ensures.value ∙ c.in-Ok.ensures) c.print.ensures.printed
+
+pub returns-in-Err-clause-printed : goal.returns-in-Err-clause-printed
+returns-in-Err-clause-printed g c = record { comes = tt; whole = λ done. cc; front = TookFront-nothing _ _ }

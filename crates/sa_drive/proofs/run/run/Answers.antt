@@ -1,9 +1,15 @@
-use Rattle.std.proofs.Common.{refl}
-use Rattle.sa_drive.specs.Ends.{ProgramEnds}
-use Rattle.sa_drive.specs.Seen.{count, seen}
-use Rattle.sa_drive.proofs.EndLemmas.{of_module}
+use Rattle.std.proofs.Common.{inl, inr, refl, subst, sym}
+use Rattle.sa_drive.proofs.EndLemmas.{given_none, taken_of}
+use Rattle.sa_drive.proofs.RunLemmas.{ran_of}
 use Rattle.sa_drive.proofs.run.run.Goals as goal
 
-pub returns-in-Ok-clause-comes : goal.returns-in-Ok-clause-comes
-returns-in-Ok-clause-comes g c =
-    rw (← c.as_slice.ensures.value) (of_module (seen (g.S.ReadFiles.files c.args.store.now) (count (g.S.ReadFiles.faults c.args.store.now) (g.S.ReadFiles.faults c.compile_files-sources.new.store)) (count (g.I.Source.faults c.args.input.now) (g.I.Source.faults c.run_built.new.input)) (count (g.O.Sink.faults c.args.out.now) (g.O.Sink.faults c.run_built.new.out))) _ (ProgramEnds (seen (g.S.ReadFiles.files c.args.store.now) (count (g.S.ReadFiles.faults c.args.store.now) (g.S.ReadFiles.faults c.compile_files-sources.new.store)) (count (g.I.Source.faults c.args.input.now) (g.I.Source.faults c.run_built.new.input)) (count (g.O.Sink.faults c.args.out.now) (g.O.Sink.faults c.run_built.new.out))) c.args.line.now.fuel) _ c.compile_files-sources.result.«module» c.in-Ok.built _ _ _ _ c.in-Ok.is c.compile_files-sources.ensures.«module» c.run_built.ensures.sources refl (c.run_built.ensures.ends (g.S.ReadFiles.files c.args.store.now) (count (g.S.ReadFiles.faults c.args.store.now) (g.S.ReadFiles.faults c.compile_files-sources.new.store))))
+pub returns-in-Ok-clause-does : goal.returns-in-Ok-clause-does
+returns-in-Ok-clause-does g c =
+    rw (← c.as_slice.ensures.value) (inr (
+      taken_of _ _ _ _ _ _ _ c.in-Ok.is c.compile_files-sources.ensures.«module» c.run_built.ensures.sources,
+      ran_of _ _ _ _ _ c.run_built.ensures.sources c.run_built.ensures.ran,
+    ))
+
+pub returns-in-Err-clause-does : goal.returns-in-Err-clause-does
+returns-in-Err-clause-does g c =
+    rw (← c.as_slice.ensures.value) (inl (given_none _ _ _ _ _ _ c.in-Err.is c.compile_files-sources.ensures.«module» c.compile_files-sources.ensures.files c.without_module.ensures.sources c.without_module.ensures.cause c.without_module.ensures.bytes, refl, refl))

@@ -1,26 +1,42 @@
-use Rattle.std.proofs.Common.{None, rules, subst, sym}
-use Rattle.sa_drive.specs.Ends.{SelftestEnds}
-use Rattle.sa_drive.specs.Lines.{IsPlaced}
-use Rattle.sa_drive.specs.Seen.{count, seen}
-use Rattle.sa_drive.proofs.EndLemmas.{placed_print, selftest_print, selftest_run}
+use Rattle.std.proofs.Common.{◌∙◌, length, refl, rules, subst, sym}
+use Rattle.sa_drive.specs.Ends.{IsPrinted}
+use Rattle.sa_drive.specs.Files.{IsTakenGenerated}
+use Rattle.sa_drive.specs.Lines.{IsPlaced, selftest_line}
+use Rattle.sa_drive.specs.Seen.{part}
+use Rattle.sa_drive.proofs.EndLemmas.{placed_print}
+use Rattle.sa_drive.proofs.RunLemmas.{apart}
 use Rattle.sa_drive.proofs.selftest.run_apart.Goals as goal
 
-pub returns-in-Done-clause-ends : goal.returns-in-Done-clause-ends
-returns-in-Done-clause-ends g c =
-    λ files store input. subst (SelftestEnds (seen files store input (count (g.O.Sink.faults c.args.out.now) (g.O.Sink.faults c.tell-cause.new.out)))) (sym c.without_run.ensures.cause) (selftest_print (seen files store input (count (g.O.Sink.faults c.args.out.now) (g.O.Sink.faults c.tell-cause.new.out))) _ (c.tell-cause.ensures.ends files store input))
+pub returns-in-Done-clause-ran : goal.returns-in-Done-clause-ran
+returns-in-Done-clause-ran g c = record {
+  taken = subst (IsTakenGenerated c.args.classes) (sym (c.without_run.ensures.sources ∙ c.run_built-ran.ensures.sources)) c.requires.taken;
+  ran = c.run_built-ran.result;
+  left = c.run_built-ran.new.input;
+  output = c.run_built-ran.new.out;
+  runs = apart _ _ _ _ _ _ _ _ c.run_built-ran.ensures.sources (search rules) (search rules) c.run_built-ran.ensures.ran;
+  tells = record {
+    sources = c.without_run.ensures.sources;
+    bytes = c.without_run.ensures.bytes;
+    ended = λ done. rw c.without_run.ensures.cause (subst (λ bytes. IsPrinted (part g.O.Sink.output g.O.Sink.faults c.args.out.now c.tell-cause.new.out) (selftest_line c.args.classes (length bytes) c.run_built-ran.result.done) c.tell-cause.result) c.taken.ensures c.tell-cause.ensures.printed);
+    other = λ other. absurd (other c.in-Done.is);
+  };
+}
 
 pub returns-in-Done-clause-placed : goal.returns-in-Done-clause-placed
 returns-in-Done-clause-placed g c =
-    subst (IsPlaced c.without_run.result.sources) (sym c.without_run.ensures.cause) (placed_print (seen None (count 0 0) (count 0 0) _) c.without_run.result.sources _ (c.tell-cause.ensures.ends None (count 0 0) (count 0 0)))
+    subst (IsPlaced c.without_run.result.sources) (sym c.without_run.ensures.cause) (placed_print _ c.without_run.result.sources _ c.tell-cause.ensures.printed.comes)
 
-pub returns : goal.returns
-returns g c = record {
-  ends = λ files store input. selftest_run files store input (count (g.O.Sink.faults c.args.out.now) (g.O.Sink.faults c.args.out.now)) _ (c.run_built-ran.ensures.ends files store);
-  sources = c.run_built-ran.ensures.sources;
-  placed = c.run_built-ran.ensures.placed;
-  told = c.run_built-ran.ensures.told;
-  file = c.run_built-ran.ensures.file;
-  prints = λ done. absurd (c.in_default.not-Done done);
-  output = search rules;
-  untouched = search rules;
+pub returns-clause-ran : goal.returns-clause-ran
+returns-clause-ran g c = record {
+  taken = subst (IsTakenGenerated c.args.classes) (sym c.run_built-ran.ensures.sources) c.requires.taken;
+  ran = c.run_built-ran.result;
+  left = c.run_built-ran.new.input;
+  output = c.run_built-ran.new.out;
+  runs = apart _ _ _ _ _ _ _ _ c.run_built-ran.ensures.sources (search rules) (search rules) c.run_built-ran.ensures.ran;
+  tells = record {
+    sources = refl;
+    bytes = refl;
+    ended = λ done. absurd (c.in_default.not-Done done);
+    other = λ other. (refl, refl);
+  };
 }

@@ -1,7 +1,18 @@
-use Rattle.sa_drive.specs.Seen.{count, seen}
-use Rattle.sa_drive.proofs.EndLemmas.{of_selftest}
+use Rattle.std.proofs.Common.{inl, inr, refl}
+use Rattle.sa_drive.specs.Files.{ComesOfGenerated, IsTakenGenerated}
+use Rattle.sa_drive.proofs.EndLemmas.{of_err, of_ok}
 use Rattle.sa_drive.proofs.selftest.selftest.Goals as goal
 
-pub returns-in-Ok-clause-comes : goal.returns-in-Ok-clause-comes
-returns-in-Ok-clause-comes g c =
-    λ files store input. of_selftest (seen files store input (count (g.O.Sink.faults c.args.out.now) (g.O.Sink.faults c.run_apart.new.out))) c.args.classes _ c.compile_generated-sources.result.«module» c.in-Ok.built _ _ _ c.in-Ok.is c.compile_generated-sources.ensures.«module» c.run_apart.ensures.sources (c.run_apart.ensures.ends files store input)
+pub returns-in-Ok-clause-does : goal.returns-in-Ok-clause-does
+returns-in-Ok-clause-does g c = inr c.run_apart.ensures.ran
+
+pub run_apart-requires-clause-taken : goal.run_apart-requires-clause-taken
+run_apart-requires-clause-taken g c = of_ok (IsTakenGenerated c.args.classes c.compile_generated-sources.result.sources) (ComesOfGenerated c.args.classes c.compile_generated-sources.result.sources) _ _ c.in-Ok.is c.compile_generated-sources.ensures.«module»
+
+pub returns-in-Err-clause-does : goal.returns-in-Err-clause-does
+returns-in-Err-clause-does g c =
+    inl (
+      rw (c.without_module.ensures.sources, c.without_module.ensures.cause) (of_err (IsTakenGenerated c.args.classes c.compile_generated-sources.result.sources) (ComesOfGenerated c.args.classes c.compile_generated-sources.result.sources) _ _ c.in-Err.is c.compile_generated-sources.ensures.«module»),
+      c.without_module.ensures.bytes,
+      refl,
+    )

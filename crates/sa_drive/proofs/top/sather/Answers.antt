@@ -1,30 +1,33 @@
-use Rattle.std.proofs.Common.{◌∙◌, inl, inr, sym}
-use Rattle.sa_drive.proofs.EndLemmas.{reported}
+use Rattle.std.proofs.Common.{◌∙◌, inl, inr, rules, sym}
 use Rattle.sa_drive.proofs.top.sather.Goals.{in-Done, in_default}
 use Rattle.sa_drive.proofs.top.sather.Goals as goal
 
 pub returns-clause-answer : goal.returns-clause-answer
 returns-clause-answer g c = (
   c.obey-outcome.result,
-  reported _ _ _ _ _ c.report-cause.ensures.stands c.obey-outcome.ensures.comes,
-  c.obey-outcome.ensures.runs,
-  elim c.match-cause.branch [
-    | in-Done w ↦ λ done. w.status-is
-    | in_default w ↦ λ done. absurd (w.in_default.not-Done done)
-  ],
-  λ other. elim c.report-cause.ensures.stands [
-    | inl memory ↦ absurd (other memory)
-    | inr same ↦ (sym same, (c.obey-outcome.ensures.file (λ memory. other (same ∙ memory)), rw same c.obey-outcome.ensures.told, c.report-cause.ensures.told other))
-  ],
+  c.obey-outcome.ensures.obeys,
+  record { file = c.obey-outcome.ensures.file; steps = c.obey-outcome.ensures.steps },
+  record {
+    stands = c.report-cause.ensures.stands;
+    done = elim c.match-cause.branch [
+      | in-Done w ↦ λ done. w.status-is
+      | in_default w ↦ λ done. absurd (w.in_default.not-Done done)
+    ];
+    status = elim c.match-cause.branch [
+      | in-Done w ↦ λ other. absurd (other w.in-Done.is)
+      | in_default w ↦ λ other. search rules
+    ];
+    bytes = search rules;
+    told = c.report-cause.ensures.told;
+    told_part = c.report-cause.ensures.told_part;
+  },
 )
 
-pub returns-clause-told_part : goal.returns-clause-told_part
-returns-clause-told_part g c = λ memory.
-    let told = c.report-cause.ensures.told_part memory in
-    (c.obey-outcome.result, told.0, told.1)
-
-pub returns-clause-prints : goal.returns-clause-prints
-returns-clause-prints g c = λ done. elim c.report-cause.ensures.stands [
+pub returns-clause-done : goal.returns-clause-done
+returns-clause-done g c = λ none done. elim c.report-cause.ensures.stands [
   | inl memory ↦ cc
-  | inr same ↦ c.obey-outcome.ensures.prints (sym same ∙ done)
+  | inr same ↦ elim c.match-cause.branch [
+    | in-Done w ↦ w.status-is ∙ c.obey-outcome.ensures.done none (sym same ∙ done)
+    | in_default w ↦ absurd (w.in_default.not-Done done)
+  ]
 ]
