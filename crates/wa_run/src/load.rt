@@ -39,6 +39,7 @@ pub(crate) fn load(alloc: Global, bytes: &[u8]) -> Result<Valid, Answer>
 ///
 /// The answer of [`run_bytes`](crate::run_bytes) where there is no such module: `Malformed`, `Invalid`, `Unlinked`, `Segment`
 /// or `NoMemory`.
+#[tactic(auto, using(crate::proofs::Spelled::says_unstartable, crate::proofs::Spelled::before_unstartable))]
 pub fn runnable(alloc: Global, bytes: &[u8]) -> Result<Valid, Answer>
     requires size { length bytes.now < 4294967295 }
     ensures spelled { IfOk result (SpellsModule bytes.now) }
