@@ -1,5 +1,5 @@
 -- Which ends are alike, and the bound of a small program.
-use Rattle.std.proofs.Common.{◌≡◌, ℕ, List, [], ◌∷◌, Some, None, codes, refl, rules}
+use Rattle.std.proofs.Common.{◌≡◌, List, [], ◌∷◌, get_or, Some, None, codes, refl, ap, arith}
 use Rattle.sa_tree.specs.declared.pos.Pos.{Pos}
 use Rattle.sa_meaning.specs.Run as source
 use Rattle.sa_meaning.specs.Samples as sample
@@ -37,13 +37,19 @@ same-failure = refl
 
 -- another status, another kind and other bytes are other ends
 other-status : ¬ Same places (source.Ended (codes "hi") 4) (halted (machine.Ended (Some 259)))
-other-status same = search rules
+other-status same =
+    let status : 4 ≡ 3 = same.1 in
+    omega (arith, status)
 
 other-kind : ¬ Same places (source.Stopped (codes "hi") 3 there) (halted (machine.Stopped 2 1))
-other-kind same = search rules
+other-kind same =
+    let kind : 3 ≡ 2 = same.1 in
+    omega (arith, kind)
 
 other-bytes : ¬ Same places (source.Ended (codes "ho") 3) (halted (machine.Ended (Some 259)))
-other-bytes same = search rules
+other-bytes same =
+    let second : 111 ≡ 105 = ap (λ bytes. get_or bytes 1 0) same.0 in
+    omega (arith, second)
 
 -- a module that traps or still runs ends like no program, and a program that is stuck or has spent its turns like no module
 no-trap : ¬ Same places (source.Ended (codes "hi") 0) (halted (machine.Trap Unreachable))

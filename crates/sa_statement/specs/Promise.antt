@@ -4,7 +4,7 @@ use Rattle.sa_core.specs.declared.program.Core.{Core}
 use Rattle.sa_core.specs.PositionList.{core_positions}
 use Rattle.sa_meaning.specs.Law.{IsOver, IsPrefix}
 use Rattle.sa_meaning.specs.Program.{program_of}
-use Rattle.sa_meaning.specs.Run.{End, Stuck, output, run}
+use Rattle.sa_meaning.specs.Run.{Stuck, output, run}
 use Rattle.wa_syntax.specs.declared.module.Module.{Module}
 use Rattle.wa_syntax.specs.Binary.{SpellsModule}
 use Rattle.wa_syntax.specs.Machine.{Input, Running}
