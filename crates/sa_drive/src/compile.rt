@@ -169,7 +169,7 @@ fn accepted(alloc: Global, classes: Items<Class>) -> Result<Core, FrontFault> {
     check(alloc, classes.as_slice())
 }
 
-/// The cause of the refusal of these texts. A refusal at no place in them, which no phase gives, is told as want of memory.
+/// The cause of the refusal of these texts. A refusal at no place in them, which no phase gives, is answered as out of memory.
 fn refused(refusal: Refusal, texts: &[Items<u8>]) -> Cause
     requires { IsRefusalOf texts.now refusal ⊎ IsTakenUpTo texts.now (length texts.now) }
     ensures { Explains texts.now result }
