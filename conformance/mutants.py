@@ -1,6 +1,4 @@
 """Makes changed sources and changed modules: texts and bytes that differ in a few places from those that they are made of."""
-import random
-
 import source_reader
 from source_reader import GAP, Refused
 
@@ -94,8 +92,3 @@ def changed_module(rng, module, donor):
             begin = rng.randrange(len(donor))
             changed[at:at] = donor[begin:begin + run]
     return bytes(changed)
-
-
-def seeded(seed, number):
-    """The source of all choices for the input with this number."""
-    return random.Random('%d %d' % (seed, number))

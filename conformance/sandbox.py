@@ -15,12 +15,11 @@ import functools
 import os
 import sys
 
-import binary
 import handmade
 import judges
 import programs
 import report
-from binary import I32, I64, counted, func_type, i32_const, i64_const, indexed, limits, unsigned
+from binary import I32, counted, i32_const, indexed, limits, unsigned
 from handmade import bare, program, put
 from hosts import RUN_JS
 from reader import Reader
@@ -257,9 +256,9 @@ def foreign_modules():
         return Left(lines=b'm: unlinked %d\n' % number, status=126)
 
     def importing(module, name, kind=b'\0\3'):
-        made = program()
+        made = program(memory=False)
         made.imports.append(counted(module) + counted(name) + kind)
-        made.exports = [counted(b'main') + b'\0' + unsigned(4)]
+        made.exports = [counted(b'main') + b'\0' + unsigned(handmade.MAIN + (kind[0] == 0))]
         return made.spelled()
 
     for module, name in ((b'env', b'exit'), (b'env', b'constructor'), (b'env', b'__proto__'), (b'env', b'toString'), (b'env', b'Put'),
@@ -279,7 +278,6 @@ def foreign_modules():
 
 
 FOREVER = b'\x03\x40' + indexed(0x0c, 0) + b'\x0b'
-WIDE = bare(types=[func_type([], [I64])], codes=[counted(b'\0' + i64_const(1) + b'\x0b')])
 
 
 def endless_modules():
@@ -300,22 +298,23 @@ def same_but_for_depth(wanted, left):
     return report.difference(wanted, left)
 
 
+def ways(command, words, options):
+    """The ways in which a module is run, `exec` and the host of Node where that is there, each with its words."""
+    yield 'exec', [command, 'exec', *words, 'm']
+    if judges.has_node():
+        yield 'Node', ['node', RUN_JS, *options, 'm']
+
+
 def try_foreign(command, told, word):
-    """Runs modules of others by `exec` and in the host of Node."""
-    for name, module, wanted in foreign_modules():
-        if word in name:
+    """Runs modules of others by `exec` and in the host of Node, and such that don't end with fuel and with a limit of time."""
+    spent = {'exec': Left(lines=b'fuel spent\n', status=122), 'Node': Left(lines=b'time spent\n', status=122)}
+    tries = [(name, module, {'exec': left, 'Node': left}, [], []) for name, module, left in foreign_modules()]
+    tries += [(name, module, spent, ['--fuel', '1000000'], ['--seconds', '1']) for name, module in endless_modules()]
+    for name, module, wanted, words, options in tries:
+        for way, called in ways(command, words, options) if word in name else ():
             with report.folder_with({'m': module}) as folder:
-                told.count(name + ', exec', same_but_for_depth(wanted, report.run([command, 'exec', 'm'], folder)))
-                if judges.has_node():
-                    told.count(name + ', Node', same_but_for_depth(wanted, report.run(['node', RUN_JS, 'm'], folder)))
-    for name, module in endless_modules():
-        if word in name:
-            with report.folder_with({'m': module}) as folder:
-                left = report.run([command, 'exec', '--fuel', '1000000', 'm'], folder)
-                told.count(name + ', exec with fuel', report.difference(Left(lines=b'fuel spent\n', status=122), left))
-                if judges.has_node():
-                    left = report.run(['node', RUN_JS, '--seconds', '1', 'm'], folder)
-                    told.count(name + ', Node with a limit of time', report.difference(Left(lines=b'time spent\n', status=122), left))
+                left = report.run(called, folder, judges.BUSY * judges.SECONDS)
+            told.count('%s, %s' % (name, way), same_but_for_depth(wanted[way], left))
 
 
 def try_all(command, told, word=''):
