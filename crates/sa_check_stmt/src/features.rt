@@ -91,7 +91,7 @@ fn initialiser(
     name: Pos,
 ) -> Result<ExprCore, FrontFault> {
     let outside = Place::new(view.alloc);
-    let value = typed(view.at(&outside), built, e, Expected::Type(ty))?;
+    let value = typed((&*view).at(&outside), built, e, Expected::Type(ty))?;
     fitting(view, built, value, ty, position(e), name)
 }
 
