@@ -2,6 +2,7 @@ pub mod Bodies
 pub mod Coded
 pub mod Contents
 pub mod Effects
+pub mod Filled
 pub mod Grown
 pub mod Lays
 pub mod Linking
@@ -11,4 +12,3 @@ pub mod Placed
 pub mod Places
 pub mod Resolved
 pub mod Rows
-pub mod Segments

@@ -12,10 +12,12 @@ mod labels;
 mod layout;
 mod number;
 mod op;
+mod segments;
 mod table;
 mod types;
 
 pub use code::{Body, Code};
 pub use instance::{Instance, InstanceFault, PAGE};
 pub use op::{Op, Target};
+pub use segments::segments_fit;
 pub use table::Table;

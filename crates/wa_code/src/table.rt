@@ -44,13 +44,6 @@ impl Table {
         })
     }
 
-    /// How many places there are.
-    pub(crate) fn size(&self) -> usize
-        ensures { result ≡ length self.now }
-    {
-        self.size
-    }
-
     /// Puts a function at a place.
     pub(crate) fn put(&mut self, at: u32, func: u32) -> Result<(), AllocFailed<(u32, u32)>>
         requires { at < length self.old }

@@ -15,4 +15,4 @@ mod state;
 pub use halt::{Halt, StartFault};
 pub use host::Host;
 pub use law::{are_one_run, called};
-pub use machine::Machine;
+pub use machine::{Machine, check_start};

@@ -25,7 +25,7 @@ use crate::state::State;
 use sa_outside::{Sink, Source};
 use std::alloc::Global;
 use std::marker::Model;
-use wa_code::{Code, Instance};
+use wa_code::{Code, Instance, segments_fit};
 use wa_syntax::{Module, NoMemory};
 use wa_valid::Valid;
 
@@ -129,6 +129,26 @@ impl Machine {
         self.steps = outcome.steps;
         self.halt = kept(outcome.halt);
         outcome.halt
+    }
+}
+
+/// Tries whether a machine can be started, without making one.
+///
+/// # Errors
+///
+/// Those of [`Machine::new`].
+pub fn check_start(alloc: Global, v: &Valid) -> Result<(), StartFault>
+    ensures linked { OnOk result (IsLinked v.now) }
+    ensures fit { OnOk result (SegmentsFit v.now) }
+    ensures refused { IfErr result (IsUnstartable v.now) }
+{
+    let module = v.module();
+    imported(alloc, module)?;
+    main_of(module)?;
+    if segments_fit(module) {
+        Ok(())
+    } else {
+        Err(StartFault::Segment)
     }
 }
 

@@ -10,7 +10,7 @@ use Rattle.wa_syntax.specs.declared.module.Module.{Module}
 use Rattle.wa_syntax.specs.Binary.{SpellsModule}
 use Rattle.wa_syntax.specs.Machine.{Input, Halt}
 use Rattle.wa_syntax.specs.Machine as standard
-use Rattle.wa_syntax.specs.Runs.{IsLinked, machine_run}
+use Rattle.wa_syntax.specs.Runs.{IsLinked, SegmentsFit, machine_run}
 use Rattle.wa_syntax.specs.Runs as runs
 use Rattle.wa_syntax.specs.ValidModule.{IsValid}
 use Rattle.wa_code.specs.Laid.{Row}
@@ -19,6 +19,7 @@ use Rattle.wa_exec.specs.declared.halt.Halt as machine
 use Rattle.wa_exec.specs.declared.halt.StartFault.{StartFault}
 use Rattle.wa_exec.specs.declared.halt.StartFault.TheVariants as start
 use Rattle.wa_exec.specs.Goes.{first}
+use Rattle.wa_exec.specs.Links.{IsUnstartable}
 use Rattle.wa_exec.specs.Machines.{Flat, Stands}
 use Rattle.wa_exec.specs.Outside.{Any, Fails, Did, Makes, Sides}
 use Rattle.wa_exec.specs.Reading.{Gave, Reads}
@@ -28,7 +29,7 @@ use Rattle.wa_run.specs.Answers.{IsBeforeRun, answer_of_halt, answer_of_start}
 use Rattle.wa_run.specs.declared.answer.Answer.{Answer}
 use Rattle.wa_run.specs.declared.answer.Answer.TheVariants as answer
 use Rattle.wa_run.specs.declared.module_run.Run.{Run}
-use Rattle.wa_run.specs.Runs.{IsAnswered, IsClosed, IsFront, IsHandedOn, IsRun, Passed, HasRun, HasRunModule, Told, halt_of, input_of}
+use Rattle.wa_run.specs.Runs.{IsAnswered, IsClosed, IsFront, IsHandedOn, IsRun, Passed, HasRun, HasRunModule, Told, ToldModule, halt_of, input_of}
 
 -- ---- what a sink takes
 
@@ -179,11 +180,24 @@ answered-run m answers handed fuel steps answer.InFault h is holds = absurd (non
 answered-run m answers handed fuel steps answer.OutFault h is holds = absurd (none-some h is)
 answered-run m answers handed fuel steps answer.NoMemory h is holds = absurd (none-some h is)
 
-pub run-told : (bytes : List ℕ) (fuel : ℕ) (run : Run) (before after : Sides) → HasRun bytes fuel run before after → Told bytes fuel run before after
-run-told bytes fuel run before after has m given h spelled tells is =
+pub run-told : (m : Module) (fuel : ℕ) (run : Run) (before after : Sides) → HasRunModule m fuel run before after → ToldModule m fuel run before after
+run-told m fuel run before after has given h tells is =
     let reads = told-reads has.answers given after.input (subst (λ (o : Option source.Input). Gave has.answers o after.input) tells has.gave) in
-    let whole = answered-run m has.answers has.handed fuel run.steps run.answer h is (has.holds m spelled) (input_of given) reads.0 reads.1 tt in (
+    let whole = answered-run m has.answers has.handed fuel run.steps run.answer h is has.holds (input_of given) reads.0 reads.1 tt in (
       ap (λ (r : runs.Run). r.halt) whole,
       ap (λ (r : runs.Run). r.steps) whole,
       subst (λ (output : List ℕ). Took before.output after.output output) (sym (ap (λ (r : runs.Run). r.output) whole)) has.took,
     )
+
+-- so of the module that the bytes spell
+pub spelled-told : (bytes : List ℕ) (fuel : ℕ) (run : Run) (before after : Sides) → HasRun bytes fuel run before after → Told bytes fuel run before after
+spelled-told bytes fuel run before after has m spelled =
+    run-told m fuel run before after (record { answers = has.answers; gave = has.gave; handed = has.handed; took = has.took; holds = has.holds m spelled })
+
+-- ---- a module that can be run
+
+-- is started
+pub starts : (m : Module) (fault : StartFault) → IsUnstartable m fault → IsLinked m → SegmentsFit m → IsBeforeRun (answer_of_start fault) → ⊥
+starts m (start.Unlinked import) unstartable linked fit before = none-some import (sym linked ∙ unstartable)
+starts m start.Segment unstartable linked fit before = unstartable.1 fit
+starts m start.NoMemory unstartable linked fit before = before

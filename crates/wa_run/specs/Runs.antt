@@ -78,11 +78,15 @@ abbrev pub input_of : source.Input → Input
 input_of given = record { bytes = given.left; ends = None }
 
 -- the run is that of the standard over the bytes that the source has left, and the sink takes its output
-abbrev pub Told : (bytes : List ℕ) → (fuel : ℕ) → Run → (before after : Sides) → Type 0
-Told bytes fuel run before after =
-    (m : Module) (given : source.Input) (halt : Halt) → SpellsModule bytes m → before.input ≡ Some given → halt_of run.answer ≡ Some halt →
+abbrev pub ToldModule : Module → (fuel : ℕ) → Run → (before after : Sides) → Type 0
+ToldModule m fuel run before after =
+    (given : source.Input) (halt : Halt) → before.input ≡ Some given → halt_of run.answer ≡ Some halt →
     let whole = machine_run m (input_of given) fuel in
     (whole.halt ≡ halt) × (whole.steps ≡ run.steps) × Took before.output after.output whole.output
+
+-- so of the module that the bytes spell
+abbrev pub Told : (bytes : List ℕ) → (fuel : ℕ) → Run → (before after : Sides) → Type 0
+Told bytes fuel run before after = (m : Module) → SpellsModule bytes m → ToldModule m fuel run before after
 
 -- ---- the output that is held at the end
 

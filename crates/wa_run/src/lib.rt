@@ -7,4 +7,5 @@ mod load;
 mod module_run;
 
 pub use answer::Answer;
-pub use module_run::{Run, run_bytes};
+pub use load::runnable;
+pub use module_run::{Run, run_bytes, run_module};

@@ -5,7 +5,7 @@ ghost use Rattle.sa_outside.specs.Faults.{Rose};
 ghost use Rattle.sa_outside.specs.Output.{Grew};
 ghost use Rattle.wa_run.specs.Answers.{IsBeforeRun, IsOutage, IsTold};
 ghost use Rattle.wa_run.specs.Modules.{SaysOf, SaysOfValid};
-ghost use Rattle.wa_run.specs.Runs.{HasRun, HasRunModule, IsClosed, Told};
+ghost use Rattle.wa_run.specs.Runs.{HasRun, HasRunModule, IsClosed, Told, ToldModule};
 ghost use Rattle.wa_code.specs.Codes.{row_of};
 ghost use Rattle.wa_exec.specs.Goes.{first};
 ghost use Rattle.wa_exec.specs.Linking.{flat_of};
@@ -13,7 +13,7 @@ ghost use Rattle.wa_exec.specs.Machines.{Stands};
 ghost use Rattle.wa_exec.specs.Outside.{sides};
 ghost use Rattle.wa_exec.specs.Progress.{Runs};
 ghost use Rattle.wa_syntax.specs.Machine.{Input};
-ghost use Rattle.wa_syntax.specs.Runs.{IsLinked};
+ghost use Rattle.wa_syntax.specs.Runs.{IsLinked, SegmentsFit};
 ghost use Rattle.wa_syntax.specs.ValidModule.{IsValid};
 ghost use Rattle.wa_syntax.specs.declared.module.Module.{Module};
 
@@ -58,13 +58,13 @@ pub fn run_bytes<I: Source, O: Sink>(
     ensures whole { Told bytes.now fuel result (sides (I.input input.old) (O.output out.old)) (sides (I.input input.new) (O.output out.new)) }
 {
     match load(alloc, bytes) {
-        Ok(valid) => run_valid(alloc, &valid, fuel, input, out),
+        Ok(valid) => run_module(alloc, &valid, fuel, input, out),
         Err(answer) => Run { answer, steps: 0 },
     }
 }
 
-/// Runs a valid module.
-fn run_valid<I: Source, O: Sink>(
+/// Runs a valid module with at most `fuel` steps, as [`run_bytes`] runs the one that its bytes spell.
+pub fn run_module<I: Source, O: Sink>(
     alloc: Global,
     valid: &Valid,
     fuel: u64,
@@ -81,6 +81,9 @@ fn run_valid<I: Source, O: Sink>(
     ensures source { I.faults input.old ≤ I.faults input.new }
     ensures sink { O.faults out.old ≤ O.faults out.new }
     ensures ran { HasRunModule valid.now fuel result (sides (I.input input.old) (O.output out.old)) (sides (I.input input.new) (O.output out.new)) }
+    ensures whole { ToldModule valid.now fuel result (sides (I.input input.old) (O.output out.old)) (sides (I.input input.new) (O.output out.new)) }
+    // A module that is linked and whose segments fit is run.
+    ensures starts { IsLinked valid.now → SegmentsFit valid.now → IsBeforeRun result.answer → ⊥ }
 {
     let mut host = match Host::new(alloc) {
         Ok(host) => host,

@@ -1,27 +1,27 @@
-use Rattle.std.proofs.Common.{List, ◌+◌, ◌≤◌, ◌∙◌, ap, length, subst, rules}
+use Rattle.std.proofs.Common.{◌≡◌, ◌+◌, ◌≤◌, ◌∙◌, sym, ap, length, subst, rules}
 use Rattle.std.specs.Prelude.{All}
 use Rattle.std.proofs.lemmas.List.{take_all}
 use Rattle.wa_syntax.specs.declared.module.Elem.{Elem}
-use Rattle.wa_syntax.specs.Runs.{init_value, table_size}
-use Rattle.wa_code.proofs.Segments.{filled, room-more, table-is, table-next}
+use Rattle.wa_syntax.specs.Runs.{offset_of, table_size}
+use Rattle.wa_code.proofs.Filled.{filled, put_elem, room-at, table-next}
 use Rattle.wa_code.proofs.instance.table.Goals as goal
+
+pub put_all-requires : goal.put_all-requires
+put_all-requires c =
+    let m = c.args.m.now in
+    let elems = c.as_slice-elems.result.now in
+    let all = subst (All (λ (elem : Elem). offset_of m elem.offset + length elem.funcs ≤ table_size m)) (sym c.as_slice-elems.ensures) c.requires.elems in
+    let fits : offset_of m c.elem-item.result.offset + length c.elem-item.result.funcs ≤ length c.loop-elem.table = room-at (λ (elem : Elem). offset_of m elem.offset + length elem.funcs) (table_size m) elems c.loop-elem.elem-index c.elem-item.result (length c.loop-elem.table) c.loop-elem-test.true c.elem-item.is c.loop-elem.invariant.size all in
+    search rules
 
 pub loop-elem-preserved : goal.loop-elem-preserved
 loop-elem-preserved c =
-    let fits : init_value c.args.globals.now c.elem-item.result.offset + length c.elem-item.result.funcs ≤ length c.loop-elem.table = search rules in
+    let step : c.put_all.new.table ≡ put_elem c.args.m.now c.loop-elem.table c.elem-item.result = search rules in
     record {
-      size = c.fill_table.ensures.size ∙ c.loop-elem.invariant.size;
-      contents = table-next c.args.m.now c.args.globals.now c.as_slice-elems.result.now c.loop-elem.elem-index c.elem-item.result c.loop-elem.table c.fill_table.new.table c.loop-elem-test.true c.elem-item.is c.loop-elem.invariant.contents c.in_ok-fill_table.ensures.put;
-      fit = room-more (λ (elem : Elem). init_value c.args.globals.now elem.offset + length elem.funcs) (table_size c.args.m.now) c.as_slice-elems.result.now c.loop-elem.elem-index c.elem-item.result (length c.loop-elem.table) c.loop-elem-test.true c.elem-item.is c.loop-elem.invariant.size c.loop-elem.invariant.fit fits;
+      size = c.put_all.ensures.size ∙ c.loop-elem.invariant.size;
+      contents = table-next c.args.m.now c.as_slice-elems.result.now c.loop-elem.elem-index c.elem-item.result c.loop-elem.table c.put_all.new.table c.loop-elem-test.true c.elem-item.is c.loop-elem.invariant.contents step;
     }
 
-pub returns-clause-fit : goal.returns-clause-fit
-returns-clause-fit c =
-    let room : List Elem → Type 0 = All (λ (elem : Elem). init_value c.args.globals.now elem.offset + length elem.funcs ≤ table_size c.args.m.now) in
-    subst room c.as_slice-elems.ensures (subst room (take_all c.loop-elem.elem-index c.as_slice-elems.result.now c.loop-elem-test.false) c.loop-elem.invariant.fit)
-
-pub returns-clause-contents : goal.returns-clause-contents
-returns-clause-contents c =
-    let elems = c.as_slice-elems.result.now in
-    let all = ap (filled c.args.m.now c.args.globals.now) (take_all c.loop-elem.elem-index elems c.loop-elem-test.false) in
-    table-is c.args.m.now c.args.globals.now elems _ (c.loop-elem.invariant.contents ∙ all) c.as_slice-elems.ensures c.requires
+pub returns : goal.returns
+returns c =
+    c.loop-elem.invariant.contents ∙ ap (filled c.args.m.now) (take_all c.loop-elem.elem-index c.as_slice-elems.result.now c.loop-elem-test.false ∙ c.as_slice-elems.ensures)
