@@ -47,14 +47,14 @@ pub fn run_bytes<I: Source, O: Sink>(
     ensures told { IsTold result.answer (Rose (I.faults input.old) (I.faults input.new)) (Rose (O.faults out.old) (O.faults out.new)) }
     ensures spent { result.answer ≡ Answer.Spent → result.steps ≡ fuel }
     ensures within { result.steps ≤ fuel }
-    // What out has is behind what it had, and nothing where the answer comes before the run.
+    // What out has is after what it had, and nothing where the answer comes before the run.
     ensures output { Grew (O.output out.old) (O.output out.new) }
     ensures untouched { IsBeforeRun result.answer → (out.new ≡ out.old) × (input.new ≡ input.old) }
     ensures source { I.faults input.old ≤ I.faults input.new }
     ensures sink { O.faults out.old ≤ O.faults out.new }
     // What the run of the module was, whatever the source and the sink do.
     ensures ran { HasRun bytes.now fuel result (sides (I.input input.old) (O.output out.old)) (sides (I.input input.new) (O.output out.new)) }
-    // Over a source that tells what it has left, the run is the standard's over these bytes.
+    // Over a source that says what it has left, the run is the standard's over these bytes.
     ensures whole { Told bytes.now fuel result (sides (I.input input.old) (O.output out.old)) (sides (I.input input.new) (O.output out.new)) }
 {
     match load(alloc, bytes) {

@@ -1,7 +1,0 @@
-use Rattle.std.proofs.Common.{length, subst}
-use Rattle.std.specs.Prelude.{IfOk}
-use Rattle.sa_read.specs.Front.{IsTakenUpTo}
-use Rattle.sa_drive.proofs.compile.with_module.Goals as goal
-
-pub returns-clause-made : goal.returns-clause-made
-returns-clause-made c = subst (λ texts. IfOk c.compile-module.result (λ x. IsTakenUpTo texts (length texts))) c.as_slice.ensures c.compile-module.ensures.made
