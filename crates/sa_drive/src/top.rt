@@ -51,7 +51,7 @@ pub fn sather<S: WriteFiles, I: Source, O: Sink, E: Sink>(
     ensures store { ReadsNone (line_in (map string_bytes words.now)) → store.new ≡ store.old }
     ensures silent { PrintsNone (line_in (map string_bytes words.now)) → out.new ≡ out.old }
 
-    // What out has is behind what it had. Where the cause stands before any output, nothing is put on out or taken from the input.
+    // What out has is after what it had. Where the cause stands before any output, nothing is put on out or taken from the input.
     ensures output { Grew (O.output out.old) (O.output out.new) }
     ensures untouched { ComesBeforeOutput result.cause → (out.new ≡ out.old) × (input.new ≡ input.old) }
 {
