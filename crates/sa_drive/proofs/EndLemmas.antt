@@ -8,13 +8,17 @@ use Rattle.sa_tree.specs.declared.pos.Sources.{Sources}
 use Rattle.sa_read.specs.Front.{IsTakenUpTo}
 use Rattle.sa_read.specs.Program.{IsReadAs}
 use Rattle.sa_read.specs.declared.program.Program.{Program}
+use Rattle.sa_statement.specs.Runnable.{SpellsRunnable}
+use Rattle.wa_syntax.specs.Binary.{SpellsModule}
 use Rattle.sa_drive.specs.Answer.{GivesNone}
+use Rattle.sa_drive.specs.Built.{IsTried}
 use Rattle.sa_drive.specs.Ends.{IsWritten, PrintEnds, WriteEnds}
 use Rattle.sa_drive.specs.Files.{ComesOfFiles, ComesOfGenerated, Explains, ExplainsProgram, IsTakenGenerated, IsTakenProgram, generated_sources}
 use Rattle.sa_drive.specs.Lines.{IsPlaced}
 use Rattle.sa_drive.specs.Seen.{Failed, Part}
 use Rattle.sa_drive.specs.declared.cause.Cause.{Cause}
 use Rattle.sa_drive.specs.declared.cause.Cause.TheVariants as cause
+use Rattle.sa_drive.specs.declared.module.Built.{Built}
 use Rattle.sa_drive.specs.declared.outcome.Outcome.{Outcome}
 
 -- the end of a command that writes names no position
@@ -41,6 +45,19 @@ of_program files failed names program (Ok module_bytes) read whole fault = (subs
 of_program files failed names program (Err ends) read whole (inl (refusal, cut, is)) = subst (ComesOfFiles files failed names program.sources) (sym is) (inl (subst (IsReadAs files names program.sources) cut read))
 of_program files failed names program (Err ends) read whole (inr (none, explains)) = explained files failed names program.sources ends (subst (IsReadAs files names program.sources) none read) explains
 
+-- what holds of a program that is accepted, or of the cause why it isn't, holds of its module, or of the cause why there is none
+pub made_of : {X Y : Type 0} (Taken : Type 0) (Ends : Cause → Type 0) (core : Result X Cause) (made : Result Y Cause) → MatchResult core (λ _. Taken) Ends → IfOk made (λ _. IfErr core (λ _. ⊥)) → IfErr made (λ ends. (core ≡ Err ends) ⊎ (ends ≡ cause.NoMemory)) → Ends cause.NoMemory → MatchResult made (λ _. Taken) Ends
+made_of Taken Ends (Ok tree) (Ok built) taken ok err memory = taken
+made_of Taken Ends (Err ends) (Ok built) taken ok err memory = absurd ok
+made_of Taken Ends core (Err ends) taken ok (inl is) memory = subst (λ core. MatchResult core (λ _. Taken) Ends) is taken
+made_of Taken Ends core (Err ends) taken ok (inr is) memory = subst Ends (sym is) memory
+
+-- so of the position that the cause names
+pub placed_made : {X Y : Type 0} (sources : Sources) (core : Result X Cause) (made : Result Y Cause) → IfErr core (IsPlaced sources) → IfErr made (λ ends. (core ≡ Err ends) ⊎ (ends ≡ cause.NoMemory)) → IfErr made (IsPlaced sources)
+placed_made sources core (Ok built) placed err = tt
+placed_made sources core (Err ends) placed (inl is) = subst (λ core. IfErr core (IsPlaced sources)) is placed
+placed_made sources core (Err ends) placed (inr is) = subst (IsPlaced sources) (sym is) tt
+
 -- what a result says where it is a value, and where it is a cause
 pub of_ok : {X : Type 0} (Taken : Type 0) (Early : Cause → Type 0) (made : Result X Cause) (value : X) → made ≡ Ok value → MatchResult made (λ _. Taken) Early → Taken
 of_ok Taken Early made value is match = subst (λ made. MatchResult made (λ _. Taken) Early) is match
@@ -52,6 +69,16 @@ of_err Taken Early made ends is match = subst (λ made. MatchResult made (λ _. 
 pub taken_of : {X : Type 0} (files : Option Files) (failed : Type 0) (names : List (List ℕ)) (made : Result X Cause) (value : X) (sources told : Sources) → made ≡ Ok value → MatchResult made (λ _. IsTakenProgram files names sources) (ComesOfFiles files failed names sources) → told ≡ sources → IsTakenProgram files names told
 taken_of files failed names made value sources told is match same =
     rw same (of_ok (IsTakenProgram files names sources) (ComesOfFiles files failed names sources) made value is match)
+
+-- the bytes of a module that was tried spell one that can be run
+pub spells_of : (made : Result Built Cause) (built : Built) (bytes : List ℕ) → made ≡ Ok built → IfOk made IsTried → bytes ≡ built.bytes.items → SpellsRunnable bytes
+spells_of made built bytes is tried same =
+    let it : IsTried built = subst (λ (made : Result Built Cause). IfOk made IsTried) is tried in
+    record {
+      «module» = built.«module»;
+      spelled = subst (λ (told : List ℕ). SpellsModule told built.«module») (sym same) it.spelled;
+      runnable = it.runnable;
+    }
 
 -- the files give no module, and this outcome tells of it
 pub given_none : {X : Type 0} (store : Part Files) (names : List (List ℕ)) (made : Result X Cause) (sources : Sources) (ends : Cause) (outcome : Outcome) → made ≡ Err ends → MatchResult made (λ _. IsTakenProgram store.before names sources) (ComesOfFiles store.before (Failed store) names sources) → store.after ≡ store.before → outcome.sources ≡ sources → outcome.cause ≡ ends → outcome.«module».items ≡ [] → GivesNone store names outcome

@@ -2,16 +2,26 @@
 use Rattle.std.proofs.Common.{◌≡◌, ◌∙◌, ap, ℕ, List, [], Some, subst, sym, inl, inr}
 use Rattle.sa_outside.specs.Input.{Input}
 use Rattle.sa_tree.specs.declared.pos.Sources.{Sources}
+use Rattle.wa_syntax.specs.declared.module.Module.{Module}
+use Rattle.wa_syntax.specs.Binary.{SpellsModule}
+use Rattle.wa_syntax.specs.ValidModule.{IsValid}
+use Rattle.wa_run.specs.Modules.{SaysOf, SaysOfValid}
+use Rattle.wa_run.specs.Outside.{sides}
+use Rattle.wa_run.specs.declared.answer.Answer.{Answer}
+use Rattle.wa_run.specs.declared.answer.Answer.TheVariants as answer
 use Rattle.wa_run.specs.declared.module_run.Run.{Run}
+use Rattle.wa_run.proofs.Spelled.{run-spelled}
 use Rattle.sa_words.specs.Line.{Line}
 use Rattle.std.specs.Prelude.{Option, None}
 use Rattle.sa_drive.specs.Answer.{DoesNothing, Obeys, empty_input, own_sink}
-use Rattle.sa_drive.specs.Ends.{IsOfModule, cause_of}
-use Rattle.sa_drive.specs.Runs.{IsRunOf, Ran, ended_of}
+use Rattle.sa_drive.specs.Built.{IsTried}
+use Rattle.sa_drive.specs.Ends.{IsOfModule}
+use Rattle.sa_drive.specs.Runs.{IsRunOf, IsRunOfModule, Ran, RanBuilt, Shows, ended_of}
 use Rattle.sa_drive.specs.Seen.{Outside, Part}
 use Rattle.sa_drive.specs.declared.cause.Cause.{Cause}
 use Rattle.sa_drive.specs.declared.cause.Cause.TheVariants as cause
 use Rattle.sa_drive.specs.declared.exec.Ended.{Ended}
+use Rattle.sa_drive.specs.declared.module.Built.{Built}
 use Rattle.sa_drive.specs.declared.outcome.Outcome.{Outcome}
 
 -- a part of the outside that tells what it holds and never fails
@@ -19,27 +29,69 @@ abbrev pub sure : {T : Type 0} → T → T → Part T
 sure old new = record { before = Some old; after = Some new; faults_before = 0; faults_after = 0 }
 
 -- the texts of the outcome are these
-pub ran_of : (input : Part Input) (out : Part (List ℕ)) (fuel : ℕ) (sources : Sources) (outcome : Outcome) → outcome.sources ≡ sources → Ran input out fuel (IsOfModule sources) outcome → Ran input out fuel (IsOfModule outcome.sources) outcome
-ran_of input out fuel sources outcome same ran = subst (λ told. Ran input out fuel (IsOfModule told) outcome) (sym same) ran
+pub ran_of : (input : Part Input) (out : Part (List ℕ)) (fuel : ℕ) (sources : Sources) (outcome : Outcome) → outcome.sources ≡ sources → RanBuilt input out fuel (IsOfModule sources) outcome → RanBuilt input out fuel (IsOfModule outcome.sources) outcome
+ran_of input out fuel sources outcome same ran = subst (λ told. RanBuilt input out fuel (IsOfModule told) outcome) (sym same) ran
+
+-- what ended so shows of the run
+shows_of : (IsCause : Cause → Cause → Type 0) (fuel : ℕ) (ended : Ended) (run : Run) (outcome : Outcome) → ended ≡ ended_of fuel run → IsCause ended.cause outcome.cause → outcome.done ≡ ended.done → ((steps : ℕ) → outcome.steps ≡ Some steps → steps ≡ ended.steps) → Shows fuel IsCause outcome run
+shows_of IsCause fuel ended run outcome is cause done steps = record {
+  cause = subst (λ of_module. IsCause of_module outcome.cause) (ap (λ (e : Ended). e.cause) is) cause;
+  done = done ∙ ap (λ (e : Ended). e.done) is;
+  steps = λ k told. steps k told ∙ ap (λ (e : Ended). e.steps) is;
+}
 
 -- the outcome of what ended so is that of the run
 pub shown : (input : Part Input) (out : Part (List ℕ)) (IsCause : Cause → Cause → Type 0) (bytes : List ℕ) (fuel : ℕ) (ended : Ended) (run : Run) (outcome : Outcome) → ended ≡ ended_of fuel run → IsRunOf input out bytes fuel run → outcome.«module».items ≡ bytes → IsCause ended.cause outcome.cause → outcome.done ≡ ended.done → ((steps : ℕ) → outcome.steps ≡ Some steps → steps ≡ ended.steps) → Ran input out fuel IsCause outcome
 shown input out IsCause bytes fuel ended run outcome is ran same cause done steps = (
   run,
   rw same ran,
-  record {
-    cause = subst (λ of_module. IsCause of_module outcome.cause) (ap (λ (e : Ended). e.cause) is) cause;
-    done = done ∙ ap (λ (e : Ended). e.done) is;
-    steps = λ k told. steps k told ∙ ap (λ (e : Ended). e.steps) is;
-  },
+  shows_of IsCause fuel ended run outcome is cause done steps,
 )
 
+-- what is said of a valid module is said of the bytes that spell it
+says_spelled : (bytes : List ℕ) (m : Module) (given : Answer) → SpellsModule bytes m → IsValid m → SaysOfValid m given → SaysOf bytes given
+says_spelled bytes m answer.Malformed spelled valid says = absurd says
+says_spelled bytes m (answer.Invalid func) spelled valid says = absurd says
+says_spelled bytes m (answer.Unlinked import) spelled valid says = (m, spelled, valid, says)
+says_spelled bytes m answer.Segment spelled valid says = (m, spelled, valid, says)
+says_spelled bytes m (answer.Ended value) spelled valid says = (m, spelled, valid, says)
+says_spelled bytes m (answer.Stopped code site) spelled valid says = (m, spelled, valid, says)
+says_spelled bytes m (answer.Trap kind) spelled valid says = (m, spelled, valid, says)
+says_spelled bytes m answer.TooDeep spelled valid says = (m, spelled, valid, says)
+says_spelled bytes m answer.Spent spelled valid says = (m, spelled, valid, says)
+says_spelled bytes m answer.InFault spelled valid says = (m, spelled, valid, says)
+says_spelled bytes m answer.OutFault spelled valid says = (m, spelled, valid, says)
+says_spelled bytes m answer.NoMemory spelled valid says = tt
+
+-- the run of a module is that of the bytes that spell it
+run_spelled : (input : Part Input) (out : Part (List ℕ)) (bytes : List ℕ) (m : Module) (fuel : ℕ) (run : Run) → SpellsModule bytes m → IsValid m → IsRunOfModule input out m fuel run → IsRunOf input out bytes fuel run
+run_spelled input out bytes m fuel run spelled valid ran = record {
+  says = says_spelled bytes m run.answer spelled valid ran.says;
+  told = ran.told;
+  within = ran.within;
+  ran = run-spelled bytes m fuel run (sides input.before out.before) (sides input.after out.after) spelled ran.ran;
+}
+
+-- the outcome of a module that was tried, and ended so, is that of the run
+pub shown_built : (input : Part Input) (out : Part (List ℕ)) (IsCause : Cause → Cause → Type 0) (built : Built) (fuel : ℕ) (ended : Ended) (run : Run) (outcome : Outcome) → IsTried built → ended ≡ ended_of fuel run → IsRunOfModule input out built.«module» fuel run → outcome.«module».items ≡ built.bytes.items → IsCause ended.cause outcome.cause → outcome.done ≡ ended.done → ((steps : ℕ) → outcome.steps ≡ Some steps → steps ≡ ended.steps) → RanBuilt input out fuel IsCause outcome
+shown_built input out IsCause built fuel ended run outcome tried is ran same cause done steps =
+    let spelled : SpellsModule outcome.«module».items built.«module» = rw same tried.spelled in
+    record {
+      built = built.«module»;
+      spelled = spelled;
+      runnable = tried.runnable;
+      run = run;
+      of_module = ran;
+      of_bytes = run_spelled input out outcome.«module».items built.«module» fuel run spelled tried.runnable.valid ran;
+      shows = shows_of IsCause fuel ended run outcome is cause done steps;
+    }
+
 -- a run with an input of no bytes and a sink of its own, of texts that are told of
-pub apart : (sources told : Sources) (fuel : ℕ) (given left : Input) (had output : List ℕ) (outcome : Outcome) → told ≡ sources → given ≡ record { left = []; ends = 0 } → had ≡ [] → Ran (sure given left) (sure had output) fuel (IsOfModule sources) outcome → Ran (empty_input left) (own_sink output) fuel (IsOfModule told) outcome
+pub apart : (sources told : Sources) (fuel : ℕ) (given left : Input) (had output : List ℕ) (outcome : Outcome) → told ≡ sources → given ≡ record { left = []; ends = 0 } → had ≡ [] → RanBuilt (sure given left) (sure had output) fuel (IsOfModule sources) outcome → RanBuilt (empty_input left) (own_sink output) fuel (IsOfModule told) outcome
 apart sources told fuel given left had output outcome same empty none ran =
-    subst (λ texts. Ran (empty_input left) (own_sink output) fuel (IsOfModule texts) outcome) (sym same)
-    (subst (λ input. Ran (sure input left) (own_sink output) fuel (IsOfModule sources) outcome) empty
-    (subst (λ taken. Ran (sure given left) (sure taken output) fuel (IsOfModule sources) outcome) none ran))
+    subst (λ texts. RanBuilt (empty_input left) (own_sink output) fuel (IsOfModule texts) outcome) (sym same)
+    (subst (λ input. RanBuilt (sure input left) (own_sink output) fuel (IsOfModule sources) outcome) empty
+    (subst (λ taken. RanBuilt (sure given left) (sure taken output) fuel (IsOfModule sources) outcome) none ran))
 
 -- where memory runs out before the words are read nothing is done, whatever they are
 pub idle : (outside : Outside) (line : Option Line) (outcome : Outcome) → DoesNothing outside outcome cause.NoMemory → Obeys outside line outcome

@@ -4,11 +4,12 @@ use Rattle.sa_gen.specs.Generated.{generated}
 use Rattle.sa_outside.specs.Files.{Files, Lacks}
 use Rattle.sa_outside.specs.Input.{Input}
 use Rattle.sa_read.specs.Read.{HasFile, HasLonger}
+use Rattle.sa_statement.specs.Runnable.{SpellsRunnable}
 use Rattle.sa_words.specs.Line.{Build, Check, Exec, Gen, Line, Run, Selftest}
 use Rattle.sa_drive.specs.Ends.{IsOfModule, IsPrinted, IsWritten}
 use Rattle.sa_drive.specs.Files.{ComesOfFiles, ComesOfGenerated, IsTakenGenerated, IsTakenProgram}
 use Rattle.sa_drive.specs.Lines.{selftest_line}
-use Rattle.sa_drive.specs.Runs.{Ran}
+use Rattle.sa_drive.specs.Runs.{Ran, RanBuilt}
 use Rattle.sa_drive.specs.Seen.{Failed, IsKept, Outside, Part}
 use Rattle.sa_drive.specs.declared.cause.Cause.{Cause}
 use Rattle.sa_drive.specs.declared.cause.Cause.TheVariants as cause
@@ -25,17 +26,17 @@ pub record GivesNone (store : Part Files) (names : List (List ℕ)) (outcome : O
   pub bytes : HasNoModule outcome
   pub files : IsKept store
 
--- the module of the program in these files was run, or there is none
+-- the module of the program in these files can be run, and was, or there is none
 abbrev pub IsRun : Part Files → Part Input → Part (List ℕ) → ℕ → List (List ℕ) → Outcome → Type 0
 IsRun store input out fuel names outcome =
     (GivesNone store names outcome × IsKept input × IsKept out)
-    ⊎ (IsTakenProgram store.before names outcome.sources × Ran input out fuel (IsOfModule outcome.sources) outcome)
+    ⊎ (IsTakenProgram store.before names outcome.sources × RanBuilt input out fuel (IsOfModule outcome.sources) outcome)
 
--- the module of the program in these files was written under this name, or there is none, and nothing is written
+-- the module of the program in these files can be run, and was written under this name, or there is none, and nothing is written
 abbrev pub IsBuilt : Part Files → List ℕ → List (List ℕ) → Outcome → Type 0
 IsBuilt store name names outcome =
     GivesNone store names outcome
-    ⊎ (IsTakenProgram store.before names outcome.sources × IsWritten store name outcome.«module».items outcome.cause)
+    ⊎ (IsTakenProgram store.before names outcome.sources × SpellsRunnable outcome.«module».items × IsWritten store name outcome.«module».items outcome.cause)
 
 -- it was told that the program in these files is accepted, or it isn't
 abbrev pub IsChecked : Part Files → Part (List ℕ) → List (List ℕ) → Outcome → Type 0
@@ -89,7 +90,7 @@ pub record IsRunApart (out : Part (List ℕ)) (classes : ℕ) (outcome : Outcome
   pub ran : Outcome
   pub left : Input
   pub output : List ℕ
-  pub runs : Ran (empty_input left) (own_sink output) (2 ^ 64 - 1) (IsOfModule ran.sources) ran
+  pub runs : RanBuilt (empty_input left) (own_sink output) (2 ^ 64 - 1) (IsOfModule ran.sources) ran
   pub tells : TellsRun out classes ran output outcome
 
 -- the generated program was run, or it has no module

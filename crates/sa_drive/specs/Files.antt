@@ -29,11 +29,6 @@ IsRefusalFor texts refusal = (IsRefusalOf texts refusal ⊎ IsTakenUpTo texts (l
 abbrev pub IsRefusedFor : Option Files → List (List ℕ) → Sources → Refusal → Type 0
 IsRefusedFor files names sources refusal = IsReadAs files names sources (Some refusal) ⊎ (IsReadAs files names sources None × IsRefusalFor sources.texts refusal)
 
--- why an accepted program has no module
-abbrev pub IsWantOfMemory : Cause → Type 0
-IsWantOfMemory cause.NoMemory = ⊤
-IsWantOfMemory _ = ⊥
-
 -- why texts give no module
 abbrev pub Explains : List (List ℕ) → Cause → Type 0
 Explains texts (cause.Refused refusal) = IsRefusalFor texts refusal

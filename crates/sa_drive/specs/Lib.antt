@@ -1,4 +1,5 @@
 pub mod Answer
+pub mod Built
 pub mod Ends
 pub mod Files
 pub mod Lines

@@ -1,10 +1,9 @@
 -- The exit of a call, and what err holds then.
-use Rattle.std.specs.Prelude.{◌≡◌, ◌≢◌, ℕ, List, Option, ◌⊎◌}
+use Rattle.std.specs.Prelude.{◌≡◌, ◌≢◌, ℕ, List, ◌⊎◌}
 use Rattle.sa_outside.specs.Output.{Took, TookFront}
 use Rattle.sa_drive.specs.Lines.{lines_of}
 use Rattle.sa_drive.specs.Seen.{Failed, Part}
 use Rattle.sa_drive.specs.Status.{status_of}
-use Rattle.sa_drive.specs.declared.cause.Cause.{Cause}
 use Rattle.sa_drive.specs.declared.cause.Cause.TheVariants as cause
 use Rattle.sa_drive.specs.declared.cause.Exit.{Exit}
 use Rattle.sa_drive.specs.declared.outcome.Outcome.{Outcome}

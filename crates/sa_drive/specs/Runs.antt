@@ -1,10 +1,13 @@
 -- What a command shows of the run of a module.
-use Rattle.std.specs.Prelude.{◌≡◌, ◌≤◌, ℕ, ◌%◌, ◌^◌, List, Option, Some}
+use Rattle.std.specs.Prelude.{◌≡◌, ◌≤◌, ℕ, ◌%◌, ◌^◌, List, Some}
 use Rattle.sa_outside.specs.Input.{Input}
-use Rattle.wa_run.specs.Answers.{IsTold}
-use Rattle.wa_run.specs.Modules.{SaysOf}
+use Rattle.sa_statement.specs.Runnable.{IsRunnable}
+use Rattle.wa_syntax.specs.declared.module.Module.{Module}
+use Rattle.wa_syntax.specs.Binary.{SpellsModule}
+use Rattle.wa_run.specs.Answers.{IsBeforeRun, IsTold}
+use Rattle.wa_run.specs.Modules.{SaysOf, SaysOfValid}
 use Rattle.wa_run.specs.Outside.{sides}
-use Rattle.wa_run.specs.Runs.{HasRun}
+use Rattle.wa_run.specs.Runs.{HasRun, HasRunModule}
 use Rattle.wa_run.specs.declared.answer.Answer.{Answer}
 use Rattle.wa_run.specs.declared.answer.Answer.TheVariants as answer
 use Rattle.wa_run.specs.declared.module_run.Run.{Run}
@@ -30,6 +33,14 @@ pub record IsRunOf (input : Part Input) (out : Part (List ℕ)) (bytes : List �
   pub within : run.steps ≤ fuel
   pub ran : HasRun bytes fuel run (sides input.before out.before) (sides input.after out.after)
 
+-- this valid module was run so with this fuel; where it can be run, it was started
+pub record IsRunOfModule (input : Part Input) (out : Part (List ℕ)) (m : Module) (fuel : ℕ) (run : Run) : Type 0 where
+  pub says : SaysOfValid m run.answer
+  pub told : IsTold run.answer (Failed input) (Failed out)
+  pub within : run.steps ≤ fuel
+  pub ran : HasRunModule m fuel run (sides input.before out.before) (sides input.after out.after)
+  pub starts : IsRunnable m → IsBeforeRun run.answer → ⊥
+
 -- the outcome is that of the run: its cause is one by this rule for that of the module, and its status and its steps, where they are
 -- told, are the run's
 pub record Shows (fuel : ℕ) (IsCause : (of_module : Cause) → (told : Cause) → Type 0) (outcome : Outcome) (run : Run) : Type 0 where
@@ -41,3 +52,13 @@ pub record Shows (fuel : ℕ) (IsCause : (of_module : Cause) → (told : Cause) 
 abbrev pub Ran : Part Input → Part (List ℕ) → ℕ → ((of_module : Cause) → (told : Cause) → Type 0) → Outcome → Type 0
 Ran input out fuel IsCause outcome =
     (run : Run) × IsRunOf input out outcome.«module».items fuel run × Shows fuel IsCause outcome run
+
+-- the bytes of the outcome spell a module that can be run, it was run with this fuel, and the outcome is that of the run
+pub record RanBuilt (input : Part Input) (out : Part (List ℕ)) (fuel : ℕ) (IsCause : (of_module : Cause) → (told : Cause) → Type 0) (outcome : Outcome) : Type 0 where
+  pub built : Module
+  pub spelled : SpellsModule outcome.«module».items built
+  pub runnable : IsRunnable built
+  pub run : Run
+  pub of_module : IsRunOfModule input out built fuel run
+  pub of_bytes : IsRunOf input out outcome.«module».items fuel run
+  pub shows : Shows fuel IsCause outcome run

@@ -7,7 +7,7 @@ ghost use Rattle.sa_drive.specs.Lines.{IsPlaced};
 ghost use Rattle.sa_drive.specs.Seen.{part};
 
 use crate::cause::Cause;
-use crate::compile::{Compiled, Goal, compile_files};
+use crate::compile::{Compiled, compile_files};
 use crate::outcome::Outcome;
 use sa_outside::{Outage, WriteFiles};
 use sa_words::Build;
@@ -22,8 +22,12 @@ pub fn build<'a, S: WriteFiles>(alloc: Global, line: &Build<'a>, store: &mut S) 
     ensures file { result.file.now ≡ [] }
     ensures done { result.done ≡ 0 }
 {
-    let goal = Goal::Module(line.room);
-    let Compiled { sources, module } = compile_files(alloc, store, line.files.as_slice(), goal);
+    let Compiled { sources, module } = compile_files(
+        alloc,
+        store,
+        line.files.as_slice(),
+        line.room,
+    );
     match module {
         Ok(built) => {
             let cause = written(store, line.out, built.bytes.as_slice());

@@ -7,7 +7,7 @@ ghost use Rattle.sa_drive.specs.Ends.{ComesBeforeOutput};
 ghost use Rattle.sa_drive.specs.Lines.{IsPlaced};
 ghost use Rattle.sa_drive.specs.Seen.{part};
 
-use crate::compile::{Compiled, Goal, compile_files};
+use crate::compile::{Checked, check_files};
 use crate::outcome::Outcome;
 use crate::print::print;
 use sa_outside::{ReadFiles, Sink};
@@ -34,14 +34,9 @@ pub fn check<'a, S: ReadFiles, O: Sink>(
     ensures output { Grew (O.output out.old) (O.output out.new) }
     ensures untouched { ComesBeforeOutput result.cause → out.new ≡ out.old }
 {
-    let Compiled { sources, module } = compile_files(
-        alloc,
-        store,
-        line.files.as_slice(),
-        Goal::Check,
-    );
-    match module {
-        Ok(_module) => Outcome::without_module(alloc, print(ACCEPTED, out), sources),
+    let Checked { sources, core } = check_files(alloc, store, line.files.as_slice());
+    match core {
+        Ok(_core) => Outcome::without_module(alloc, print(ACCEPTED, out), sources),
         Err(cause) => Outcome::without_module(alloc, cause, sources),
     }
 }

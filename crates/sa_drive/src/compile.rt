@@ -1,9 +1,10 @@
-//! A program's module, from its files.
+//! A program's typed tree and its module, from its files.
 
-ghost use Rattle.std.specs.Prelude.{◌≡◌, ◌≤◌, ◌<◌, ◌⊎◌, All, length, map, None, IfErr, IfOk, IfSome, IsTrue, MatchResult};
+ghost use Rattle.std.specs.Prelude.{◌≡◌, ◌≤◌, ◌<◌, ◌⊎◌, All, length, map, Err, None, IfErr, IfOk, IfSome, IsTrue, MatchResult};
 ghost use Rattle.sa_outside.specs.Faults.{Rose};
 ghost use Rattle.sa_read.specs.Front.{IsRefusalOf, IsTakenUpTo};
-ghost use Rattle.sa_drive.specs.Files.{ComesOfFiles, ComesOfGenerated, Explains, ExplainsProgram, IsPlaceIn, IsTakenGenerated, IsTakenProgram, IsWantOfMemory, generated_sources};
+ghost use Rattle.sa_drive.specs.Built.{IsTried};
+ghost use Rattle.sa_drive.specs.Files.{ComesOfFiles, ComesOfGenerated, Explains, ExplainsProgram, IsPlaceIn, IsTakenGenerated, IsTakenProgram, generated_sources};
 ghost use Rattle.sa_drive.specs.Lines.{IsPlaced};
 
 use crate::cause::Cause;
@@ -19,77 +20,125 @@ use sa_words::ROOM;
 use sqlite_items::Items;
 use std::alloc::Global;
 
-/// What is made of the files of a program.
-#[derive(Clone, Copy, Debug, PartialEq, Eq, Hash)]
-pub enum Goal {
-    /// Nothing: it is asked whether the program is accepted.
-    Check,
-    /// Its module, with so many KiB of room for objects.
-    Module(u32),
+/// The texts of a program, and its typed tree or the cause why there is none.
+#[derive(Drop)]
+pub struct Checked {
+    pub sources: Sources,
+    pub core: Result<Core, Cause>,
 }
 
-/// The texts of a program, and its module or the cause why there is none. Where only a check was asked for, the module is
-/// empty.
+/// The texts of a program, and its module or the cause why there is none.
 #[derive(Drop)]
 pub struct Compiled {
     pub sources: Sources,
     pub module: Result<Built, Cause>,
 }
 
-/// Reads the files of a program and compiles it.
-pub fn compile_files<S: ReadFiles>(
-    alloc: Global,
-    store: &mut S,
-    files: &[&str],
-    goal: Goal,
-) -> Compiled
-    ensures module { MatchResult result.«module» (λ _. IsTakenProgram (S.files store.old) (map (λ file. file.now) files.now) result.sources) (ComesOfFiles (S.files store.old) (Rose (S.faults store.old) (S.faults store.new)) (map (λ file. file.now) files.now) result.sources) }
-    ensures size { IfOk result.«module» (λ built. length built.bytes.items < 4294967295) }
-    ensures placed { IfErr result.«module» (IsPlaced result.sources) }
+/// Reads the files of a program and checks it.
+pub fn check_files<S: ReadFiles>(alloc: Global, store: &mut S, files: &[&str]) -> Checked
+    ensures core { MatchResult result.core (λ _. IsTakenProgram (S.files store.old) (map (λ file. file.now) files.now) result.sources) (ComesOfFiles (S.files store.old) (Rose (S.faults store.old) (S.faults store.new)) (map (λ file. file.now) files.now) result.sources) }
+    ensures placed { IfErr result.core (IsPlaced result.sources) }
     ensures files { S.files store.new ≡ S.files store.old }
     ensures count { S.faults store.old ≤ S.faults store.new }
 {
     match read_program(alloc, store, files) {
-        Ok(program) => compile_program(alloc, program, goal),
-        Err(fault) => Compiled {
+        Ok(program) => check_program(alloc, program),
+        Err(fault) => Checked {
             sources: no_sources(alloc),
-            module: Err(unread(fault)),
+            core: Err(unread(fault)),
         },
     }
 }
 
-/// The module of a program, unless its files are too large.
-fn compile_program(alloc: Global, program: Program, goal: Goal) -> Compiled
-    requires short { All (λ text. length text < 4294967295) program.sources.texts }
-    requires few { length program.sources.texts ≤ 65536 }
-    requires placed { IfSome program.cut (λ refusal. refusal.pos.file < length program.sources.texts) }
-    ensures same { result.sources ≡ program.sources }
-    ensures size { IfOk result.«module» (λ built. length built.bytes.items < 4294967295) }
-    ensures whole { IfOk result.«module» (λ _. (program.cut ≡ None) × IsTakenUpTo program.sources.texts (length program.sources.texts)) }
-    ensures fault { IfErr result.«module» (ExplainsProgram program) }
+/// Reads the files of a program and compiles it, with so many KiB of room for objects.
+pub fn compile_files<S: ReadFiles>(
+    alloc: Global,
+    store: &mut S,
+    files: &[&str],
+    room: u32,
+) -> Compiled
+    ensures module { MatchResult result.«module» (λ _. IsTakenProgram (S.files store.old) (map (λ file. file.now) files.now) result.sources) (ComesOfFiles (S.files store.old) (Rose (S.faults store.old) (S.faults store.new)) (map (λ file. file.now) files.now) result.sources) }
+    ensures built { IfOk result.«module» IsTried }
     ensures placed { IfErr result.«module» (IsPlaced result.sources) }
+    ensures files { S.files store.new ≡ S.files store.old }
+    ensures count { S.faults store.old ≤ S.faults store.new }
 {
-    let Program { sources, cut } = program;
-    match cut {
-        None => with_module(alloc, sources, goal),
-        Some(refusal) => Compiled {
-            sources,
-            module: Err(Cause::Refused(refusal)),
-        },
-    }
+    let checked = check_files(alloc, store, files);
+    compile_checked(alloc, checked, room)
 }
 
 /// Compiles the generated program of so many classes, with the room of a run for which none is given.
 pub fn compile_generated(alloc: Global, classes: u32) -> Compiled
     ensures module { MatchResult result.«module» (λ _. IsTakenGenerated classes result.sources) (ComesOfGenerated classes result.sources) }
-    ensures size { IfOk result.«module» (λ built. length built.bytes.items < 4294967295) }
+    ensures built { IfOk result.«module» IsTried }
     ensures placed { IfErr result.«module» (IsPlaced result.sources) }
 {
+    let checked = check_generated(alloc, classes);
+    compile_checked(alloc, checked, ROOM)
+}
+
+/// The module of a program that is accepted, with so many KiB of room for objects.
+fn compile_checked(alloc: Global, checked: Checked, room: u32) -> Compiled
+    ensures same { result.sources ≡ checked.sources }
+    ensures built { IfOk result.«module» IsTried }
+    ensures made { IfOk result.«module» (λ _. IfErr checked.core (λ _. ⊥)) }
+    ensures fault { IfErr result.«module» (λ cause. (checked.core ≡ Err cause) ⊎ (cause ≡ Cause.NoMemory)) }
+{
+    let Checked { sources, core } = checked;
+    let module = made(alloc, core, sources.texts.as_slice(), room);
+    Compiled { sources, module }
+}
+
+/// The module of the typed tree of these texts, or the cause why there is none.
+fn made(
+    alloc: Global,
+    core: Result<Core, Cause>,
+    texts: &[Items<u8>],
+    room: u32,
+) -> Result<Built, Cause>
+    ensures built { IfOk result IsTried }
+    ensures made { IfOk result (λ _. IfErr core (λ _. ⊥)) }
+    ensures fault { IfErr result (λ cause. (core ≡ Err cause) ⊎ (cause ≡ Cause.NoMemory)) }
+{
+    match core {
+        Ok(core) => match module_of(alloc, core, texts, room) {
+            Ok(built) => Ok(built),
+            Err(NoMemory) => Err(Cause::NoMemory),
+        },
+        Err(cause) => Err(cause),
+    }
+}
+
+/// Checks the generated program of so many classes.
+fn check_generated(alloc: Global, classes: u32) -> Checked
+    ensures core { MatchResult result.core (λ _. IsTakenGenerated classes result.sources) (ComesOfGenerated classes result.sources) }
+    ensures placed { IfErr result.core (IsPlaced result.sources) }
+{
     match generated_sources(alloc, classes) {
-        Ok(sources) => compile_program(alloc, Program { sources, cut: None }, Goal::Module(ROOM)),
-        Err(NoMemory) => Compiled {
+        Ok(sources) => check_program(alloc, Program { sources, cut: None }),
+        Err(NoMemory) => Checked {
             sources: no_sources(alloc),
-            module: Err(Cause::NoMemory),
+            core: Err(Cause::NoMemory),
+        },
+    }
+}
+
+/// Checks a program, unless its files are too large.
+fn check_program(alloc: Global, program: Program) -> Checked
+    requires short { All (λ text. length text < 4294967295) program.sources.texts }
+    requires few { length program.sources.texts ≤ 65536 }
+    requires placed { IfSome program.cut (λ refusal. refusal.pos.file < length program.sources.texts) }
+    ensures same { result.sources ≡ program.sources }
+    ensures whole { IfOk result.core (λ _. (program.cut ≡ None) × IsTakenUpTo program.sources.texts (length program.sources.texts)) }
+    ensures fault { IfErr result.core (ExplainsProgram program) }
+    ensures placed { IfErr result.core (IsPlaced result.sources) }
+{
+    let Program { sources, cut } = program;
+    match cut {
+        None => check_texts(alloc, sources),
+        Some(refusal) => Checked {
+            sources,
+            core: Err(Cause::Refused(refusal)),
         },
     }
 }
@@ -131,25 +180,23 @@ pub fn unread(fault: ReadFault) -> Cause
     }
 }
 
-/// The module of a program of these texts, with the texts.
-fn with_module(alloc: Global, sources: Sources, goal: Goal) -> Compiled
+/// The typed tree of a program of these texts, with the texts.
+fn check_texts(alloc: Global, sources: Sources) -> Checked
     requires short { All (λ text. length text < 4294967295) sources.texts }
     requires few { length sources.texts < 4294967295 }
     ensures same { result.sources ≡ sources }
-    ensures size { IfOk result.«module» (λ built. length built.bytes.items < 4294967295) }
-    ensures made { IfOk result.«module» (λ _. IsTakenUpTo sources.texts (length sources.texts)) }
-    ensures fault { IfErr result.«module» (Explains sources.texts) }
+    ensures made { IfOk result.core (λ _. IsTakenUpTo sources.texts (length sources.texts)) }
+    ensures fault { IfErr result.core (Explains sources.texts) }
 {
-    let module = compile(alloc, sources.texts.as_slice(), goal);
-    Compiled { sources, module }
+    let core = typed(alloc, sources.texts.as_slice());
+    Checked { sources, core }
 }
 
-/// The module of a program of these texts, or the cause why there is none.
-fn compile(alloc: Global, texts: &[Items<u8>], goal: Goal) -> Result<Built, Cause>
+/// The typed tree of a program of these texts, or the cause why there is none.
+fn typed(alloc: Global, texts: &[Items<u8>]) -> Result<Core, Cause>
     requires short { All (λ text. length text < 4294967295) texts.now }
     requires few { length texts.now < 4294967295 }
     ensures made { IfOk result (λ _. IsTakenUpTo texts.now (length texts.now)) }
-    ensures size { IfOk result (λ built. length built.bytes.items < 4294967295) }
     ensures fault { IfErr result (Explains texts.now) }
 {
     let classes = match classes(alloc, texts) {
@@ -158,7 +205,7 @@ fn compile(alloc: Global, texts: &[Items<u8>], goal: Goal) -> Result<Built, Caus
         Err(FrontFault::NoMemory) => return Err(Cause::NoMemory),
     };
     match accepted(alloc, classes) {
-        Ok(core) => made(alloc, core, texts, goal),
+        Ok(core) => Ok(core),
         Err(FrontFault::Refused(refusal)) => Err(refused(refusal, texts)),
         Err(FrontFault::NoMemory) => Err(Cause::NoMemory),
     }
@@ -187,22 +234,5 @@ fn is_in(texts: &[Items<u8>], pos: Pos) -> bool
     match texts.get(pos.file as usize) {
         Some(text) => pos.at as usize <= text.len(),
         None => false,
-    }
-}
-
-/// What is made of a typed program of these texts.
-fn made(alloc: Global, core: Core, texts: &[Items<u8>], goal: Goal) -> Result<Built, Cause>
-    ensures size { IfOk result (λ built. length built.bytes.items < 4294967295) }
-    ensures fault { IfErr result IsWantOfMemory }
-{
-    match goal {
-        Goal::Check => Ok(Built {
-            bytes: Vec::new(alloc),
-            sites: Items::new(alloc),
-        }),
-        Goal::Module(room) => match module_of(alloc, core, texts, room) {
-            Ok(built) => Ok(built),
-            Err(NoMemory) => Err(Cause::NoMemory),
-        },
     }
 }

@@ -136,7 +136,7 @@ pub fn run_module<I: Source, O: Sink>(
 }
 
 /// The cause of an answer.
-fn cause_of(answer: Answer, fuel: u64) -> Cause
+pub fn cause_of(answer: Answer, fuel: u64) -> Cause
     ensures value { result ≡ cause_of fuel answer }
     ensures before { ComesBeforeOutput result → IsBeforeRun answer }
     ensures placed { (sources : Places) → IsPlaced sources result }
@@ -158,7 +158,7 @@ fn cause_of(answer: Answer, fuel: u64) -> Cause
 }
 
 /// The status of a module that ended: the low 8 bits of what `main` returned, and 0 where it returned nothing.
-fn done_of(answer: Answer) -> u8
+pub fn done_of(answer: Answer) -> u8
     ensures { result ≡ done_of answer }
 {
     match answer {

@@ -1,6 +1,7 @@
-//! The module of a typed program.
+//! The module of a typed program, which is tried before it is given: it is valid, it is linked, and its segments fit.
 
 ghost use Rattle.std.specs.Prelude.{◌<◌, length, IfOk};
+ghost use Rattle.sa_drive.specs.Built.{IsTried};
 
 use crate::line_numbers::line_numbers;
 use sa_core::{Core, positions};
@@ -11,23 +12,26 @@ use sa_tree::{NoMemory, Pos};
 use sqlite_items::Items;
 use std::alloc::Global;
 use wa_encode::encode;
+use wa_run::runnable;
+use wa_valid::Valid;
 
-/// The bytes of a program's module, and the positions that its faults name by number.
+/// A program's module, its bytes, and the positions that its faults name by number.
 #[derive(Drop)]
 pub struct Built {
+    pub module: Valid,
     pub bytes: Vec<u8>,
     pub sites: Items<Pos>,
 }
 
 /// The module of a typed program of these texts, with so many KiB of room for its objects. Fails where memory runs out, also
-/// where a module of WebAssembly can't be as large as this one.
+/// where a module of WebAssembly can't be as large as this one, or can't be run.
 pub fn module_of(
     alloc: Global,
     core: Core,
     texts: &[Items<u8>],
     room: u32,
 ) -> Result<Built, NoMemory>
-    ensures size { IfOk result (λ built. length built.bytes.items < 4294967295) }
+    ensures { IfOk result IsTried }
 {
     let positions = positions(alloc, &core)?;
     let lines = line_numbers(alloc, texts, positions.as_slice())?;
@@ -40,10 +44,22 @@ pub fn module_of(
     };
     drop(flat);
     match encode(alloc, &emitted.module) {
-        Ok(bytes) if bytes.len() < u32::MAX as usize => Ok(Built {
-            bytes,
-            sites: emitted.sites,
-        }),
+        Ok(bytes) if bytes.len() < u32::MAX as usize => tried(alloc, bytes, emitted.sites),
         _ => Err(NoMemory),
+    }
+}
+
+/// The module of these bytes, where they spell one that can be run.
+fn tried(alloc: Global, bytes: Vec<u8>, sites: Items<Pos>) -> Result<Built, NoMemory>
+    requires { length bytes.items < 4294967295 }
+    ensures { IfOk result IsTried }
+{
+    match runnable(alloc, bytes.as_slice()) {
+        Ok(module) => Ok(Built {
+            module,
+            bytes,
+            sites,
+        }),
+        Err(_answer) => Err(NoMemory),
     }
 }

@@ -1,22 +1,28 @@
-//! The command `run`: a program is compiled, and its module's bytes are run.
+//! The command `run`: a program is compiled, and its module is run.
 
-ghost use Rattle.std.specs.Prelude.{◌≡◌, ◌<◌, ◌&&◌, [], is_some, length, map, IsTrue};
+ghost use Rattle.std.specs.Prelude.{◌≡◌, ◌&&◌, [], is_some, map, IsTrue};
 ghost use Rattle.sa_outside.specs.Output.{Grew};
+ghost use Rattle.sa_tree.specs.declared.pos.Sources.{Sources as Places};
+ghost use Rattle.wa_run.specs.declared.module_run.Run.{Run as Runs};
+ghost use Rattle.wa_syntax.specs.ValidModule.{IsValid};
 ghost use Rattle.sa_drive.specs.Answer.{IsRun, has_steps};
+ghost use Rattle.sa_drive.specs.Built.{IsTried};
 ghost use Rattle.sa_drive.specs.Ends.{ComesBeforeOutput, IsOfModule};
 ghost use Rattle.sa_drive.specs.Lines.{IsInside, IsPlaced};
-ghost use Rattle.sa_drive.specs.Runs.{Ran};
+ghost use Rattle.sa_drive.specs.Runs.{IsRunOfModule, RanBuilt, ended_of};
 ghost use Rattle.sa_drive.specs.Seen.{part};
 
 use crate::cause::Cause;
-use crate::compile::{Compiled, Goal, compile_files};
-use crate::exec::{Ended, run_module};
+use crate::compile::{Compiled, compile_files};
+use crate::exec::{Ended, cause_of, done_of};
 use crate::module::Built;
 use crate::outcome::Outcome;
 use sa_outside::{ReadFiles, Sink, Source};
 use sa_tree::{FaultKind, Pos, Sources};
 use sa_words::Run;
 use std::alloc::Global;
+use wa_run::run_module;
+use wa_valid::Valid;
 
 /// Compiles the program and runs its module.
 pub fn run<'a, S: ReadFiles, I: Source, O: Sink>(
@@ -35,8 +41,12 @@ pub fn run<'a, S: ReadFiles, I: Source, O: Sink>(
     ensures output { Grew (O.output out.old) (O.output out.new) }
     ensures untouched { ComesBeforeOutput result.cause → (out.new ≡ out.old) × (input.new ≡ input.old) }
 {
-    let goal = Goal::Module(line.room);
-    let Compiled { sources, module } = compile_files(alloc, store, line.files.as_slice(), goal);
+    let Compiled { sources, module } = compile_files(
+        alloc,
+        store,
+        line.files.as_slice(),
+        line.room,
+    );
     match module {
         Ok(built) => run_built(alloc, sources, built, line.fuel, line.stats, input, out),
         Err(cause) => Outcome::without_module(alloc, cause, sources),
@@ -53,8 +63,8 @@ pub fn run_built<'a, I: Source, O: Sink>(
     input: &mut I,
     out: &mut O,
 ) -> Outcome<'a>
-    requires { length built.bytes.items < 4294967295 }
-    ensures ran { Ran (part I.input I.faults input.old input.new) (part O.output O.faults out.old out.new) fuel
+    requires tried { IsTried built }
+    ensures ran { RanBuilt (part I.input I.faults input.old input.new) (part O.output O.faults out.old out.new) fuel
         (IsOfModule sources) result }
     ensures sources { result.sources ≡ sources }
     ensures placed { IsPlaced result.sources result.cause }
@@ -63,10 +73,37 @@ pub fn run_built<'a, I: Source, O: Sink>(
     ensures output { Grew (O.output out.old) (O.output out.new) }
     ensures untouched { ComesBeforeOutput result.cause → (out.new ≡ out.old) × (input.new ≡ input.old) }
 {
-    let Built { bytes, sites } = built;
-    let ended = run_module(alloc, bytes.as_slice(), fuel, input, out);
+    let Built {
+        module,
+        bytes,
+        sites,
+    } = built;
+    let ended = run_valid(alloc, &module, fuel, input, out);
     let cause = at_place(ended.cause, sites.as_slice(), &sources);
     Ended { cause, ..ended }.outcome(sources, "", bytes, stats)
+}
+
+/// Runs a valid module.
+fn run_valid<I: Source, O: Sink>(
+    alloc: Global,
+    module: &Valid,
+    fuel: u64,
+    input: &mut I,
+    out: &mut O,
+) -> Ended
+    requires valid { IsValid «module».now }
+    ensures ran { (run : Runs) × (result ≡ ended_of fuel run) × IsRunOfModule (part I.input I.faults input.old input.new)
+        (part O.output O.faults out.old out.new) «module».now fuel run }
+    ensures placed { (sources : Places) → IsPlaced sources result.cause }
+    ensures output { Grew (O.output out.old) (O.output out.new) }
+    ensures untouched { ComesBeforeOutput result.cause → (out.new ≡ out.old) × (input.new ≡ input.old) }
+{
+    let run = run_module(alloc, module, fuel, input, out);
+    Ended {
+        cause: cause_of(run.answer, fuel),
+        done: done_of(run.answer),
+        steps: run.steps,
+    }
 }
 
 /// The cause of a program whose module ended with this one: where the module stopped, the fault at the position whose number

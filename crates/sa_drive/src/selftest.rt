@@ -1,8 +1,9 @@
 //! The command `selftest`: a generated program is compiled and run, and it is told what came of it.
 
-ghost use Rattle.std.specs.Prelude.{◌≡◌, ◌<◌, [], IfOk, false, is_some, length};
+ghost use Rattle.std.specs.Prelude.{◌≡◌, [], IfOk, false, is_some};
 ghost use Rattle.sa_outside.specs.Output.{Grew};
 ghost use Rattle.sa_drive.specs.Answer.{IsRunApart, IsTested};
+ghost use Rattle.sa_drive.specs.Built.{IsTried};
 ghost use Rattle.sa_drive.specs.Ends.{ComesBeforeOutput, IsPrinted};
 ghost use Rattle.sa_drive.specs.Files.{IsTakenGenerated};
 ghost use Rattle.sa_drive.specs.Lines.{IsPlaced, selftest_line};
@@ -45,7 +46,7 @@ fn run_apart<'a, O: Sink>(
     built: Built,
     out: &mut O,
 ) -> Outcome<'a>
-    requires size { length built.bytes.items < 4294967295 }
+    requires tried { IsTried built }
     requires taken { IsTakenGenerated classes sources }
     ensures ran { IsRunApart (part O.output O.faults out.old out.new) classes result }
     ensures placed { IsPlaced result.sources result.cause }

@@ -1,12 +1,13 @@
-use Rattle.std.proofs.Common.{◌∙◌, inl, inr, refl, subst, sym}
+use Rattle.std.proofs.Common.{◌∙◌, inl, inr, subst, sym}
 use Rattle.sa_drive.specs.Lines.{IsPlaced}
-use Rattle.sa_drive.proofs.EndLemmas.{given_none, placed_write, taken_of, written_earlier}
+use Rattle.sa_drive.proofs.EndLemmas.{given_none, placed_write, spells_of, taken_of, written_earlier}
 use Rattle.sa_drive.proofs.build.build.Goals as goal
 
 pub returns-in-Ok-clause-does : goal.returns-in-Ok-clause-does
 returns-in-Ok-clause-does g c =
     rw (← c.as_slice.ensures.value) (inr (
       taken_of _ _ _ _ _ _ _ c.in-Ok.is c.compile_files-sources.ensures.«module» c.without_run.ensures.sources,
+      spells_of _ c.in-Ok.built _ c.in-Ok.is c.compile_files-sources.ensures.built c.without_run.ensures.bytes,
       written_earlier _ _ _ _ _ _ _ _ _ _ _ c.compile_files-sources.ensures.files c.compile_files-sources.ensures.count (c.without_run.ensures.bytes ∙ sym c.as_slice-in-Ok.ensures.value) c.without_run.ensures.cause c.written-cause.ensures.written,
     ))
 

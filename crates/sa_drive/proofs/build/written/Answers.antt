@@ -1,4 +1,3 @@
-use Rattle.std.proofs.Common.{rules}
 use Rattle.sa_drive.proofs.OutputLemmas.{WritesFront-from_writes}
 use Rattle.sa_drive.proofs.build.written.Goals as goal
 

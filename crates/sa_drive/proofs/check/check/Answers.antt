@@ -6,14 +6,14 @@ use Rattle.sa_drive.proofs.check.check.Goals as goal
 pub returns-in-Ok-clause-does : goal.returns-in-Ok-clause-does
 returns-in-Ok-clause-does g c =
     rw (← c.as_slice.ensures.value) (inr (
-      taken_of _ _ _ _ _ _ _ c.in-Ok.is c.compile_files-sources.ensures.«module» c.without_module.ensures.sources,
+      taken_of _ _ _ _ _ _ _ c.in-Ok.is c.check_files-sources.ensures.core c.without_module.ensures.sources,
       c.without_module.ensures.bytes,
       rw c.without_module.ensures.cause c.print.ensures.printed,
     ))
 
 pub returns-in-Err-clause-does : goal.returns-in-Err-clause-does
 returns-in-Err-clause-does g c =
-    rw (← c.as_slice.ensures.value) (inl (given_none _ _ _ _ _ _ c.in-Err.is c.compile_files-sources.ensures.«module» c.compile_files-sources.ensures.files c.without_module-in-Err.ensures.sources c.without_module-in-Err.ensures.cause c.without_module-in-Err.ensures.bytes, refl))
+    rw (← c.as_slice.ensures.value) (inl (given_none _ _ _ _ _ _ c.in-Err.is c.check_files-sources.ensures.core c.check_files-sources.ensures.files c.without_module-in-Err.ensures.sources c.without_module-in-Err.ensures.cause c.without_module-in-Err.ensures.bytes, refl))
 
 pub returns-in-Ok-clause-placed : goal.returns-in-Ok-clause-placed
 returns-in-Ok-clause-placed g c =

@@ -1,6 +1,10 @@
-use Rattle.sa_drive.proofs.EndLemmas.{of_program}
+use Rattle.sa_drive.proofs.EndLemmas.{made_of, placed_made}
 use Rattle.sa_drive.proofs.compile.compile_files.Goals as goal
 
-pub returns-in-Ok-clause-module : goal.returns-in-Ok-clause-module
-returns-in-Ok-clause-module g c =
-    rw c.compile_program.ensures.same (of_program (g.S.ReadFiles.files c.args.store.now) _ _ c.in-Ok.program c.compile_program.result.«module» c.in-Ok.ensures.read c.compile_program.ensures.whole c.compile_program.ensures.fault)
+pub returns-clause-module : goal.returns-clause-module
+returns-clause-module g c =
+    rw c.compile_checked.ensures.same (made_of _ _ c.check_files-checked.result.core c.compile_checked.result.«module» c.check_files-checked.ensures.core c.compile_checked.ensures.made c.compile_checked.ensures.fault tt)
+
+pub returns-clause-placed : goal.returns-clause-placed
+returns-clause-placed g c =
+    rw c.compile_checked.ensures.same (placed_made c.check_files-checked.result.sources c.check_files-checked.result.core c.compile_checked.result.«module» c.check_files-checked.ensures.placed c.compile_checked.ensures.fault)

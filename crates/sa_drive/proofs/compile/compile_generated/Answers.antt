@@ -1,7 +1,10 @@
-use Rattle.std.proofs.Common.{refl}
-use Rattle.sa_drive.proofs.EndLemmas.{of_generated}
+use Rattle.sa_drive.proofs.EndLemmas.{made_of, placed_made}
 use Rattle.sa_drive.proofs.compile.compile_generated.Goals as goal
 
-pub returns-in-Ok-clause-module : goal.returns-in-Ok-clause-module
-returns-in-Ok-clause-module c =
-    rw c.compile_program.ensures.same (of_generated c.args.classes _ c.compile_program.result.«module» c.in-Ok.ensures.value refl c.compile_program.ensures.whole c.compile_program.ensures.fault)
+pub returns-clause-module : goal.returns-clause-module
+returns-clause-module c =
+    rw c.compile_checked.ensures.same (made_of _ _ c.check_generated-checked.result.core c.compile_checked.result.«module» c.check_generated-checked.ensures.core c.compile_checked.ensures.made c.compile_checked.ensures.fault tt)
+
+pub returns-clause-placed : goal.returns-clause-placed
+returns-clause-placed c =
+    rw c.compile_checked.ensures.same (placed_made c.check_generated-checked.result.sources c.check_generated-checked.result.core c.compile_checked.result.«module» c.check_generated-checked.ensures.placed c.compile_checked.ensures.fault)

@@ -1,4 +1,4 @@
-use Rattle.std.proofs.Common.{◌∙◌, inl, inr, refl, subst, sym}
+use Rattle.std.proofs.Common.{◌∙◌, inr, subst, sym}
 use Rattle.sa_read.specs.Read.{IsReadOf}
 use Rattle.sa_drive.specs.Answer.{IsModuleIn, IsSame}
 use Rattle.sa_drive.specs.Lines.{IsPlaced}

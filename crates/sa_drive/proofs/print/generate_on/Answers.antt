@@ -1,7 +1,6 @@
 use Rattle.std.proofs.Common.{◌∙◌, subst}
 use Rattle.sa_drive.specs.Ends.{IsPrinted}
 use Rattle.sa_drive.specs.Seen.{part}
-use Rattle.sa_drive.specs.declared.cause.Cause.TheVariants as cause
 use Rattle.sa_drive.proofs.OutputLemmas.{TookFront-nothing}
 use Rattle.sa_drive.proofs.print.generate_on.Goals as goal
 

@@ -1,4 +1,4 @@
-use Rattle.std.proofs.Common.{inl, inr, refl, subst, sym}
+use Rattle.std.proofs.Common.{inl, inr, refl}
 use Rattle.sa_drive.proofs.EndLemmas.{given_none, taken_of}
 use Rattle.sa_drive.proofs.RunLemmas.{ran_of}
 use Rattle.sa_drive.proofs.run.run.Goals as goal

@@ -1,15 +1,15 @@
-use Rattle.std.proofs.Common.{◌∙◌, sym, subst}
+use Rattle.std.proofs.Common.{sym, subst}
 use Rattle.sa_drive.specs.Ends.{IsOfModule}
 use Rattle.sa_drive.specs.Lines.{IsPlaced}
-use Rattle.sa_drive.proofs.RunLemmas.{shown}
+use Rattle.sa_drive.proofs.RunLemmas.{shown_built}
 use Rattle.sa_drive.proofs.run.run_built.Goals as goal
 
 pub returns-clause-ran : goal.returns-clause-ran
 returns-clause-ran g c =
-    let ran = c.run_module-ended.ensures.ran in
-    shown _ _ (IsOfModule c.args.sources) _ c.args.fuel c.run_module-ended.result ran.0 c.outcome.result ran.1 ran.2 (c.outcome.ensures.bytes ∙ sym c.as_slice.ensures.value) (subst (IsOfModule c.args.sources c.run_module-ended.result.cause) (sym c.outcome.ensures.cause) c.at_place-cause.ensures.of_module) c.outcome.ensures.done c.outcome.ensures.steps
+    let ran = c.run_valid-ended.ensures.ran in
+    shown_built _ _ (IsOfModule c.args.sources) c.args.built c.args.fuel c.run_valid-ended.result ran.0 c.outcome.result c.requires.tried ran.1 ran.2 c.outcome.ensures.bytes (subst (IsOfModule c.args.sources c.run_valid-ended.result.cause) (sym c.outcome.ensures.cause) c.at_place-cause.ensures.of_module) c.outcome.ensures.done c.outcome.ensures.steps
 
 pub returns-clause-placed : goal.returns-clause-placed
 returns-clause-placed g c =
-    let told = subst (λ sources. IsPlaced sources c.at_place-cause.result) (sym c.outcome.ensures.sources) (c.at_place-cause.ensures.placed (c.run_module-ended.ensures.placed c.args.sources)) in
+    let told = subst (λ sources. IsPlaced sources c.at_place-cause.result) (sym c.outcome.ensures.sources) (c.at_place-cause.ensures.placed (c.run_valid-ended.ensures.placed c.args.sources)) in
     subst (IsPlaced c.outcome.result.sources) (sym c.outcome.ensures.cause) told
