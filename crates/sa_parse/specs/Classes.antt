@@ -15,12 +15,12 @@ use Rattle.sa_tree.specs.declared.class.Feature.{Feature}
 use Rattle.sa_tree.specs.declared.class.Class.{Class}
 use Rattle.sa_parse_expr.specs.Lexemes.{Lexeme, IsWord, IsSign, lexemes_of}
 use Rattle.sa_parse_expr.specs.Types.{IsType, IsTypes}
-use Rattle.sa_parse.specs.declared.class.Edges.{Edges}
+use Rattle.sa_parse.specs.declared.class.DeclaredEdges.{DeclaredEdges}
 use Rattle.sa_parse.specs.declared.class.Head.{Head}
 use Rattle.sa_parse.specs.declared.class.Inside.{Inside}
 use Rattle.sa_parse.specs.declared.file.FileKind.{FileKind}
-use Rattle.sa_parse.specs.declared.member.Member.{Member}
-use Rattle.sa_parse.specs.declared.member.Member.TheVariants as member
+use Rattle.sa_parse.specs.declared.member.Declaration.{Declaration}
+use Rattle.sa_parse.specs.declared.member.Declaration.TheVariants as member
 use Rattle.sa_parse.specs.declared.signature.Signature.{Signature}
 use Rattle.sa_parse.specs.Features.{Enclosing, IsMember, feature_of}
 use Rattle.sa_parse.specs.Names.{name_of}
@@ -57,12 +57,12 @@ pub data IsTypesAfter : Sign → List Lexeme → List Ty → Type 0 where
   given : {s : Sign} {l : Lexeme} {ls : List Lexeme} {types : List Ty} → IsSign s l → IsTypes ls types → IsTypesAfter s (l ∷ ls) types
 
 -- edges = ["<" types] [">" types]
-pub data IsEdges : List Lexeme → Edges → Type 0 where
+pub data IsEdges : List Lexeme → DeclaredEdges → Type 0 where
   edges : {bs us : List Lexeme} {below above : List Ty} → IsTypesAfter sign.Less bs below → IsTypesAfter sign.Greater us above → IsEdges (bs ++ us) (record { below = below; above = above })
 
 -- abstract_head = ANAME params edges
 pub data IsAbstractHead : List Lexeme → Head → Type 0 where
-  abstract_head : {name : Lexeme} {ps es : List Lexeme} {params : List Param} {edges : Edges} → IsAbstractName name → IsParams ps params → IsEdges es edges → IsAbstractHead (name ∷ ps ++ es) (record { name = name_of name; params = params; edges = edges })
+  abstract_head : {name : Lexeme} {ps es : List Lexeme} {params : List Param} {edges : DeclaredEdges} → IsAbstractName name → IsParams ps params → IsEdges es edges → IsAbstractHead (name ∷ ps ++ es) (record { name = name_of name; params = params; edges = edges })
 
 -- concrete_head = CNAME params ["<" types]
 pub data IsConcreteHead : List Lexeme → Head → Type 0 where
@@ -81,16 +81,16 @@ pub data IsSignatures : List Lexeme → List Feature → Type 0 where
   more : {ls ms : List Lexeme} {semicolon : Lexeme} {features others : List Feature} → IsOptionalSignature ls features → IsSign sign.Semicolon semicolon → IsSignatures ms others → IsSignatures (ls ++ semicolon ∷ ms) (features ++ others)
 
 -- a class's inside with what a member of the grammar gives before it
-abbrev pub with_member : Member → Inside → Inside
+abbrev pub with_member : Declaration → Inside → Inside
 with_member (member.Features features) inside = record inside { features = features ++ inside.features }
 with_member (member.Include include) inside = record inside { includes = include ∷ inside.includes }
 
 -- members = [member] {";" [member]}
 pub data IsInside (class : Enclosing) : List Lexeme → Inside → Type 0 where
   nothing : IsInside class [] (record { includes = []; features = [] })
-  last : {ls : List Lexeme} {m : Member} → IsMember class ls m → IsInside class ls (with_member m (record { includes = []; features = [] }))
+  last : {ls : List Lexeme} {m : Declaration} → IsMember class ls m → IsInside class ls (with_member m (record { includes = []; features = [] }))
   empty : {semicolon : Lexeme} {ls : List Lexeme} {inside : Inside} → IsSign sign.Semicolon semicolon → IsInside class ls inside → IsInside class (semicolon ∷ ls) inside
-  more : {ls ms : List Lexeme} {semicolon : Lexeme} {m : Member} {inside : Inside} → IsMember class ls m → IsSign sign.Semicolon semicolon → IsInside class ms inside → IsInside class (ls ++ semicolon ∷ ms) (with_member m inside)
+  more : {ls ms : List Lexeme} {semicolon : Lexeme} {m : Declaration} {inside : Inside} → IsMember class ls m → IsSign sign.Semicolon semicolon → IsInside class ms inside → IsInside class (ls ++ semicolon ∷ ms) (with_member m inside)
 
 -- ---- classes
 

@@ -16,8 +16,8 @@ use Rattle.sa_tree.specs.declared.class.Feature.{Feature}
 use Rattle.sa_tree.specs.declared.class.Change.{Change}
 use Rattle.sa_parse_expr.specs.Lexemes.{Lexeme, IsWord, IsSign, IsFeature}
 use Rattle.sa_parse_expr.specs.Types.{IsType}
-use Rattle.sa_parse.specs.declared.member.Member.{Member}
-use Rattle.sa_parse.specs.declared.member.Member.TheVariants as member
+use Rattle.sa_parse.specs.declared.member.Declaration.{Declaration}
+use Rattle.sa_parse.specs.declared.member.Declaration.TheVariants as member
 use Rattle.sa_parse.specs.declared.declared.SharedParts.{SharedParts}
 use Rattle.sa_parse.specs.declared.file.FileKind.{FileKind}
 use Rattle.sa_parse.specs.declared.file.FileKind.TheVariants.{Prelude}
@@ -109,7 +109,7 @@ pub data IsCalled (class : Enclosing) : Access → List Lexeme → Feature → T
   builtin : {access : Access} {w : Lexeme} {ls : List Lexeme} {sig : Signature} → class.file_kind ≡ Prelude → IsWord word.Builtin w → IsSig ls sig → IsCalled class access (w ∷ ls) (feature_of sig access (part.Builtin class.name sig.name.name))
 
 -- member = ["private"] (routine | stub | builtin | const | include) | ["private" | "readonly"] (attr | shared)
-pub data IsMember (class : Enclosing) : List Lexeme → Member → Type 0 where
+pub data IsMember (class : Enclosing) : List Lexeme → Declaration → Type 0 where
   called : {ls ms : List Lexeme} {access : Access} {feature : Feature} → IsPrivate ls access → IsCalled class access ms feature → IsMember class (ls ++ ms) (member.Features (feature ∷ []))
   declared : {ls ms : List Lexeme} {access : Access} {features : List Feature} → IsAccess ls access → IsDeclared access ms features → IsMember class (ls ++ ms) (member.Features features)
   constants : {ls ms : List Lexeme} {access : Access} {features : List Feature} → IsPrivate ls access → IsConstants access ms features → IsMember class (ls ++ ms) (member.Features features)

@@ -17,7 +17,7 @@ ghost use Rattle.std.specs.Prelude.{◌≤◌, IfErr, IfOk, length};
 ghost use Rattle.sa_parse_expr.specs.Places.{IsBehind, IsFrom, IsUnexpected};
 
 use crate::file::FileKind;
-use crate::member::{ClassContext, Member, member, of_sig};
+use crate::member::{ClassContext, Declaration, member, of_sig};
 use crate::names::{abstract_name, class_name};
 use crate::sharing::Sharing;
 use crate::signature::sig;
@@ -33,12 +33,12 @@ use std::alloc::{AllocError, Global};
 struct Head {
     name: Local,
     params: Items<Param>,
-    edges: Edges,
+    edges: DeclaredEdges,
 }
 
 /// The types that a class is declared to be below and above.
 #[derive(Drop)]
-struct Edges {
+struct DeclaredEdges {
     below: Items<Ty>,
     above: Items<Ty>,
 }
@@ -59,10 +59,10 @@ impl Inside {
     }
 
     /// Puts what a member gives at the end.
-    fn put(&mut self, member: Option<Member>) -> Result<(), AllocError> {
+    fn put(&mut self, member: Option<Declaration>) -> Result<(), AllocError> {
         match member {
-            Some(Member::Features(features)) => self.features.append(features),
-            Some(Member::Include(include)) => self.includes.push(include),
+            Some(Declaration::Features(features)) => self.features.append(features),
+            Some(Declaration::Include(include)) => self.includes.push(include),
             None => Ok(()),
         }
     }
@@ -135,14 +135,14 @@ fn abstract_head(alloc: Global, tokens: &Tokens<'_>, from: u32) -> Result<(Head,
 }
 
 /// `subs [">" types]`
-fn edges(alloc: Global, tokens: &Tokens<'_>, from: u32) -> Result<(Edges, u32), FrontFault>
+fn edges(alloc: Global, tokens: &Tokens<'_>, from: u32) -> Result<(DeclaredEdges, u32), FrontFault>
     requires { from ≤ length tokens.now.list.now }
     ensures next { IfOk result (λ read. IsFrom tokens.now.list.now from read.1) }
     ensures refused { IfErr result (IsUnexpected tokens.now.file) }
 {
     let (below, next) = types_after(alloc, tokens, Sign::Less, from)?;
     let (above, next) = types_after(alloc, tokens, Sign::Greater, next)?;
-    Ok((Edges { below, above }, next))
+    Ok((DeclaredEdges { below, above }, next))
 }
 
 /// `"is" signatures "end"`
@@ -199,7 +199,7 @@ fn concrete_head(alloc: Global, tokens: &Tokens<'_>, from: u32) -> Result<(Head,
     let head = Head {
         name,
         params,
-        edges: Edges {
+        edges: DeclaredEdges {
             below,
             above: Items::new(alloc),
         },
@@ -362,7 +362,7 @@ fn optional_member(
     class: ClassContext<'_>,
     sharing: &mut Sharing,
     from: u32,
-) -> Result<(Option<Member>, u32), FrontFault>
+) -> Result<(Option<Declaration>, u32), FrontFault>
     requires { from ≤ length tokens.now.list.now }
     ensures next { IfOk result (λ read. IsFrom tokens.now.list.now from read.1) }
     ensures refused { IfErr result (IsUnexpected tokens.now.file) }

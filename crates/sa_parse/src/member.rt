@@ -36,7 +36,7 @@ pub(crate) struct ClassContext<'a> {
 
 /// What a member of the grammar gives: an include, or a feature of the tree for each of its names.
 #[derive(Drop)]
-pub(crate) enum Member {
+pub(crate) enum Declaration {
     Features(Items<Feature>),
     Include(Include),
 }
@@ -59,7 +59,7 @@ pub(crate) fn member(
     class: ClassContext<'_>,
     sharing: &mut Sharing,
     from: u32,
-) -> Result<(Member, u32), FrontFault>
+) -> Result<(Declaration, u32), FrontFault>
     ensures next { IfOk result (λ read. IsBehind tokens.now.list.now from read.1) }
     ensures refused { IfErr result (IsUnexpected tokens.now.file) }
 {
@@ -69,7 +69,7 @@ pub(crate) fn member(
         }
         Some(TokenKind::Word(Word::Readonly)) => {
             let (features, next) = variables(alloc, tokens, sharing, Access::ReadOnly, from + 1)?;
-            Ok((Member::Features(features), next))
+            Ok((Declaration::Features(features), next))
         }
         _ => after_access(alloc, tokens, class, sharing, Access::Public, from),
     }
@@ -83,28 +83,28 @@ fn after_access(
     sharing: &mut Sharing,
     access: Access,
     from: u32,
-) -> Result<(Member, u32), FrontFault>
+) -> Result<(Declaration, u32), FrontFault>
     ensures next { IfOk result (λ read. IsBehind tokens.now.list.now from read.1) }
     ensures refused { IfErr result (IsUnexpected tokens.now.file) }
 {
     match tokens.kind(from) {
         Some(TokenKind::Word(Word::Include)) => {
             let (include, next) = include(alloc, tokens, access, from + 1)?;
-            Ok((Member::Include(include), next))
+            Ok((Declaration::Include(include), next))
         }
         Some(TokenKind::Word(Word::Attr | Word::Shared)) => {
             let (features, next) = variables(alloc, tokens, sharing, access, from)?;
-            Ok((Member::Features(features), next))
+            Ok((Declaration::Features(features), next))
         }
         Some(TokenKind::Word(Word::Const)) => {
             let (features, next) = constants(alloc, tokens, sharing, access, from + 1)?;
-            Ok((Member::Features(features), next))
+            Ok((Declaration::Features(features), next))
         }
         _ => {
             let (feature, next) = called(alloc, tokens, class, sharing, access, from)?;
             let mut features = Items::new(alloc);
             features.push(feature)?;
-            Ok((Member::Features(features), next))
+            Ok((Declaration::Features(features), next))
         }
     }
 }
