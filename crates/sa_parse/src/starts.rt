@@ -38,7 +38,7 @@ pub(crate) fn begins_statement(token: Option<&TokenKind>) -> bool
 
 /// Whether the token begins a member of this class.
 pub(crate) fn begins_member(token: Option<&TokenKind>, class: ClassContext<'_>) -> bool
-    ensures value { result ≡ begins_member class.kind class.file_kind (option_copied token.entry) }
+    ensures value { result ≡ begins_member class.entry.kind class.entry.file_kind (option_copied token.entry) }
     ensures there { OnTrue result (IsSome token.entry) }
 {
     match token {
