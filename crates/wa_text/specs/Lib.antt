@@ -1,0 +1,5 @@
+pub mod Forms
+pub mod Instructions
+pub mod Listing
+pub mod Mnemonics
+pub mod Words

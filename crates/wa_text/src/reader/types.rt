@@ -1,0 +1,104 @@
+//! Types.
+
+use crate::fault::LineFault;
+use crate::reader::line::LineForm;
+use crate::reader::words::{behind, index};
+use sqlite_items::Items;
+use std::alloc::Global;
+use wa_syntax::{FuncTy, GlobalTy, Limits, ValTy};
+
+/// The type of a value that a word stands for.
+fn value_type(word: &[u8]) -> Option<ValTy> {
+    match word {
+        b"i32" => Some(ValTy::I32),
+        b"i64" => Some(ValTy::I64),
+        _ => None,
+    }
+}
+
+/// The types at the front of the words, and the words behind them.
+pub fn value_types<'a>(
+    alloc: Global,
+    words: &'a [&'a [u8]],
+) -> Result<(Items<ValTy>, &'a [&'a [u8]]), LineFault> {
+    let mut types = Items::new(alloc);
+    for (at, word) in words.iter().enumerate() {
+        match value_type(*word) {
+            Some(ty) => types.push(ty)?,
+            None => return Ok((types, &words[at..])),
+        }
+    }
+    Ok((types, &words[words.len()..]))
+}
+
+/// The type of a block's result, if there is one.
+pub fn block_result(words: &[&[u8]]) -> Result<Option<ValTy>, LineFault> {
+    match words {
+        [] => Ok(None),
+        [word] => match value_type(*word) {
+            Some(ty) => Ok(Some(ty)),
+            None => Err(LineFault::Wrong),
+        },
+        _ => Err(LineFault::Wrong),
+    }
+}
+
+/// A function type.
+pub struct FunctionType;
+
+impl LineForm for FunctionType {
+    type Value = FuncTy;
+
+    fn read(alloc: Global, words: &[&[u8]]) -> Result<FuncTy, LineFault> {
+        let (params, rest) = value_types(alloc, words)?;
+        let (results, rest) = value_types(alloc, behind(rest, b"->")?)?;
+        if rest.is_empty() {
+            Ok(FuncTy { params, results })
+        } else {
+            Err(LineFault::Wrong)
+        }
+    }
+}
+
+/// The minimum, or the minimum and the maximum.
+pub fn limits(words: &[&[u8]]) -> Result<Limits, LineFault> {
+    match words {
+        [min] => Ok(Limits {
+            min: index(*min)?,
+            max: None,
+        }),
+        [min, max] => Ok(Limits {
+            min: index(*min)?,
+            max: Some(index(*max)?),
+        }),
+        _ => Err(LineFault::Wrong),
+    }
+}
+
+/// The type of a table or of a memory, which is its limits.
+pub struct Sized;
+
+impl LineForm for Sized {
+    type Value = Limits;
+
+    fn read(_alloc: Global, words: &[&[u8]]) -> Result<Limits, LineFault> {
+        limits(words)
+    }
+}
+
+/// The type of a global, of two words.
+pub fn global_type(val: &[u8], mutability: &[u8]) -> Result<GlobalTy, LineFault> {
+    match (value_type(val), mutable(mutability)) {
+        (Some(val), Some(mutable)) => Ok(GlobalTy { val, mutable }),
+        _ => Err(LineFault::Wrong),
+    }
+}
+
+/// Whether a global may be changed.
+fn mutable(word: &[u8]) -> Option<bool> {
+    match word {
+        b"const" => Some(false),
+        b"var" => Some(true),
+        _ => None,
+    }
+}
