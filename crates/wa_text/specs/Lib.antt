@@ -3,3 +3,4 @@ pub mod Instructions
 pub mod Listing
 pub mod Mnemonics
 pub mod Words
+pub mod Writing

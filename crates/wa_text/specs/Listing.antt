@@ -97,8 +97,8 @@ segment s = word (codes "data") then u32 s.memory then init s.offset then bytes 
 abbrev pub each_line : {V : Type 0} → (V → Form Word) → List V → Form Line
 each_line F = each (λ v. line (F v))
 
-abbrev pub module : Module → Form Line
-module m =
+abbrev pub module_lines : Module → Form Line
+module_lines m =
     each_line functype m.types
     then each_line import m.imports
     then each func m.funcs
@@ -112,4 +112,4 @@ module m =
 
 -- the text is the listing of the module
 abbrev pub IsListing : List ℕ → Module → Type 0
-IsListing text m = (lines : List Line) × module m lines × (text ≡ text_of lines)
+IsListing text m = (lines : List Line) × module_lines m lines × (text ≡ text_of lines)

@@ -1,6 +1,7 @@
 //! The names of opcodes: the standard's mnemonics.
 
-ghost use Rattle.std.specs.Prelude.{◌≡◌};
+ghost use Rattle.std.specs.Prelude.{◌≡◌, map, option_copied};
+ghost use Rattle.wa_text.specs.Mnemonics.{access_names, name_in, plain_names};
 
 use wa_syntax::opcode::*;
 
@@ -100,7 +101,9 @@ const ACCESSES: [(u8, &str); 19] = [
 ];
 
 /// The name of an opcode in a table.
-fn name_in(table: &[(u8, &'static str)], opcode: u8) -> Option<&'static str> {
+fn name_in(table: &[(u8, &'static str)], opcode: u8) -> Option<&'static str>
+    ensures { option_copied result ≡ name_in (map (λ row. (row.0, row.1.now)) table.now) opcode }
+{
     for (other, name) in table {
         if *other == opcode {
             return Some(*name);
@@ -120,12 +123,16 @@ fn opcode_in(table: &[(u8, &'static str)], name: &[u8]) -> Option<u8> {
 }
 
 /// The name of an instruction that is its opcode alone, or `None` where the opcode is none of one.
-pub fn plain_name(opcode: u8) -> Option<&'static str> {
+pub fn plain_name(opcode: u8) -> Option<&'static str>
+    ensures { option_copied result ≡ name_in plain_names opcode }
+{
     name_in(&PLAIN, opcode)
 }
 
 /// The name of a load or a store, or `None` where the opcode is none of one.
-pub fn access_name(opcode: u8) -> Option<&'static str> {
+pub fn access_name(opcode: u8) -> Option<&'static str>
+    ensures { option_copied result ≡ name_in access_names opcode }
+{
     name_in(&ACCESSES, opcode)
 }
 

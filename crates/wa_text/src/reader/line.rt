@@ -32,11 +32,7 @@ pub fn word_line(lines: &[&[u8]], at: u32, word: &[u8]) -> Result<u32, ListFault
 }
 
 /// The words of a line. Where the lines end, the fault is that of a line behind them.
-pub fn words<'a>(
-    alloc: Global,
-    lines: &[&'a [u8]],
-    at: u32,
-) -> Result<Vec<&'a [u8]>, ListFault>
+pub fn words<'a>(alloc: Global, lines: &[&'a [u8]], at: u32) -> Result<Vec<&'a [u8]>, ListFault>
     requires { at < u32.MAX }
 {
     match lines.get(at as usize) {
@@ -73,11 +69,7 @@ pub trait LineForm {
 }
 
 /// The item of a line.
-pub fn item<P: LineForm>(
-    alloc: Global,
-    lines: &[&[u8]],
-    at: u32,
-) -> Result<P::Value, ListFault>
+pub fn item<P: LineForm>(alloc: Global, lines: &[&[u8]], at: u32) -> Result<P::Value, ListFault>
     requires { at < u32.MAX }
 {
     let words = words(alloc, lines, at)?;

@@ -1,5 +1,8 @@
 //! Modules.
 
+ghost use Rattle.std.specs.Prelude.{◌≡◌, ℕ, List, IfOk};
+ghost use Rattle.wa_text.specs.Listing.{IsListing};
+
 use crate::writer::items::{
     element, export, function, global, import, memory, segment, start, table,
 };
@@ -11,7 +14,10 @@ use wa_syntax::{Module, NoMemory};
 /// The listing of a module: a line for each item, in the order of the module's fields, and one for each instruction.
 ///
 /// `NoMemory` comes where memory runs out.
-pub fn write(alloc: Global, m: &Module) -> Result<Vec<u8>, NoMemory> {
+pub fn write(alloc: Global, m: &Module) -> Result<Vec<u8>, NoMemory>
+    // If any text is the listing of the module, this one alone is.
+    ensures { IfOk result (λ text. (other : List ℕ) → IsListing other m.now → other ≡ text.items) }
+{
     let mut out = Vec::new(alloc);
     each(&mut out, m.types.as_slice(), function_type)?;
     each(&mut out, m.imports.as_slice(), import)?;
