@@ -45,9 +45,9 @@ Adds-then {X} {show} {A} {B} {old} {middle} {new} a b = record {
   items = a.items ++ b.items;
   only = λ other h. h.2 ∙ ap (λ (front : List X). front ++ h.1) (a.only h.0 h.3) ∙ ap (λ (back : List X). a.items ++ back) (b.only h.1 h.4);
   is = b.is
-    ∙ ap (λ (text : List ℕ). text ++ flat_map show b.items) a.is
-    ∙ append_assoc old (flat_map show a.items) (flat_map show b.items)
-    ∙ ap (λ (more : List ℕ). old ++ more) (sym (flat_map-append show a.items b.items));
+      ∙ ap (λ (text : List ℕ). text ++ flat_map show b.items) a.is
+      ∙ append_assoc old (flat_map show a.items) (flat_map show b.items)
+      ∙ ap (λ (more : List ℕ). old ++ more) (sym (flat_map-append show a.items b.items));
 }
 
 -- the last call's answer is returned as it is

@@ -1,3 +1,5 @@
 pub mod Adding
+pub mod Digits
+pub mod Lines
 pub mod Productions
 pub mod Weights

@@ -1,19 +1,22 @@
 -- The productions: instructions, items and modules.
 use Rattle.std.proofs.Common.{◌≡◌, ◌≢◌, ℕ, zero, suc, ◌+◌, List, [], ◌∷◌, ◌++◌, Option, Some, None, Result, OnOk, refl, sym, ap, subst, ◌∙◌, append_assoc, replicate}
-use Rattle.std.specs.Prelude.{codes}
+use Rattle.std.specs.Prelude.{codes, decimal}
+use Rattle.hex.specs.Hex.{encode_lower}
 use Rattle.std.proofs.lemmas.Result.{on_ok_weaker}
 use Rattle.wa_syntax.specs.declared.instr.Instr.{Instr, out-Instr, out-roll-Instr, roll-Instr}
 use Rattle.wa_syntax.specs.declared.instr.Instr.TheOpen.{Instr-F}
 use Rattle.wa_syntax.specs.declared.instr.Instr.TheVariants as variant
 use Rattle.wa_syntax.specs.declared.locals.Run.{Run}
+use Rattle.wa_syntax.specs.declared.module.Module.{Module}
 use Rattle.wa_syntax.specs.declared.module.ValTy.{ValTy}
 use Rattle.wa_syntax.specs.Locals.{types_of_runs}
 use Rattle.wa_text.specs.Forms.{Form, nothing, ◌then◌, each}
 use Rattle.wa_text.specs.Instructions.{begin, else_end, end, instr, instr_over, named}
 use Rattle.wa_text.specs.Mnemonics.{name_in}
-use Rattle.wa_text.specs.Words.{Word, Line, line, val, word}
+use Rattle.wa_text.specs.Listing.{IsListing, locals, module_lines}
+use Rattle.wa_text.specs.Words.{Word, Line, bytes, line, number, text_of, val, word}
 use Rattle.wa_text.specs.Writing.{Adds, AddsWords, AddsLines}
-use Rattle.wa_text.proofs.Adding.{Adds-as, Adds-never, Adds-nothing, Adds-then, Adds-word_line, Adds-line}
+use Rattle.wa_text.proofs.Adding.{Adds-as, Adds-never, Adds-nothing, Adds-then, Adds-word}
 
 -- ---- names of opcodes
 
@@ -113,3 +116,35 @@ runs_apart (run ∷ runs) words h =
 pub Adds-runs : (runs : List Run) (types : List ValTy) (old new : List ℕ) → types_of_runs runs ≡ types → AddsWords (each (λ run. each val (replicate run.count run.ty)) runs) old new → AddsWords (each val types) old new
 Adds-runs runs types old new same h =
     subst (λ (list : List ValTy). AddsWords (each val list) old new) same (Adds-as {A = each (λ (run : Run). each val (replicate run.count run.ty)) runs} (each val (types_of_runs runs)) (runs_apart runs) h)
+
+pub Adds-locals : (runs : List Run) (types : List ValTy) (old new : List ℕ) → types_of_runs runs ≡ types → AddsWords (each (λ run. each val (replicate run.count run.ty)) runs) old new → AddsWords (locals types) old new
+Adds-locals runs types old new same h = Adds-as {A = each val types} (locals types) (λ other spelled. spelled.1) (Adds-runs runs types old new same h)
+
+pub replicate_more : (n m : ℕ) (ty : ValTy) → n ≡ suc m → replicate n ty ≡ ty ∷ replicate m ty
+replicate_more n m ty is = ap (λ (count : ℕ). replicate count ty) is
+
+pub replicate_none : (n : ℕ) (ty : ValTy) → n ≡ 0 → replicate n ty ≡ []
+replicate_none n ty is = ap (λ (count : ℕ). replicate count ty) is
+
+-- ---- words
+
+pub Adds-number : (bits n : ℕ) (w : Word) (old new : List ℕ) → w ≡ decimal n → AddsWords (word w) old new → AddsWords (number bits n) old new
+Adds-number bits n w old new same h = Adds-as {A = word w} (number bits n) (λ other spelled. spelled.1 ∙ ap (λ (v : Word). v ∷ []) (sym same)) h
+
+pub named_line : (names : List (ℕ × Word)) (opcode : ℕ) (w : Word) (old new : List ℕ) → name_in names opcode ≡ Some w → AddsLines (line (word w)) old new → AddsLines (line (named names opcode)) old new
+named_line names opcode w old new is h = Adds-as {A = line (word w)} (line (named names opcode)) (λ other spelled. (spelled.0, only_name names opcode w is spelled.0 spelled.1, spelled.2)) h
+
+pub Adds-no_bytes : (bs : List ℕ) (old new : List ℕ) → bs ≡ [] → AddsWords (word (codes "-")) old new → AddsWords (bytes bs) old new
+Adds-no_bytes bs old new empty h = subst (λ (list : List ℕ). AddsWords (bytes list) old new) (sym empty) (Adds-as {A = word (codes "-")} (bytes []) (λ other spelled. spelled.1) h)
+
+pub Adds-bytes : (bs : List ℕ) (old begun new : List ℕ) → bs ≢ [] → begun ≡ old ++ 32 ∷ [] → new ≡ begun ++ encode_lower bs → AddsWords (bytes bs) old new
+Adds-bytes [] old begun new some begins is = absurd (some refl)
+Adds-bytes (b ∷ bs) old begun new some begins is =
+    Adds-as {A = word (encode_lower (b ∷ bs))} (bytes (b ∷ bs)) (λ other spelled. spelled.1)
+    (Adds-word (encode_lower (b ∷ bs)) old new (is ∙ ap (λ (text : List ℕ). text ++ encode_lower (b ∷ bs)) begins ∙ append_assoc old (32 ∷ []) (encode_lower (b ∷ bs))))
+
+-- ---- the module
+
+pub only_listing : (m : Module) (text other old : List ℕ) → old ≡ [] → AddsLines (module_lines m) old text → IsListing other m → other ≡ text
+only_listing m text other old empty h listing =
+    listing.3 ∙ ap text_of (h.only listing.0 listing.1) ∙ sym (h.is ∙ ap (λ (front : List ℕ). front ++ text_of h.items) empty)

@@ -9,6 +9,10 @@ Form X = List X → Type 0
 abbrev pub nothing : {X : Type 0} → Form X
 nothing xs = xs ≡ []
 
+-- these and no others
+abbrev pub exactly : {X : Type 0} → List X → Form X
+exactly wanted xs = xs ≡ wanted
+
 -- the one form, and behind it the other
 infixr 5 ◌then◌
 abbrev pub ◌then◌ : {X : Type 0} → Form X → Form X → Form X

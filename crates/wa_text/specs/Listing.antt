@@ -19,7 +19,7 @@ use Rattle.wa_syntax.specs.declared.module.Segment.{Segment}
 use Rattle.wa_syntax.specs.declared.module.ValTy.{ValTy}
 use Rattle.wa_text.specs.Forms.{Form, ◌then◌, each, nothing}
 use Rattle.wa_text.specs.Instructions.{expr}
-use Rattle.wa_text.specs.Words.{Word, Line, line, text_of, word, u32, u64, bytes, name, val, mut}
+use Rattle.wa_text.specs.Words.{Word, Line, AreLines, line, text_of, word, u32, u64, bytes, name, val, mut}
 
 -- ---- types
 
@@ -112,4 +112,4 @@ module_lines m =
 
 -- the text is the listing of the module
 abbrev pub IsListing : List ℕ → Module → Type 0
-IsListing text m = (lines : List Line) × module_lines m lines × (text ≡ text_of lines)
+IsListing text m = (lines : List Line) × module_lines m lines × AreLines lines × (text ≡ text_of lines)

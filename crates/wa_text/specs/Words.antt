@@ -1,6 +1,6 @@
 -- The words of a listing, the lines that they make, and the text that lines make.
-use Rattle.std.specs.Prelude.{◌≡◌, ℕ, ◌^◌, ◌<◌, Bool, true, false, List, [], ◌∷◌, ◌++◌, flat_map, codes, decimal}
-use Rattle.std.specs.List.{join_with_byte}
+use Rattle.std.specs.Prelude.{◌≡◌, ◌≢◌, ℕ, ◌^◌, ◌<◌, Bool, true, false, List, [], ◌∷◌, ◌++◌, flat_map, codes, decimal}
+use Rattle.std.specs.List.{AllByRecursion, join_with_byte}
 use Rattle.std.specs.Str.{IsUtf8}
 use Rattle.hex.specs.Hex.{IsBytes, encode_lower}
 use Rattle.wa_syntax.specs.declared.module.ValTy.{ValTy}
@@ -13,6 +13,13 @@ Word = List ℕ
 
 abbrev pub Line : Type 0
 Line = List Word
+
+-- a word has no blank and no line feed in it
+abbrev pub IsWord : Word → Type 0
+IsWord w = AllByRecursion (λ b. (b ≢ 32) × (b ≢ 10)) w
+
+abbrev pub AreLines : List Line → Type 0
+AreLines lines = AllByRecursion (AllByRecursion IsWord) lines
 
 -- ---- text
 

@@ -1,6 +1,6 @@
 //! The names of opcodes: the standard's mnemonics.
 
-ghost use Rattle.std.specs.Prelude.{◌≡◌, map, option_copied};
+ghost use Rattle.std.specs.Prelude.{◌≡◌, map, option_copied, Contains, IfSome, Some};
 ghost use Rattle.wa_text.specs.Mnemonics.{access_names, name_in, plain_names};
 
 use wa_syntax::opcode::*;
@@ -113,7 +113,9 @@ fn name_in(table: &[(u8, &'static str)], opcode: u8) -> Option<&'static str>
 }
 
 /// The opcode of a name in a table.
-fn opcode_in(table: &[(u8, &'static str)], name: &[u8]) -> Option<u8> {
+fn opcode_in(table: &[(u8, &'static str)], name: &[u8]) -> Option<u8>
+    ensures { IfSome result (λ opcode. Contains (opcode, name.now) (map (λ row. (row.0, row.1.now)) table.now)) }
+{
     for (opcode, other) in table {
         if other.as_bytes() == name {
             return Some(*opcode);
@@ -137,11 +139,15 @@ pub fn access_name(opcode: u8) -> Option<&'static str>
 }
 
 /// The opcode of an instruction that is its opcode alone, by its name.
-pub fn plain_opcode(name: &[u8]) -> Option<u8> {
+pub fn plain_opcode(name: &[u8]) -> Option<u8>
+    ensures { IfSome result (λ opcode. name_in plain_names opcode ≡ Some name.now) }
+{
     opcode_in(&PLAIN, name)
 }
 
 /// The opcode of a load or a store, by its name.
-pub fn access_opcode(name: &[u8]) -> Option<u8> {
+pub fn access_opcode(name: &[u8]) -> Option<u8>
+    ensures { IfSome result (λ opcode. name_in access_names opcode ≡ Some name.now) }
+{
     opcode_in(&ACCESSES, name)
 }

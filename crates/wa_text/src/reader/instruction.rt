@@ -1,5 +1,10 @@
 //! Instructions, by the words of their first line.
 
+ghost use Rattle.std.specs.Prelude.{◌≡◌, ℕ, [], ◌∷◌, ◌++◌, codes, IfOk, IfSome};
+ghost use Rattle.wa_text.specs.Instructions.{instr};
+ghost use Rattle.wa_text.specs.Reading.{first_line, kind_word, texts};
+ghost use Rattle.wa_text.specs.Words.{Line, u32};
+
 use crate::fault::LineFault;
 use crate::mnemonic::{access_opcode, plain_opcode};
 use crate::reader::types::block_result;
@@ -25,7 +30,9 @@ pub enum FirstLine {
 }
 
 /// The first line of an instruction.
-pub fn first_words(alloc: Global, words: &[&[u8]]) -> Result<FirstLine, LineFault> {
+pub fn first_words(alloc: Global, words: &[&[u8]]) -> Result<FirstLine, LineFault>
+    ensures { IfOk result (λ read. first_line read (texts words.now)) }
+{
     let [first, rest @ ..] = words else {
         return Err(LineFault::Wrong);
     };
@@ -36,7 +43,9 @@ pub fn first_words(alloc: Global, words: &[&[u8]]) -> Result<FirstLine, LineFaul
 }
 
 /// The instruction that holds others, by its word.
-fn block_kind(word: &[u8]) -> Option<BlockKind> {
+fn block_kind(word: &[u8]) -> Option<BlockKind>
+    ensures { IfSome result (λ kind. word.now ≡ kind_word kind) }
+{
     match word {
         b"block" => Some(BlockKind::Block),
         b"loop" => Some(BlockKind::Loop),
@@ -46,7 +55,9 @@ fn block_kind(word: &[u8]) -> Option<BlockKind> {
 }
 
 /// An instruction that holds no others: its first word, and those behind it.
-fn simple(alloc: Global, first: &[u8], words: &[&[u8]]) -> Result<Instr, LineFault> {
+fn simple(alloc: Global, first: &[u8], words: &[&[u8]]) -> Result<Instr, LineFault>
+    ensures { IfOk result (λ read. (levels : ℕ) → instr levels read ((first.now ∷ texts words.now) ∷ [])) }
+{
     match words {
         [] => plain(first),
         [labels @ .., default] if first == b"br_table".as_slice() => {
@@ -59,7 +70,9 @@ fn simple(alloc: Global, first: &[u8], words: &[&[u8]]) -> Result<Instr, LineFau
 }
 
 /// An instruction that is its opcode alone.
-fn plain(name: &[u8]) -> Result<Instr, LineFault> {
+fn plain(name: &[u8]) -> Result<Instr, LineFault>
+    ensures { IfOk result (λ read. (levels : ℕ) → instr levels read ((name.now ∷ []) ∷ [])) }
+{
     match plain_opcode(name) {
         Some(opcode) => Ok(Instr::Plain(opcode)),
         None => Err(LineFault::Wrong),
@@ -67,14 +80,18 @@ fn plain(name: &[u8]) -> Result<Instr, LineFault> {
 }
 
 /// `br_table`: the labels, and the default behind them.
-fn br_table(alloc: Global, labels: &[&[u8]], default: &[u8]) -> Result<Instr, LineFault> {
+fn br_table(alloc: Global, labels: &[&[u8]], default: &[u8]) -> Result<Instr, LineFault>
+    ensures { IfOk result (λ read. (levels : ℕ) → instr levels read ((codes "br_table" ∷ texts labels.now ++ default.now ∷ []) ∷ [])) }
+{
     let default = index(default)?;
     let labels = indices(alloc, labels)?;
     Ok(Instr::BrTable(labels, default))
 }
 
 /// An instruction of a word and a number.
-fn with_number(first: &[u8], value: &[u8]) -> Result<Instr, LineFault> {
+fn with_number(first: &[u8], value: &[u8]) -> Result<Instr, LineFault>
+    ensures { IfOk result (λ read. (levels : ℕ) → instr levels read ((first.now ∷ value.now ∷ []) ∷ [])) }
+{
     if first == b"i64.const".as_slice() {
         return Ok(Instr::I64Const(number(value)?));
     }
@@ -83,7 +100,9 @@ fn with_number(first: &[u8], value: &[u8]) -> Result<Instr, LineFault> {
 
 /// An instruction of a word and a number of 32 bits: a label, a function, a type, a local or a global, or the bits of an
 /// `i32`.
-fn indexed(first: &[u8], index: u32) -> Result<Instr, LineFault> {
+fn indexed(first: &[u8], index: u32) -> Result<Instr, LineFault>
+    ensures { IfOk result (λ read. (levels : ℕ) (words : Line) → u32 index words → instr levels read ((first.now ∷ words) ∷ [])) }
+{
     match first {
         b"br" => Ok(Instr::Br(index)),
         b"br_if" => Ok(Instr::BrIf(index)),
@@ -100,7 +119,9 @@ fn indexed(first: &[u8], index: u32) -> Result<Instr, LineFault> {
 }
 
 /// A load or a store: its alignment, as a power of two, and its offset.
-fn access(name: &[u8], align: &[u8], offset: &[u8]) -> Result<Instr, LineFault> {
+fn access(name: &[u8], align: &[u8], offset: &[u8]) -> Result<Instr, LineFault>
+    ensures { IfOk result (λ read. (levels : ℕ) → instr levels read ((name.now ∷ align.now ∷ offset.now ∷ []) ∷ [])) }
+{
     match access_opcode(name) {
         Some(opcode) => Ok(Instr::Memory(opcode, index(align)?, index(offset)?)),
         None => Err(LineFault::Wrong),

@@ -1,5 +1,11 @@
 //! The items of a module that are a line.
 
+ghost use Rattle.std.specs.Prelude.{◌≡◌, [], ◌∷◌, IfOk};
+ghost use Rattle.wa_text.specs.Forms.{◌then◌, each};
+ghost use Rattle.wa_text.specs.Listing.{exportdesc, globaltype, importdesc, init, locals};
+ghost use Rattle.wa_text.specs.Reading.{texts};
+ghost use Rattle.wa_text.specs.Words.{bytes, name, u32};
+
 use crate::fault::LineFault;
 use crate::reader::line::LineForm;
 use crate::reader::types::{global_type, limits, value_types};
@@ -19,6 +25,8 @@ pub struct ImportItem;
 impl LineForm for ImportItem {
     type Value = Import;
 
+    ghost form = { λ i. name i.module then name i.name then importdesc i.kind };
+
     fn read(alloc: Global, words: &[&[u8]]) -> Result<Import, LineFault> {
         let [module, own, kind, rest @ ..] = words else {
             return Err(LineFault::Wrong);
@@ -31,7 +39,9 @@ impl LineForm for ImportItem {
 }
 
 /// What an import asks for.
-fn import_kind(kind: &[u8], words: &[&[u8]]) -> Result<ImportKind, LineFault> {
+fn import_kind(kind: &[u8], words: &[&[u8]]) -> Result<ImportKind, LineFault>
+    ensures { IfOk result (λ read. importdesc read (kind.now ∷ texts words.now)) }
+{
     match (kind, words) {
         (b"func", [ty]) => Ok(ImportKind::Func(index(*ty)?)),
         (b"table", limit) => Ok(ImportKind::Table(limits(limit)?)),
@@ -51,6 +61,8 @@ pub struct FunctionHead {
 impl LineForm for FunctionHead {
     type Value = FunctionHead;
 
+    ghost form = { λ f. u32 f.ty then locals f.locals };
+
     fn read(alloc: Global, words: &[&[u8]]) -> Result<FunctionHead, LineFault> {
         let [ty, types @ ..] = words else {
             return Err(LineFault::Wrong);
@@ -62,7 +74,9 @@ impl LineForm for FunctionHead {
 }
 
 /// The locals of a function, one word for each.
-fn locals(alloc: Global, words: &[&[u8]]) -> Result<Locals, LineFault> {
+fn locals(alloc: Global, words: &[&[u8]]) -> Result<Locals, LineFault>
+    ensures { IfOk result (λ read. locals read (texts words.now)) }
+{
     let (types, rest) = value_types(alloc, words)?;
     if !rest.is_empty() || types.len() > MAX_LOCALS {
         return Err(LineFault::Wrong);
@@ -71,7 +85,9 @@ fn locals(alloc: Global, words: &[&[u8]]) -> Result<Locals, LineFault> {
 }
 
 /// Types in a row, in runs of one type.
-fn in_runs(alloc: Global, types: &[ValTy]) -> Result<Locals, LineFault> {
+fn in_runs(alloc: Global, types: &[ValTy]) -> Result<Locals, LineFault>
+    ensures { IfOk result (λ read. read ≡ types.now) }
+{
     let mut locals = Locals::new(alloc);
     for ty in types {
         locals.push(1, *ty)?;
@@ -80,7 +96,9 @@ fn in_runs(alloc: Global, types: &[ValTy]) -> Result<Locals, LineFault> {
 }
 
 /// The initial value of a global, or the offset of a segment, of two words.
-fn initial_value(kind: &[u8], value: &[u8]) -> Result<Init, LineFault> {
+fn initial_value(kind: &[u8], value: &[u8]) -> Result<Init, LineFault>
+    ensures { IfOk result (λ read. init read (kind.now ∷ value.now ∷ [])) }
+{
     match kind {
         b"i32" => Ok(Init::Const32(index(value)?)),
         b"i64" => Ok(Init::Const64(number(value)?)),
@@ -94,6 +112,8 @@ pub struct GlobalItem;
 
 impl LineForm for GlobalItem {
     type Value = GlobalDef;
+
+    ghost form = { λ g. globaltype g.ty then init g.init };
 
     fn read(_alloc: Global, words: &[&[u8]]) -> Result<GlobalDef, LineFault> {
         let [val, mutability, kind, value] = words else {
@@ -112,6 +132,8 @@ pub struct ExportItem;
 impl LineForm for ExportItem {
     type Value = Export;
 
+    ghost form = { λ e. name e.name then exportdesc e.kind };
+
     fn read(alloc: Global, words: &[&[u8]]) -> Result<Export, LineFault> {
         let [own, kind, value] = words else {
             return Err(LineFault::Wrong);
@@ -123,7 +145,9 @@ impl LineForm for ExportItem {
 }
 
 /// What is exported.
-fn export_kind(kind: &[u8], value: &[u8]) -> Result<ExportKind, LineFault> {
+fn export_kind(kind: &[u8], value: &[u8]) -> Result<ExportKind, LineFault>
+    ensures { IfOk result (λ read. exportdesc read (kind.now ∷ value.now ∷ [])) }
+{
     let value = index(value)?;
     match kind {
         b"func" => Ok(ExportKind::Func(value)),
@@ -140,6 +164,8 @@ pub struct StartItem;
 impl LineForm for StartItem {
     type Value = u32;
 
+    ghost form = { u32 };
+
     fn read(_alloc: Global, words: &[&[u8]]) -> Result<u32, LineFault> {
         match words {
             [func] => index(*func),
@@ -153,6 +179,8 @@ pub struct ElementItem;
 
 impl LineForm for ElementItem {
     type Value = Elem;
+
+    ghost form = { λ e. u32 e.table then init e.offset then each u32 e.funcs };
 
     fn read(alloc: Global, words: &[&[u8]]) -> Result<Elem, LineFault> {
         let [table, kind, value, rest @ ..] = words else {
@@ -174,6 +202,8 @@ pub struct SegmentItem;
 
 impl LineForm for SegmentItem {
     type Value = Segment;
+
+    ghost form = { λ s. u32 s.memory then init s.offset then bytes s.bytes };
 
     fn read(alloc: Global, words: &[&[u8]]) -> Result<Segment, LineFault> {
         let [memory, kind, value, content] = words else {

@@ -1,5 +1,11 @@
 //! Modules.
 
+ghost use Rattle.std.specs.Prelude.{◌<◌, ◌≤◌, length, IfOk};
+ghost use Rattle.wa_text.specs.Forms.{each};
+ghost use Rattle.wa_text.specs.Listing.{IsListing, func, module_lines, start};
+ghost use Rattle.wa_text.specs.Places.{EndsIn, ReachesIn};
+ghost use Rattle.wa_text.specs.Reading.{Spelled, shown};
+
 use crate::fault::ListFault;
 use crate::reader::expression::expression;
 use crate::reader::items::{
@@ -16,6 +22,8 @@ use wa_syntax::{Func, Module};
 /// `NotListing` comes where it is the listing of none. `NoMemory` comes where memory runs out.
 pub fn read(alloc: Global, text: &[u8]) -> Result<Module, ListFault>
     requires { length text.now < 4294967295 }
+    // The text is the listing of what is read.
+    ensures found { IfOk result (IsListing text.now) }
 {
     let mut lines = parts(alloc, text, b'\n')?;
     let ended = matches!(lines.pop(), Some([]));
@@ -28,7 +36,11 @@ pub fn read(alloc: Global, text: &[u8]) -> Result<Module, ListFault>
 }
 
 /// The module that begins with the first line, and the place behind its last line.
-fn module(alloc: Global, lines: &[&[u8]]) -> Listed<Module> {
+fn module(alloc: Global, lines: &[&[u8]]) -> Listed<Module>
+    requires size { length lines.now < u32.MAX }
+    ensures found { IfOk result (λ read. Spelled (module_lines read.0) (shown lines.now) 0 read.1) }
+    ensures reaches { IfOk result (λ read. ReachesIn lines.now 0 read.1) }
+{
     let (types, at) = items::<FunctionType>(alloc, lines, 0, b"type")?;
     let (imports, at) = items::<ImportItem>(alloc, lines, at, b"import")?;
     let (funcs, at) = functions(alloc, lines, at)?;
@@ -55,7 +67,12 @@ fn module(alloc: Global, lines: &[&[u8]]) -> Listed<Module> {
 }
 
 /// The functions of a module.
-fn functions(alloc: Global, lines: &[&[u8]], at: u32) -> Listed<Items<Func>> {
+fn functions(alloc: Global, lines: &[&[u8]], at: u32) -> Listed<Items<Func>>
+    requires size { length lines.now < u32.MAX }
+    requires place { at ≤ length lines.now }
+    ensures found { IfOk result (λ read. Spelled (each func read.0) (shown lines.now) at read.1) }
+    ensures reaches { IfOk result (λ read. ReachesIn lines.now at read.1) }
+{
     let mut funcs = Items::new(alloc);
     let mut at = at;
     while begins(lines, at, b"func") {
@@ -67,17 +84,27 @@ fn functions(alloc: Global, lines: &[&[u8]], at: u32) -> Listed<Items<Func>> {
 }
 
 /// A function: its type and its locals on a line, and its body.
-fn function(alloc: Global, lines: &[&[u8]], at: u32) -> Listed<Func> {
-    let FunctionHead { ty, locals } = item::<FunctionHead>(alloc, lines, at)?;
+fn function(alloc: Global, lines: &[&[u8]], at: u32) -> Listed<Func>
+    requires size { length lines.now < u32.MAX }
+    requires place { at ≤ length lines.now }
+    ensures found { IfOk result (λ read. Spelled (func read.0) (shown lines.now) at read.1) }
+    ensures ends { IfOk result (λ read. EndsIn lines.now at read.1) }
+{
+    let FunctionHead { ty, locals } = item::<FunctionHead>(alloc, lines, at, b"func")?;
     let (body, end) = expression(alloc, lines, at + 1)?;
     Ok((Func { ty, locals, body }, end))
 }
 
 /// The start function, if there is one.
-fn start(alloc: Global, lines: &[&[u8]], at: u32) -> Listed<Option<u32>> {
+fn start(alloc: Global, lines: &[&[u8]], at: u32) -> Listed<Option<u32>>
+    requires size { length lines.now < u32.MAX }
+    requires place { at ≤ length lines.now }
+    ensures found { IfOk result (λ read. Spelled (start read.0) (shown lines.now) at read.1) }
+    ensures reaches { IfOk result (λ read. ReachesIn lines.now at read.1) }
+{
     if !begins(lines, at, b"start") {
         return Ok((None, at));
     }
-    let func = item::<StartItem>(alloc, lines, at)?;
+    let func = item::<StartItem>(alloc, lines, at, b"start")?;
     Ok((Some(func), at + 1))
 }

@@ -1,5 +1,10 @@
 //! The words of a line. A word is that of a value exactly where the value is written so.
 
+ghost use Rattle.std.specs.Prelude.{◌≡◌, [], ◌∷◌, IfOk};
+ghost use Rattle.wa_text.specs.Forms.{each};
+ghost use Rattle.wa_text.specs.Reading.{texts};
+ghost use Rattle.wa_text.specs.Words.{bytes, name, u32, u64};
+
 use crate::fault::LineFault;
 use itoa::Buffer;
 use sqlite_items::Items;
@@ -7,7 +12,9 @@ use std::alloc::Global;
 use wa_syntax::Name;
 
 /// The words behind the first, which can't be another one.
-pub fn behind<'a>(words: &'a [&'a [u8]], wanted: &[u8]) -> Result<&'a [&'a [u8]], LineFault> {
+pub fn behind<'a>(words: &'a [&'a [u8]], wanted: &[u8]) -> Result<&'a [&'a [u8]], LineFault>
+    ensures { IfOk result (λ rest. texts words.now ≡ wanted.now ∷ texts rest.now) }
+{
     match words {
         [first, rest @ ..] if *first == wanted => Ok(rest),
         _ => Err(LineFault::Wrong),
@@ -15,7 +22,9 @@ pub fn behind<'a>(words: &'a [&'a [u8]], wanted: &[u8]) -> Result<&'a [&'a [u8]]
 }
 
 /// A number of 64 bits in decimal digits, without leading zeros.
-pub fn number(word: &[u8]) -> Result<u64, LineFault> {
+pub fn number(word: &[u8]) -> Result<u64, LineFault>
+    ensures { IfOk result (λ n. u64 n (word.now ∷ [])) }
+{
     let Ok(digits) = str::from_utf8(word) else {
         return Err(LineFault::Wrong);
     };
@@ -26,13 +35,17 @@ pub fn number(word: &[u8]) -> Result<u64, LineFault> {
 }
 
 /// The number of a type, a function, a table, a memory, a global, a local or a label.
-pub fn index(word: &[u8]) -> Result<u32, LineFault> {
+pub fn index(word: &[u8]) -> Result<u32, LineFault>
+    ensures { IfOk result (λ n. u32 n (word.now ∷ [])) }
+{
     let n = number(word)?;
     u32::try_from(n).map_err(|_| LineFault::Wrong)
 }
 
 /// Such numbers, one for each word.
-pub fn indices(alloc: Global, words: &[&[u8]]) -> Result<Items<u32>, LineFault> {
+pub fn indices(alloc: Global, words: &[&[u8]]) -> Result<Items<u32>, LineFault>
+    ensures { IfOk result (λ numbers. each u32 numbers (texts words.now)) }
+{
     let mut numbers = Items::new(alloc);
     for word in words {
         numbers.push(index(*word)?)?;
@@ -41,7 +54,9 @@ pub fn indices(alloc: Global, words: &[&[u8]]) -> Result<Items<u32>, LineFault> 
 }
 
 /// Bytes, in two lower-case hexadecimal digits each, or a dash where there are none.
-pub fn bytes(alloc: Global, word: &[u8]) -> Result<Vec<u8>, LineFault> {
+pub fn bytes(alloc: Global, word: &[u8]) -> Result<Vec<u8>, LineFault>
+    ensures { IfOk result (λ read. bytes read.items (word.now ∷ [])) }
+{
     if word == b"-".as_slice() {
         return Ok(Vec::new(alloc));
     }
@@ -58,7 +73,9 @@ pub fn bytes(alloc: Global, word: &[u8]) -> Result<Vec<u8>, LineFault> {
 }
 
 /// The bytes of a name, which are UTF-8.
-pub fn name(alloc: Global, word: &[u8]) -> Result<Name, LineFault> {
+pub fn name(alloc: Global, word: &[u8]) -> Result<Name, LineFault>
+    ensures { IfOk result (λ read. name read (word.now ∷ [])) }
+{
     let bytes = bytes(alloc, word)?;
     match str::from_utf8(bytes.as_slice()) {
         Ok(_) => Ok(Name::from_slice(alloc, bytes.as_slice())?),

@@ -1,14 +1,15 @@
 //! The words of a line, and its end.
 
-ghost use Rattle.std.specs.Prelude.{◌≡◌, [], ◌∷◌, ◌++◌, OnOk};
+ghost use Rattle.std.specs.Prelude.{◌≡◌, ◌<◌, [], ◌∷◌, ◌++◌, slice_index, OnOk};
 ghost use Rattle.std.specs.List.{FoldsTo};
+ghost use Rattle.hex.specs.Hex.{encode_lower, lower_digits};
 ghost use Rattle.wa_text.specs.Words.{bytes, line, name, number, u32, word};
 ghost use Rattle.wa_text.specs.Writing.{AddsLines, AddsWords, Leaves};
 
 use itoa::Buffer;
 use wa_syntax::{Name, NoMemory};
 
-/// The digits of a byte.
+/// The hexadecimal digits, in lower case.
 const DIGITS: [u8; 16] = *b"0123456789abcdef";
 
 /// The first word of a line.
@@ -58,7 +59,26 @@ pub fn index(out: &mut Vec<u8>, n: &u32) -> Result<(), NoMemory>
     number(out, u64::from(*n))
 }
 
-/// Bytes, in two hexadecimal digits each, or a dash where there are none.
+/// The lower-case hexadecimal digit of a value.
+fn digit(value: u8) -> u8
+    requires { value < 16 }
+    ensures { result ≡ slice_index lower_digits value }
+{
+    DIGITS[usize::from(value)]
+}
+
+/// The two digits of each byte.
+fn digits(out: &mut Vec<u8>, bytes: &[u8]) -> Result<(), NoMemory>
+    ensures { OnOk result (out.new.items ≡ out.old.items ++ encode_lower bytes.now) }
+{
+    for byte in bytes {
+        out.push(digit(*byte / 16))?;
+        out.push(digit(*byte % 16))?;
+    }
+    Ok(())
+}
+
+/// Bytes, in two lower-case hexadecimal digits each, or a dash where there are none.
 pub fn bytes(out: &mut Vec<u8>, bytes: &[u8]) -> Result<(), NoMemory>
     ensures { OnOk result (AddsWords (bytes bytes.now) out.old.items out.new.items) }
 {
@@ -66,11 +86,7 @@ pub fn bytes(out: &mut Vec<u8>, bytes: &[u8]) -> Result<(), NoMemory>
         return word(out, b"-");
     }
     out.push(b' ')?;
-    for byte in bytes {
-        out.push(DIGITS[usize::from(*byte / 16)])?;
-        out.push(DIGITS[usize::from(*byte % 16)])?;
-    }
-    Ok(())
+    digits(out, bytes)
 }
 
 /// The bytes of a name.
