@@ -114,7 +114,7 @@ fn name_in(table: &[(u8, &'static str)], opcode: u8) -> Option<&'static str>
 
 /// The opcode of a name in a table.
 fn opcode_in(table: &[(u8, &'static str)], name: &[u8]) -> Option<u8>
-    ensures { IfSome result (λ opcode. Contains (opcode, name.now) (map (λ row. (row.0, row.1.now)) table.now)) }
+    ensures { IfSome result (λ opcode. Contains (map (λ row. (row.0, row.1.now)) table.now) (opcode, name.now)) }
 {
     for (opcode, other) in table {
         if other.as_bytes() == name {

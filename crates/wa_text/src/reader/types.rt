@@ -33,13 +33,15 @@ pub fn value_types<'a>(
     ensures { IfOk result (λ read. (each val read.0 then exactly (texts read.1.now)) (texts words.now)) }
 {
     let mut types = Items::new(alloc);
-    for (at, word) in words.iter().enumerate() {
-        match value_type(*word) {
-            Some(ty) => types.push(ty)?,
-            None => return Ok((types, &words[at..])),
-        }
+    let mut rest = words;
+    while let [word, behind @ ..] = rest {
+        let Some(ty) = value_type(*word) else {
+            break;
+        };
+        types.push(ty)?;
+        rest = behind;
     }
-    Ok((types, &words[words.len()..]))
+    Ok((types, rest))
 }
 
 /// The type of a block's result, if there is one.
