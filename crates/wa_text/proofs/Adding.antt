@@ -84,7 +84,7 @@ Ok-line r w B old begun middle new begins h = on_ok_weaker r (λ ends. Adds-line
 
 pub Adds-each : {X V : Type 0} {show : X → List ℕ} (F : V → Form X) (Step : List ℕ → V → List ℕ → Type 0) (vs : List V) (old new : List ℕ) → ((before : List ℕ) (v : V) (after : List ℕ) → Step before v after → Adds show (F v) before after) → FoldsTo Step old vs new → Adds show (each F vs) old new
 Adds-each {X} {V} {show} F Step [] old new step h = subst (λ (end : List ℕ). Adds show (each F []) old end) h (Adds-nothing old)
-Adds-each F Step (v ∷ vs) old new step h = Adds-then (step old v h.0 h.1) (Adds-each F Step vs h.0 new step h.2)
+Adds-each {X} {V} {show} F Step (v ∷ vs) old new step h = Adds-then (step old v h.0 h.1) (Adds-each F Step vs h.0 new step h.2)
 
 -- each by a call
 pub Adds-called : {X V : Type 0} {show : X → List ℕ} (F : V → Form X) (post : MutBor (Vec ℕ) → Bor V → Result (Unit {0}) NoMemory → MutBor (Vec ℕ) → Type 0) → ((old : MutBor (Vec ℕ)) (shown : Bor V) (new : MutBor (Vec ℕ)) → post old shown (Ok tt) new → Adds show (F shown.now) old.now.items new.now.items) → (before : List ℕ) (v : V) (after : List ℕ) → Leaves post before v after → Adds show (F v) before after

@@ -40,7 +40,7 @@ kind_word kind.If = codes "if"
 -- the first line of an instruction
 abbrev pub first_line : FirstLine → Form Word
 first_line (first.Whole i) words = (levels : ℕ) → instr levels i (words ∷ [])
-first_line (first.Begin kind t) = word (kind_word kind) then block_result t
+first_line (first.Begin k t) words = (word (kind_word k) then block_result t) words
 
 -- the lines of an instruction behind the one that begins it: what it holds, by the form of its lists, and its end
 abbrev pub behind_first : BlockKind → Option ValTy → (List Instr → Form Line) → Instr → Form Line

@@ -12,7 +12,7 @@ use crate::reader::items::{
     ElementItem, ExportItem, FunctionHead, GlobalItem, ImportItem, SegmentItem, StartItem,
 };
 use crate::reader::line::{Listed, begins, item, items, parts};
-use crate::reader::types::{FunctionType, Sized};
+use crate::reader::types::{TypeItem, LimitsItem};
 use sqlite_items::Items;
 use std::alloc::Global;
 use wa_syntax::{Func, Module};
@@ -41,11 +41,11 @@ fn module(alloc: Global, lines: &[&[u8]]) -> Listed<Module>
     ensures found { IfOk result (λ read. Spelled (module_lines read.0) (shown lines.now) 0 read.1) }
     ensures reaches { IfOk result (λ read. ReachesIn lines.now 0 read.1) }
 {
-    let (types, at) = items::<FunctionType>(alloc, lines, 0, b"type")?;
+    let (types, at) = items::<TypeItem>(alloc, lines, 0, b"type")?;
     let (imports, at) = items::<ImportItem>(alloc, lines, at, b"import")?;
     let (funcs, at) = functions(alloc, lines, at)?;
-    let (tables, at) = items::<Sized>(alloc, lines, at, b"table")?;
-    let (memories, at) = items::<Sized>(alloc, lines, at, b"memory")?;
+    let (tables, at) = items::<LimitsItem>(alloc, lines, at, b"table")?;
+    let (memories, at) = items::<LimitsItem>(alloc, lines, at, b"memory")?;
     let (globals, at) = items::<GlobalItem>(alloc, lines, at, b"global")?;
     let (exports, at) = items::<ExportItem>(alloc, lines, at, b"export")?;
     let (start, at) = start(alloc, lines, at)?;

@@ -59,9 +59,9 @@ pub fn block_result(words: &[&[u8]]) -> Result<Option<ValTy>, LineFault>
 }
 
 /// A function type.
-pub struct FunctionType;
+pub struct TypeItem;
 
-impl LineForm for FunctionType {
+impl LineForm for TypeItem {
     type Value = FuncTy;
 
     ghost form = { λ t. each val t.params then word (codes "->") then each val t.results };
@@ -95,9 +95,9 @@ pub fn limits(words: &[&[u8]]) -> Result<Limits, LineFault>
 }
 
 /// The type of a table or of a memory, which is its limits.
-pub struct Sized;
+pub struct LimitsItem;
 
-impl LineForm for Sized {
+impl LineForm for LimitsItem {
     type Value = Limits;
 
     ghost form = { limits };

@@ -1,4 +1,4 @@
-//! The words of a line. A word is that of a value exactly where the value is written so.
+//! The words of a line. A word is that of a value where the value is written so.
 
 ghost use Rattle.std.specs.Prelude.{◌≡◌, [], ◌∷◌, IfOk};
 ghost use Rattle.wa_text.specs.Forms.{each};
