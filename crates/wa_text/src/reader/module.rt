@@ -12,7 +12,7 @@ use crate::reader::items::{
     ElementItem, ExportItem, FunctionHead, GlobalItem, ImportItem, SegmentItem, StartItem,
 };
 use crate::reader::line::{Listed, begins, item, items, parts};
-use crate::reader::types::{TypeItem, LimitsItem};
+use crate::reader::types::{LimitsItem, TypeItem};
 use sqlite_items::Items;
 use std::alloc::Global;
 use wa_syntax::{Func, Module};
