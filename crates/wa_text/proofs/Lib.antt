@@ -2,6 +2,6 @@ pub mod Adding
 pub mod Digits
 pub mod Lines
 pub mod Productions
+pub mod Splitting
 pub mod Tables
-pub mod Texts
 pub mod Weights

@@ -1,31 +1,44 @@
--- Lines of forms one behind another, from place to place.
-use Rattle.std.proofs.Common.{◌≡◌, ℕ, zero, suc, ◌+◌, ◌<◌, List, [], ◌∷◌, ◌++◌, length, drop, map, slice_get, Option, Some, refl, sym, ap, subst, ◌∙◌, append_assoc, arith}
-use Rattle.std.proofs.lemmas.List.{append-nil}
-use denote.Ref.{Bor}
+-- Lines of forms one behind another, from place to place of a text.
+use Rattle.std.proofs.Common.{◌≡◌, ◌≢◌, ℕ, zero, suc, ◌≤◌, List, [], ◌∷◌, ◌++◌, length, drop, Option, refl, sym, ap, subst, ◌∙◌, append_assoc}
+use Rattle.std.specs.List.{AllByRecursion, join_with_byte}
+use Rattle.std.proofs.lemmas.List.{append-nil, at_drop_all}
+use Rattle.std.proofs.lemmas.List.Concat.{flat_map-append}
+use Rattle.std.proofs.lemmas.List.Splits.{join_with_byte-slice_split}
 use Rattle.wa_syntax.specs.declared.instr.Instr.{Instr, out-Instr}
 use Rattle.wa_syntax.specs.declared.instr.Instr.TheOpen.{Instr-F}
 use Rattle.wa_syntax.specs.declared.instr.Instr.TheVariants as variant
+use Rattle.wa_syntax.specs.declared.module.Module.{Module}
 use Rattle.wa_syntax.specs.declared.module.ValTy.{ValTy}
 use Rattle.wa_text.specs.declared.reader.instruction.BlockKind.{BlockKind}
 use Rattle.wa_text.specs.declared.reader.instruction.BlockKind.TheVariants as kind
 use Rattle.wa_text.specs.Forms.{Form, ◌then◌, each, exactly, nothing}
 use Rattle.wa_text.specs.Instructions.{begin, instr, instr_over}
-use Rattle.wa_text.specs.Reading.{Spelled, behind_first, kind_word, shown, words_of}
-use Rattle.wa_text.specs.Words.{Line, line}
+use Rattle.wa_text.specs.Listing.{IsListing, module_lines}
+use Rattle.wa_text.specs.Reading.{IsUnbroken, Spelled, behind_first, kind_word, words_of}
+use Rattle.wa_text.specs.Words.{Line, AreLines, IsWord, line, line_text, text_of}
 use Rattle.wa_text.proofs.Productions.{layer_of}
+use Rattle.wa_text.proofs.Splitting.{words_are}
 
-pub weaker : {A B : Form Line} {lines : List Line} {at end : ℕ} → ((front : List Line) → A front → B front) → Spelled A lines at end → Spelled B lines at end
-weaker to h = record { front = h.front; spelling = to h.front h.spelling; is = h.is }
+pub weaker : {A B : Form Line} {text : List ℕ} {at end : ℕ} → ((lines : List Line) → A lines → B lines) → Spelled A text at end → Spelled B text at end
+weaker to h = record { lines = h.lines; spelling = to h.lines h.spelling; are = h.are; is = h.is }
 
-pub none_here : (lines : List Line) (at : ℕ) → Spelled nothing lines at at
-none_here lines at = record { front = []; spelling = refl; is = refl }
+pub none_here : (text : List ℕ) (at : ℕ) → Spelled nothing text at at
+none_here text at = record { lines = []; spelling = refl; are = tt; is = refl }
+
+lines_append : (xs ys : List Line) → AreLines xs → AreLines ys → AreLines (xs ++ ys)
+lines_append [] ys h k = k
+lines_append (x ∷ xs) ys h k = (h.0, lines_append xs ys h.1 k)
 
 -- the one form up to a place, and behind it the other
-pub join : {A B : Form Line} {lines : List Line} {at mid end : ℕ} → Spelled A lines at mid → Spelled B lines mid end → Spelled (A then B) lines at end
-join {lines = lines} {end = end} h k = record {
-  front = h.front ++ k.front;
-  spelling = (h.front, k.front, refl, h.spelling, k.spelling);
-  is = h.is ∙ ap (λ (rest : List Line). h.front ++ rest) k.is ∙ sym (append_assoc h.front k.front (drop end lines));
+pub join : {A B : Form Line} {text : List ℕ} {at mid end : ℕ} → Spelled A text at mid → Spelled B text mid end → Spelled (A then B) text at end
+join {text = text} {end = end} h k = record {
+  lines = h.lines ++ k.lines;
+  spelling = (h.lines, k.lines, refl, h.spelling, k.spelling);
+  are = lines_append h.lines k.lines h.are k.are;
+  is = h.is
+      ∙ ap (λ (rest : List ℕ). text_of h.lines ++ rest) k.is
+      ∙ sym (append_assoc (text_of h.lines) (text_of k.lines) (drop end text))
+      ∙ ap (λ (front : List ℕ). front ++ drop end text) (sym (flat_map-append line_text h.lines k.lines));
 }
 
 -- one more value behind others
@@ -35,29 +48,35 @@ each_more F [] v front back h k =
 each_more F (w ∷ vs) v front back h k =
     (h.0, h.1 ++ back, ap (λ (xs : _). xs ++ back) h.2 ∙ append_assoc h.0 h.1 back, h.3, each_more F vs v h.1 back h.4 k)
 
-pub join-more : {V : Type 0} (F : V → Form Line) (vs : List V) (v : V) {lines : List Line} {at mid end : ℕ} → Spelled (each F vs) lines at mid → Spelled (F v) lines mid end → Spelled (each F (vs ++ v ∷ [])) lines at end
+pub join-more : {V : Type 0} (F : V → Form Line) (vs : List V) (v : V) {text : List ℕ} {at mid end : ℕ} → Spelled (each F vs) text at mid → Spelled (F v) text mid end → Spelled (each F (vs ++ v ∷ [])) text at end
 join-more F vs v h k = weaker (λ front s. subst (each F (vs ++ v ∷ [])) (sym s.2) (each_more F vs v s.0 s.1 s.3 s.4)) (join h k)
 
 -- ---- one line
 
--- the line at a place
-pub shown_at : (lines : List (Bor (List ℕ))) (at : ℕ) (l : Bor (List ℕ)) → slice_get lines at ≡ Some l → drop at (shown lines) ≡ words_of l.now ∷ drop (at + 1) (shown lines)
-shown_at [] at l is = absurd (cc)
-shown_at (x ∷ lines) zero l is =
-    let same : x ≡ l = cc in
-    ap (λ (y : Bor (List ℕ)). words_of y.now ∷ shown lines) same
-shown_at (x ∷ lines) (suc at) l is = shown_at lines at l is
-
-pub line_here : (lines : List (Bor (List ℕ))) (at : ℕ) (l : Bor (List ℕ)) (words : Line) → slice_get lines at ≡ Some l → words_of l.now ≡ words → Spelled (exactly (words ∷ [])) (shown lines) at (at + 1)
-line_here lines at l words is same = record {
-  front = words ∷ [];
-  spelling = refl;
-  is = shown_at lines at l is ∙ ap (λ (w : Line). w ∷ drop (at + 1) (shown lines)) same;
-}
+-- the line at a place, by its words
+pub line_here : (text : List ℕ) (at end : ℕ) (bytes : List ℕ) (words : Line) → drop at text ≡ bytes ++ 10 ∷ drop end text → IsUnbroken bytes → words_of bytes ≡ words → Spelled (exactly (words ∷ [])) text at end
+line_here text at end bytes words is unbroken same =
+    let behind = drop end text in
+    let whole : bytes ≡ join_with_byte 32 words = sym (join_with_byte-slice_split 32 bytes) ∙ ap (join_with_byte 32) same in
+    record {
+      lines = words ∷ [];
+      spelling = refl;
+      are = (subst (AllByRecursion IsWord) same (words_are bytes unbroken), tt);
+      is = is
+          ∙ sym (append_assoc bytes (10 ∷ []) behind)
+          ∙ ap (λ (front : List ℕ). front ++ behind) (sym (append-nil (bytes ++ 10 ∷ [])))
+          ∙ ap (λ (front : List ℕ). ((front ++ 10 ∷ []) ++ []) ++ behind) whole;
+    }
 
 -- what holds of the words of the line
-pub of_words : {words : Line} {lines : List Line} {at end : ℕ} (F : Form (List ℕ)) → F words → Spelled (exactly (words ∷ [])) lines at end → Spelled (line F) lines at end
-of_words {words = words} F h = weaker (λ front same. (words, h, same))
+pub of_words : {words : Line} {text : List ℕ} {at end : ℕ} (F : Form (List ℕ)) → F words → Spelled (exactly (words ∷ [])) text at end → Spelled (line F) text at end
+of_words {words = words} F h = weaker (λ lines same. (words, h, same))
+
+-- the lines of a whole text
+pub listed : (text : List ℕ) (end : ℕ) (m : Module) → length text ≤ end → Spelled (module_lines m) text 0 end → IsListing text m
+listed text end m all h =
+    let none : drop end text ≡ [] = at_drop_all (λ xs. xs) text end all in
+    (h.lines, h.spelling, h.are, h.is ∙ ap (λ (rest : List ℕ). text_of h.lines ++ rest) none ∙ append-nil (text_of h.lines))
 
 -- ---- instructions
 

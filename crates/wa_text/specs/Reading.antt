@@ -1,6 +1,6 @@
 -- What it means to read words and lines.
-use Rattle.std.specs.Prelude.{◌≡◌, ℕ, List, [], ◌∷◌, ◌++◌, drop, map, Option, codes, ◌==◌}
-use Rattle.std.specs.List.{slice_split}
+use Rattle.std.specs.Prelude.{◌≡◌, ◌≢◌, ℕ, List, [], ◌∷◌, ◌++◌, drop, map, Option, codes, ◌==◌}
+use Rattle.std.specs.List.{AllByRecursion, slice_split}
 use denote.Ref.{Bor}
 use Rattle.wa_syntax.specs.declared.instr.Instr.{Instr}
 use Rattle.wa_syntax.specs.declared.instr.Instr.TheVariants as variant
@@ -11,7 +11,7 @@ use Rattle.wa_text.specs.declared.reader.instruction.FirstLine.{FirstLine}
 use Rattle.wa_text.specs.declared.reader.instruction.FirstLine.TheVariants as first
 use Rattle.wa_text.specs.Forms.{Form, ◌then◌}
 use Rattle.wa_text.specs.Instructions.{block_result, else_end, end, instr}
-use Rattle.wa_text.specs.Words.{Word, Line, line, word}
+use Rattle.wa_text.specs.Words.{Word, Line, AreLines, line, text_of, word}
 
 -- the words that references show
 abbrev pub texts : List (Bor (List ℕ)) → List Word
@@ -21,15 +21,16 @@ texts words = map (λ w. w.now) words
 abbrev pub words_of : List ℕ → Line
 words_of line = slice_split (λ b. b == 32) line
 
--- the lines that references show
-abbrev pub shown : List (Bor (List ℕ)) → List Line
-shown lines = map (λ l. words_of l.now) lines
+-- no line feed is in it
+abbrev pub IsUnbroken : List ℕ → Type 0
+IsUnbroken line = AllByRecursion (λ b. b ≢ 10) line
 
--- lines of the form stand from one place up to another
-pub record Spelled (F : Form Line) (lines : List Line) (from to : ℕ) : Type 0 where
-  pub front : List Line
-  pub spelling : F front
-  pub is : drop from lines ≡ front ++ drop to lines
+-- lines of the form stand from one place of a text up to another
+pub record Spelled (F : Form Line) (text : List ℕ) (from to : ℕ) : Type 0 where
+  pub lines : List Line
+  pub spelling : F lines
+  pub are : AreLines lines
+  pub is : drop from text ≡ text_of lines ++ drop to text
 
 -- the word of an instruction that holds others
 abbrev pub kind_word : BlockKind → Word

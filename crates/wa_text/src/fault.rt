@@ -2,7 +2,7 @@
 
 ghost use Rattle.std.specs.Prelude.{◌≡◌};
 ghost use Rattle.wa_text.specs.declared.fault.LineFault.TheVariants as line;
-ghost use Rattle.wa_text.specs.declared.fault.ListFault.TheVariants as list;
+ghost use Rattle.wa_text.specs.declared.fault.TextFault.TheVariants as text;
 
 use std::alloc::{AllocError, AllocFailed};
 use thiserror::Error;
@@ -14,6 +14,17 @@ pub enum ListFault {
     /// none, and one more than there are line feeds where the text ends too early.
     #[error("no listing, by line {0}")]
     NotListing(u32),
+    /// Memory has run out.
+    #[error("out of memory")]
+    NoMemory,
+}
+
+/// Why no value is known to be read at a place of a text.
+#[derive(Clone, Copy, Debug, PartialEq, Eq, Hash, Error)]
+pub enum TextFault {
+    /// None stands there. The place, in bytes, is that of the first line with which this is clear.
+    #[error("no listing, by the line at byte {0}")]
+    Wrong(u32),
     /// Memory has run out.
     #[error("out of memory")]
     NoMemory,
@@ -31,30 +42,28 @@ pub enum LineFault {
 }
 
 impl LineFault {
-    /// The fault of the text, by the place of the line, counted from 0.
-    pub fn at(self, line: u32) -> ListFault
-        requires { line < u32.MAX }
-    {
+    /// The fault of the text, by the place of the line.
+    pub fn at(self, line: u32) -> TextFault {
         match self {
-            LineFault::Wrong => ListFault::NotListing(line + 1),
-            LineFault::NoMemory => ListFault::NoMemory,
+            LineFault::Wrong => TextFault::Wrong(line),
+            LineFault::NoMemory => TextFault::NoMemory,
         }
     }
 }
 
-impl From<AllocError> for ListFault {
-    ghost from_gives = { λ _ e. e ≡ list.NoMemory };
+impl From<AllocError> for TextFault {
+    ghost from_gives = { λ _ e. e ≡ text.NoMemory };
 
-    fn from(_: AllocError) -> ListFault {
-        ListFault::NoMemory
+    fn from(_: AllocError) -> TextFault {
+        TextFault::NoMemory
     }
 }
 
-impl<T: Drop> From<AllocFailed<T>> for ListFault {
-    ghost from_gives = { λ _ e. e ≡ list.NoMemory };
+impl<T: Drop> From<AllocFailed<T>> for TextFault {
+    ghost from_gives = { λ _ e. e ≡ text.NoMemory };
 
-    fn from(_: AllocFailed<T>) -> ListFault {
-        ListFault::NoMemory
+    fn from(_: AllocFailed<T>) -> TextFault {
+        TextFault::NoMemory
     }
 }
 

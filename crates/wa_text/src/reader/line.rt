@@ -1,64 +1,75 @@
 //! The lines of a text, and the items that are a line each.
 
-ghost use Rattle.std.specs.Prelude.{◌≡◌, ℕ, ◌+◌, ◌<◌, ◌≤◌, List, [], ◌∷◌, length, ◌==◌, IsTrue, IfOk, OnOk};
+ghost use Rattle.std.specs.Prelude.{◌≡◌, ℕ, ◌<◌, ◌≤◌, List, [], ◌∷◌, ◌++◌, drop, length, ◌==◌, IfOk, IfSome};
 ghost use Rattle.std.specs.List.{slice_split};
 ghost use Rattle.wa_text.specs.Forms.{◌then◌, each, exactly};
 ghost use Rattle.wa_text.specs.Places.{EndsIn, ReachesIn};
-ghost use Rattle.wa_text.specs.Reading.{Spelled, shown, texts, words_of};
+ghost use Rattle.wa_text.specs.Reading.{IsUnbroken, Spelled, texts, words_of};
 ghost use Rattle.wa_text.specs.Words.{line, word};
 
-use crate::fault::{LineFault, ListFault};
+use crate::fault::{LineFault, TextFault};
 use crate::reader::words::behind;
 use sqlite_items::Items;
 use std::alloc::Global;
 
-/// What is read from a line on, with the place of the line behind it, counted from 0.
-pub type Listed<T> = Result<(T, u32), ListFault>;
+/// What is read at a place, with the place behind it, both at the beginning of a line.
+pub type Listed<T> = Result<(T, u32), TextFault>;
 
-/// Bytes in parts, which a byte parts.
-pub fn parts(alloc: Global, bytes: &[u8], between: u8) -> Result<Vec<&[u8]>, ListFault>
-    ensures { IfOk result (λ read. texts read.items ≡ slice_split (λ b. b == between) bytes.now) }
+/// The line that begins at a place, and the place behind its line feed. `None` comes where no line feed follows.
+fn line_at(text: &[u8], at: u32) -> Option<(&[u8], u32)>
+    requires size { length text.now < u32.MAX }
+    requires place { at ≤ length text.now }
+    ensures ends { IfSome result (λ read. EndsIn text.now at read.1) }
+    ensures found { IfSome result (λ read. drop at text.now ≡ read.0.now ++ 10 ∷ drop read.1 text.now) }
+    ensures unbroken { IfSome result (λ read. IsUnbroken read.0.now) }
 {
-    Ok(bytes.split(|byte| *byte == between).collect(alloc)?)
+    let rest = &text[at as usize..];
+    let len = rest.iter().position(|byte| *byte == b'\n')?;
+    Some((&rest[..len], at + len as u32 + 1))
 }
 
-/// Whether a line is this word alone.
-pub fn is_line(lines: &[&[u8]], at: u32, word: &[u8]) -> bool
+/// The place behind a line, where it is this word alone.
+pub fn behind_line(text: &[u8], at: u32, word: &[u8]) -> Option<u32>
+    requires size { length text.now < u32.MAX }
+    requires place { at ≤ length text.now }
     requires word { words_of word.now ≡ word.now ∷ [] }
-    ensures found { IsTrue result → Spelled (line (word word.now)) (shown lines.now) at (at + 1) }
-    ensures within { IsTrue result → at < length lines.now }
+    ensures ends { IfSome result (EndsIn text.now at) }
+    ensures found { IfSome result (λ end. Spelled (line (word word.now)) text.now at end) }
 {
-    match lines.get(at as usize) {
-        Some(line) => *line == word,
-        None => false,
+    match line_at(text, at) {
+        Some((line, end)) if line == word => Some(end),
+        _ => None,
     }
 }
 
-/// The place behind a line that is this word alone.
-pub fn word_line(lines: &[&[u8]], at: u32, word: &[u8]) -> Result<u32, ListFault>
-    requires size { length lines.now < u32.MAX }
-    requires place { at ≤ length lines.now }
+/// The place behind a line that can't be another than this word alone.
+pub fn word_line(text: &[u8], at: u32, word: &[u8]) -> Result<u32, TextFault>
+    requires size { length text.now < u32.MAX }
+    requires place { at ≤ length text.now }
     requires word { words_of word.now ≡ word.now ∷ [] }
-    ensures found { IfOk result (λ end. Spelled (line (word word.now)) (shown lines.now) at end) }
-    ensures ends { IfOk result (EndsIn lines.now at) }
+    ensures ends { IfOk result (EndsIn text.now at) }
+    ensures found { IfOk result (λ end. Spelled (line (word word.now)) text.now at end) }
 {
-    if is_line(lines, at, word) {
-        Ok(at + 1)
-    } else {
-        Err(LineFault::Wrong.at(at))
-    }
+    behind_line(text, at, word).ok_or(TextFault::Wrong(at))
 }
 
-/// The words of a line. Where the lines end, the fault is that of a line behind them.
-pub fn words<'a>(alloc: Global, lines: &[&'a [u8]], at: u32) -> Result<Vec<&'a [u8]>, ListFault>
-    requires size { length lines.now < u32.MAX }
-    requires place { at ≤ length lines.now }
-    ensures found { IfOk result (λ read. Spelled (exactly (texts read.items ∷ [])) (shown lines.now) at (at + 1)) }
-    ensures within { OnOk result (at < length lines.now) }
+/// The words of a line.
+fn words_in(alloc: Global, line: &[u8]) -> Result<Vec<&[u8]>, TextFault>
+    ensures { IfOk result (λ words. texts words.items ≡ words_of line.now) }
 {
-    match lines.get(at as usize) {
-        Some(line) => parts(alloc, *line, b' '),
-        None => Err(LineFault::Wrong.at(at)),
+    Ok(line.split(|byte| *byte == b' ').collect(alloc)?)
+}
+
+/// The words of the line at a place, and the place behind it.
+pub fn words(alloc: Global, text: &[u8], at: u32) -> Listed<Vec<&[u8]>>
+    requires size { length text.now < u32.MAX }
+    requires place { at ≤ length text.now }
+    ensures ends { IfOk result (λ read. EndsIn text.now at read.1) }
+    ensures found { IfOk result (λ read. Spelled (exactly (texts read.0.items ∷ [])) text.now at read.1) }
+{
+    match line_at(text, at) {
+        Some((line, end)) => Ok((words_in(alloc, line)?, end)),
+        None => Err(TextFault::Wrong(at)),
     }
 }
 
@@ -70,12 +81,13 @@ fn first_word(line: &[u8]) -> &[u8] {
     }
 }
 
-/// Whether a line begins with this word.
-pub fn begins(lines: &[&[u8]], at: u32, word: &[u8]) -> bool
-    ensures within { IsTrue result → at < length lines.now }
+/// Whether the line at a place begins with this word.
+pub fn begins(text: &[u8], at: u32, word: &[u8]) -> bool
+    requires size { length text.now < u32.MAX }
+    requires place { at ≤ length text.now }
 {
-    match lines.get(at as usize) {
-        Some(line) => first_word(*line) == word,
+    match line_at(text, at) {
+        Some((line, _end)) => first_word(line) == word,
         None => false,
     }
 }
@@ -107,39 +119,37 @@ fn words_item<P: LineForm>(
 }
 
 /// The item of a line that begins with a word.
-pub fn item<P: LineForm>(
-    alloc: Global,
-    lines: &[&[u8]],
-    at: u32,
-    first: &[u8],
-) -> Result<P::Value, ListFault>
-    requires size { length lines.now < u32.MAX }
-    requires place { at ≤ length lines.now }
-    ensures found { IfOk result (λ value. Spelled (line (word first.now then P.form value)) (shown lines.now) at (at + 1)) }
-    ensures within { OnOk result (at < length lines.now) }
+pub fn item<P: LineForm>(alloc: Global, text: &[u8], at: u32, first: &[u8]) -> Listed<P::Value>
+    requires size { length text.now < u32.MAX }
+    requires place { at ≤ length text.now }
+    ensures ends { IfOk result (λ read. EndsIn text.now at read.1) }
+    ensures found { IfOk result (λ read. Spelled (line (word first.now then P.form read.0)) text.now at read.1) }
 {
-    let words = words(alloc, lines, at)?;
-    words_item::<P>(alloc, words.as_slice(), first).map_err(|fault| fault.at(at))
+    let (words, end) = words(alloc, text, at)?;
+    match words_item::<P>(alloc, words.as_slice(), first) {
+        Ok(value) => Ok((value, end)),
+        Err(fault) => Err(fault.at(at)),
+    }
 }
 
 /// The items of the lines that begin with a word, as far as these go.
 pub fn items<P: LineForm>(
     alloc: Global,
-    lines: &[&[u8]],
+    text: &[u8],
     at: u32,
     first: &[u8],
 ) -> Listed<Items<P::Value>>
-    requires size { length lines.now < u32.MAX }
-    requires place { at ≤ length lines.now }
-    ensures found { IfOk result (λ read.
-        Spelled (each (λ value. line (word first.now then P.form value)) read.0) (shown lines.now) at read.1) }
-    ensures reaches { IfOk result (λ read. ReachesIn lines.now at read.1) }
+    requires size { length text.now < u32.MAX }
+    requires place { at ≤ length text.now }
+    ensures reaches { IfOk result (λ read. ReachesIn text.now at read.1) }
+    ensures found { IfOk result (λ read. Spelled (each (λ value. line (word first.now then P.form value)) read.0) text.now at read.1) }
 {
     let mut items = Items::new(alloc);
     let mut at = at;
-    while begins(lines, at, first) {
-        items.push(item::<P>(alloc, lines, at, first)?)?;
-        at += 1;
+    while begins(text, at, first) {
+        let (item, end) = item::<P>(alloc, text, at, first)?;
+        items.push(item)?;
+        at = end;
     }
     Ok((items, at))
 }

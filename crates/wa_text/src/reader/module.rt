@@ -4,14 +4,14 @@ ghost use Rattle.std.specs.Prelude.{◌<◌, ◌≤◌, length, IfOk};
 ghost use Rattle.wa_text.specs.Forms.{each};
 ghost use Rattle.wa_text.specs.Listing.{IsListing, func, module_lines, start};
 ghost use Rattle.wa_text.specs.Places.{EndsIn, ReachesIn};
-ghost use Rattle.wa_text.specs.Reading.{Spelled, shown};
+ghost use Rattle.wa_text.specs.Reading.{Spelled};
 
-use crate::fault::ListFault;
+use crate::fault::{ListFault, TextFault};
 use crate::reader::expression::expression;
 use crate::reader::items::{
     ElementItem, ExportItem, FunctionHead, GlobalItem, ImportItem, SegmentItem, StartItem,
 };
-use crate::reader::line::{Listed, begins, item, items, parts};
+use crate::reader::line::{Listed, begins, item, items};
 use crate::reader::types::{LimitsItem, TypeItem};
 use sqlite_items::Items;
 use std::alloc::Global;
@@ -25,32 +25,42 @@ pub fn read(alloc: Global, text: &[u8]) -> Result<Module, ListFault>
     // The text is the listing of what is read.
     ensures found { IfOk result (IsListing text.now) }
 {
-    let mut lines = parts(alloc, text, b'\n')?;
-    let ended = matches!(lines.pop(), Some([]));
-    let (module, end) = module(alloc, lines.as_slice())?;
-    if ended && end as usize == lines.len() {
-        Ok(module)
-    } else {
-        Err(ListFault::NotListing(end + 1))
+    match module(alloc, text) {
+        Ok((module, end)) if end as usize == text.len() => Ok(module),
+        Ok((_module, end)) => Err(not_listing(text, end)),
+        Err(TextFault::Wrong(at)) => Err(not_listing(text, at)),
+        Err(TextFault::NoMemory) => Err(ListFault::NoMemory),
     }
 }
 
-/// The module that begins with the first line, and the place behind its last line.
-fn module(alloc: Global, lines: &[&[u8]]) -> Listed<Module>
-    requires size { length lines.now < u32.MAX }
-    ensures found { IfOk result (λ read. Spelled (module_lines read.0) (shown lines.now) 0 read.1) }
-    ensures reaches { IfOk result (λ read. ReachesIn lines.now 0 read.1) }
+/// The fault of a text, by the place of its first wrong line: one more than the line feeds before it is the line's number.
+fn not_listing(text: &[u8], at: u32) -> ListFault
+    requires size { length text.now < 4294967295 }
 {
-    let (types, at) = items::<TypeItem>(alloc, lines, 0, b"type")?;
-    let (imports, at) = items::<ImportItem>(alloc, lines, at, b"import")?;
-    let (funcs, at) = functions(alloc, lines, at)?;
-    let (tables, at) = items::<LimitsItem>(alloc, lines, at, b"table")?;
-    let (memories, at) = items::<LimitsItem>(alloc, lines, at, b"memory")?;
-    let (globals, at) = items::<GlobalItem>(alloc, lines, at, b"global")?;
-    let (exports, at) = items::<ExportItem>(alloc, lines, at, b"export")?;
-    let (start, at) = start(alloc, lines, at)?;
-    let (elems, at) = items::<ElementItem>(alloc, lines, at, b"elem")?;
-    let (segments, end) = items::<SegmentItem>(alloc, lines, at, b"data")?;
+    let feeds = text
+        .iter()
+        .take(at as usize)
+        .filter(|byte| **byte == b'\n')
+        .count();
+    ListFault::NotListing(feeds as u32 + 1)
+}
+
+/// The module that a text begins with, and the place behind its last line.
+fn module(alloc: Global, text: &[u8]) -> Listed<Module>
+    requires size { length text.now < u32.MAX }
+    ensures reaches { IfOk result (λ read. ReachesIn text.now 0 read.1) }
+    ensures found { IfOk result (λ read. Spelled (module_lines read.0) text.now 0 read.1) }
+{
+    let (types, at) = items::<TypeItem>(alloc, text, 0, b"type")?;
+    let (imports, at) = items::<ImportItem>(alloc, text, at, b"import")?;
+    let (funcs, at) = functions(alloc, text, at)?;
+    let (tables, at) = items::<LimitsItem>(alloc, text, at, b"table")?;
+    let (memories, at) = items::<LimitsItem>(alloc, text, at, b"memory")?;
+    let (globals, at) = items::<GlobalItem>(alloc, text, at, b"global")?;
+    let (exports, at) = items::<ExportItem>(alloc, text, at, b"export")?;
+    let (start, at) = start(alloc, text, at)?;
+    let (elems, at) = items::<ElementItem>(alloc, text, at, b"elem")?;
+    let (segments, end) = items::<SegmentItem>(alloc, text, at, b"data")?;
     let module = Module {
         types,
         imports,
@@ -67,16 +77,16 @@ fn module(alloc: Global, lines: &[&[u8]]) -> Listed<Module>
 }
 
 /// The functions of a module.
-fn functions(alloc: Global, lines: &[&[u8]], at: u32) -> Listed<Items<Func>>
-    requires size { length lines.now < u32.MAX }
-    requires place { at ≤ length lines.now }
-    ensures found { IfOk result (λ read. Spelled (each func read.0) (shown lines.now) at read.1) }
-    ensures reaches { IfOk result (λ read. ReachesIn lines.now at read.1) }
+fn functions(alloc: Global, text: &[u8], at: u32) -> Listed<Items<Func>>
+    requires size { length text.now < u32.MAX }
+    requires place { at ≤ length text.now }
+    ensures reaches { IfOk result (λ read. ReachesIn text.now at read.1) }
+    ensures found { IfOk result (λ read. Spelled (each func read.0) text.now at read.1) }
 {
     let mut funcs = Items::new(alloc);
     let mut at = at;
-    while begins(lines, at, b"func") {
-        let (func, next) = function(alloc, lines, at)?;
+    while begins(text, at, b"func") {
+        let (func, next) = function(alloc, text, at)?;
         funcs.push(func)?;
         at = next;
     }
@@ -84,27 +94,27 @@ fn functions(alloc: Global, lines: &[&[u8]], at: u32) -> Listed<Items<Func>>
 }
 
 /// A function: its type and its locals on a line, and its body.
-fn function(alloc: Global, lines: &[&[u8]], at: u32) -> Listed<Func>
-    requires size { length lines.now < u32.MAX }
-    requires place { at ≤ length lines.now }
-    ensures found { IfOk result (λ read. Spelled (func read.0) (shown lines.now) at read.1) }
-    ensures ends { IfOk result (λ read. EndsIn lines.now at read.1) }
+fn function(alloc: Global, text: &[u8], at: u32) -> Listed<Func>
+    requires size { length text.now < u32.MAX }
+    requires place { at ≤ length text.now }
+    ensures ends { IfOk result (λ read. EndsIn text.now at read.1) }
+    ensures found { IfOk result (λ read. Spelled (func read.0) text.now at read.1) }
 {
-    let FunctionHead { ty, locals } = item::<FunctionHead>(alloc, lines, at, b"func")?;
-    let (body, end) = expression(alloc, lines, at + 1)?;
+    let (FunctionHead { ty, locals }, at) = item::<FunctionHead>(alloc, text, at, b"func")?;
+    let (body, end) = expression(alloc, text, at)?;
     Ok((Func { ty, locals, body }, end))
 }
 
 /// The start function, if there is one.
-fn start(alloc: Global, lines: &[&[u8]], at: u32) -> Listed<Option<u32>>
-    requires size { length lines.now < u32.MAX }
-    requires place { at ≤ length lines.now }
-    ensures found { IfOk result (λ read. Spelled (start read.0) (shown lines.now) at read.1) }
-    ensures reaches { IfOk result (λ read. ReachesIn lines.now at read.1) }
+fn start(alloc: Global, text: &[u8], at: u32) -> Listed<Option<u32>>
+    requires size { length text.now < u32.MAX }
+    requires place { at ≤ length text.now }
+    ensures reaches { IfOk result (λ read. ReachesIn text.now at read.1) }
+    ensures found { IfOk result (λ read. Spelled (start read.0) text.now at read.1) }
 {
-    if !begins(lines, at, b"start") {
+    if !begins(text, at, b"start") {
         return Ok((None, at));
     }
-    let func = item::<StartItem>(alloc, lines, at, b"start")?;
-    Ok((Some(func), at + 1))
+    let (func, end) = item::<StartItem>(alloc, text, at, b"start")?;
+    Ok((Some(func), end))
 }
