@@ -1,6 +1,6 @@
 //! The names of opcodes: the standard's mnemonics.
 
-ghost use Rattle.std.specs.Prelude.{◌≡◌, map, option_copied, Contains, IfSome, Some};
+ghost use Rattle.std.specs.Prelude.{◌≡◌, ℕ, List, map, option_copied, Contains, IfSome, Some};
 ghost use Rattle.wa_text.specs.Mnemonics.{access_names, name_in, plain_names};
 
 use wa_syntax::opcode::*;
@@ -114,7 +114,7 @@ fn name_in(table: &[(u8, &'static str)], opcode: u8) -> Option<&'static str>
 
 /// The opcode of a name in a table.
 fn opcode_in(table: &[(u8, &'static str)], name: &[u8]) -> Option<u8>
-    ensures { IfSome result (λ opcode. Contains (map (λ row. (row.0, row.1.now)) table.now) (opcode, name.now)) }
+    ensures { IfSome result (λ opcode. Contains {X = ℕ × List ℕ} (map (λ row. (row.0, row.1.now)) table.now) (opcode, name.now)) }
 {
     for (opcode, other) in table {
         if other.as_bytes() == name {

@@ -63,9 +63,10 @@ fn instruction(alloc: Global, text: &[u8], at: u32, levels: u32) -> Listed<Instr
     ensures ends { IfOk result (λ read. EndsIn text.now at read.1) }
     ensures found { IfOk result (λ read. Spelled (instr levels read.0) text.now at read.1) }
 {
-    match first_line(alloc, text, at)? {
-        (FirstLine::Whole(instr), end) => Ok((instr, end)),
-        (FirstLine::Begin(kind, ty), next) => {
+    let (first, next) = first_line(alloc, text, at)?;
+    match first {
+        FirstLine::Whole(instr) => Ok((instr, next)),
+        FirstLine::Begin(kind, ty) => {
             if levels == 0 {
                 return Err(TextFault::Wrong(at));
             }

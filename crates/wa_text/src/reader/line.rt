@@ -6,6 +6,7 @@ ghost use Rattle.wa_text.specs.Forms.{◌then◌, each, exactly};
 ghost use Rattle.wa_text.specs.Places.{EndsIn, ReachesIn};
 ghost use Rattle.wa_text.specs.Reading.{IsUnbroken, Spelled, texts, words_of};
 ghost use Rattle.wa_text.specs.Words.{line, word};
+ghost use Rattle.wa_text.specs.Words as form;
 
 use crate::fault::{LineFault, TextFault};
 use crate::reader::words::behind;
@@ -34,7 +35,7 @@ pub fn behind_line(text: &[u8], at: u32, word: &[u8]) -> Option<u32>
     requires place { at ≤ length text.now }
     requires word { words_of word.now ≡ word.now ∷ [] }
     ensures ends { IfSome result (EndsIn text.now at) }
-    ensures found { IfSome result (λ end. Spelled (line (word word.now)) text.now at end) }
+    ensures found { IfSome result (λ end. Spelled (form.line (form.word word.now)) text.now at end) }
 {
     match line_at(text, at) {
         Some((line, end)) if line == word => Some(end),
@@ -48,7 +49,7 @@ pub fn word_line(text: &[u8], at: u32, word: &[u8]) -> Result<u32, TextFault>
     requires place { at ≤ length text.now }
     requires word { words_of word.now ≡ word.now ∷ [] }
     ensures ends { IfOk result (EndsIn text.now at) }
-    ensures found { IfOk result (λ end. Spelled (line (word word.now)) text.now at end) }
+    ensures found { IfOk result (λ end. Spelled (form.line (form.word word.now)) text.now at end) }
 {
     behind_line(text, at, word).ok_or(TextFault::Wrong(at))
 }

@@ -3,6 +3,7 @@
 ghost use Rattle.std.specs.Prelude.{codes, OnOk};
 ghost use Rattle.wa_text.specs.Forms.{◌then◌, each};
 ghost use Rattle.wa_text.specs.Instructions.{begin, else_end, end, indexed, instr, named};
+ghost use Rattle.wa_text.specs.Instructions as form;
 ghost use Rattle.wa_text.specs.Mnemonics.{access_names, plain_names};
 ghost use Rattle.wa_text.specs.Words.{line, u32, u64, word};
 ghost use Rattle.wa_text.specs.Writing.{AddsLines};
@@ -35,7 +36,7 @@ fn sequence(out: &mut Vec<u8>, instrs: &[Instr]) -> Result<(), NoMemory>
 /// An instruction.
 #[cycle(instructions)]
 fn instruction(out: &mut Vec<u8>, instr: &Instr) -> Result<(), NoMemory>
-    ensures { OnOk result ((levels : _) → AddsLines (instr levels instr.now) out.old.items out.new.items) }
+    ensures { OnOk result ((levels : _) → AddsLines (form.instr levels instr.now) out.old.items out.new.items) }
 {
     match instr {
         Instr::Block(ty, body) => {

@@ -2,7 +2,8 @@
 
 ghost use Rattle.std.specs.Prelude.{OnOk};
 ghost use Rattle.wa_text.specs.Instructions.{block_result};
-ghost use Rattle.wa_text.specs.Listing.{functype, globaltype, limits};
+ghost use Rattle.wa_text.specs.Listing.{functype, globaltype};
+ghost use Rattle.wa_text.specs.Listing as listing;
 ghost use Rattle.wa_text.specs.Words.{line, mut, val};
 ghost use Rattle.wa_text.specs.Writing.{AddsLines, AddsWords};
 
@@ -42,7 +43,7 @@ pub fn function_type(out: &mut Vec<u8>, ty: &FuncTy) -> Result<(), NoMemory>
 
 /// The minimum, and the maximum if there is one.
 pub fn limits(out: &mut Vec<u8>, limits: &Limits) -> Result<(), NoMemory>
-    ensures { OnOk result (AddsWords (limits limits.now) out.old.items out.new.items) }
+    ensures { OnOk result (AddsWords (listing.limits limits.now) out.old.items out.new.items) }
 {
     match limits.max {
         None => index(out, &limits.min),

@@ -3,7 +3,7 @@
 ghost use Rattle.std.specs.Prelude.{◌≡◌, ◌<◌, [], ◌∷◌, ◌++◌, slice_index, OnOk};
 ghost use Rattle.std.specs.List.{FoldsTo};
 ghost use Rattle.hex.specs.Hex.{encode_lower, lower_digits};
-ghost use Rattle.wa_text.specs.Words.{bytes, line, name, number, u32, word};
+ghost use Rattle.wa_text.specs.Words as form;
 ghost use Rattle.wa_text.specs.Writing.{AddsLines, AddsWords, Leaves};
 
 use itoa::Buffer;
@@ -22,7 +22,7 @@ pub fn first(out: &mut Vec<u8>, word: &[u8]) -> Result<(), NoMemory>
 
 /// A word behind another: a blank, and the word.
 pub fn word(out: &mut Vec<u8>, word: &[u8]) -> Result<(), NoMemory>
-    ensures { OnOk result (AddsWords (word word.now) out.old.items out.new.items) }
+    ensures { OnOk result (AddsWords (form.word word.now) out.old.items out.new.items) }
 {
     out.push(b' ')?;
     out.extend_from_slice(word)?;
@@ -39,7 +39,7 @@ pub fn end_line(out: &mut Vec<u8>) -> Result<(), NoMemory>
 
 /// A line of one word.
 pub fn word_line(out: &mut Vec<u8>, word: &[u8]) -> Result<(), NoMemory>
-    ensures { OnOk result (AddsLines (line (word word.now)) out.old.items out.new.items) }
+    ensures { OnOk result (AddsLines (form.line (form.word word.now)) out.old.items out.new.items) }
 {
     first(out, word)?;
     end_line(out)
@@ -47,14 +47,14 @@ pub fn word_line(out: &mut Vec<u8>, word: &[u8]) -> Result<(), NoMemory>
 
 /// The decimal digits of a number.
 pub fn number(out: &mut Vec<u8>, n: u64) -> Result<(), NoMemory>
-    ensures { OnOk result ((bits : _) → AddsWords (number bits n) out.old.items out.new.items) }
+    ensures { OnOk result ((bits : _) → AddsWords (form.number bits n) out.old.items out.new.items) }
 {
     word(out, Buffer::new().format(n).as_bytes())
 }
 
 /// The number of a type, a function, a table, a memory, a global, a local or a label.
 pub fn index(out: &mut Vec<u8>, n: &u32) -> Result<(), NoMemory>
-    ensures { OnOk result (AddsWords (u32 n.now) out.old.items out.new.items) }
+    ensures { OnOk result (AddsWords (form.u32 n.now) out.old.items out.new.items) }
 {
     number(out, u64::from(*n))
 }
@@ -80,7 +80,7 @@ fn digits(out: &mut Vec<u8>, bytes: &[u8]) -> Result<(), NoMemory>
 
 /// Bytes, in two lower-case hexadecimal digits each, or a dash where there are none.
 pub fn bytes(out: &mut Vec<u8>, bytes: &[u8]) -> Result<(), NoMemory>
-    ensures { OnOk result (AddsWords (bytes bytes.now) out.old.items out.new.items) }
+    ensures { OnOk result (AddsWords (form.bytes bytes.now) out.old.items out.new.items) }
 {
     if bytes.is_empty() {
         return word(out, b"-");
@@ -91,7 +91,7 @@ pub fn bytes(out: &mut Vec<u8>, bytes: &[u8]) -> Result<(), NoMemory>
 
 /// The bytes of a name.
 pub fn name(out: &mut Vec<u8>, name: &Name) -> Result<(), NoMemory>
-    ensures { OnOk result (AddsWords (name name.now) out.old.items out.new.items) }
+    ensures { OnOk result (AddsWords (form.name name.now) out.old.items out.new.items) }
 {
     bytes(out, name.as_slice())
 }
