@@ -1,6 +1,9 @@
 //! Modules.
 
-ghost use Rattle.std.specs.Prelude.{◌<◌, ◌≤◌, length, IfOk};
+ghost use Rattle.std.specs.Prelude.{◌≡◌, ℕ, ◌<◌, ◌≤◌, length, Err, IfOk, MatchResult};
+ghost use Rattle.wa_syntax.specs.declared.module.Module.{Module};
+ghost use Rattle.wa_text.specs.declared.fault.ListFault.TheVariants.{NoMemory, NotListing};
+ghost use Rattle.wa_text.specs.Faults.{IsFirstFault};
 ghost use Rattle.wa_text.specs.Forms.{each};
 ghost use Rattle.wa_text.specs.Listing.{IsListing, func, module_lines, start};
 ghost use Rattle.wa_text.specs.Places.{EndsIn, ReachesIn};
@@ -24,6 +27,13 @@ pub fn read(alloc: Global, text: &[u8]) -> Result<Module, ListFault>
     requires { length text.now < 4294967295 }
     // The text is the listing of what is read.
     ensures found { IfOk result (IsListing text.now) }
+    // The module of which it is the listing is read, unless memory runs out: so `NotListing` comes only where there is none.
+    ensures complete { (m : Module) → IsListing text.now m
+        → MatchResult result (λ read. read ≡ m) (λ fault. fault ≡ NoMemory) }
+    // It is the listing of no two.
+    ensures only { (m n : Module) → IsListing text.now m → IsListing text.now n → m ≡ n }
+    // The line is the first with which the lines up to it begin no listing.
+    ensures line { (number : ℕ) → result ≡ Err (NotListing number) → IsFirstFault text.now number }
 {
     match module(alloc, text) {
         Ok((module, end)) if end as usize == text.len() => Ok(module),
