@@ -89,6 +89,6 @@ def changed_module(rng, module, donor):
         elif way < 0.94:
             changed[at:at] = changed[at:at + run]
         else:
-            begin = rng.randrange(len(donor))
+            begin = rng.randrange(max(len(donor), 1))
             changed[at:at] = donor[begin:begin + run]
     return bytes(changed)
