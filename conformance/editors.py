@@ -93,9 +93,9 @@ def text_of(*path):
 def words_of_lexer():
     """The words of the lexer: those that are taken, and those that are refused."""
     text = text_of('crates', 'sa_lex', 'src', 'word.rt')
-    words = re.findall(r'"(\w+)"', re.search(r'const WORDS[^=]*= \[(.*?)\];', text, re.S).group(1))
-    first = words.index(re.search(r'FIRST_REFUSED[^=]*= (\w+);', text).group(1).lower())
-    return words[:first], words[first:]
+    spelled = dict(re.findall(r'Word::(\w+) => "(\w+)"', text))
+    refused = re.findall(r'Word::(\w+)', re.search(r'fn is_refused.*?matches!\((.*?)\)', text, re.S).group(1))
+    return [spelled[word] for word in spelled if word not in refused], [spelled[word] for word in refused]
 
 
 def words_of_vim():

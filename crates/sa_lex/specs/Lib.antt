@@ -6,5 +6,7 @@ pub mod Literal
 pub mod Name
 pub mod Number
 pub mod Sign
+pub mod Signs
 pub mod Token
 pub mod Tokens
+pub mod Words

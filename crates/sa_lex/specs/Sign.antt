@@ -1,25 +1,20 @@
--- Signs.
-use Rattle.std.specs.Prelude.{ℕ, ◌&&◌, ◌==◌, List, [], ◌∷◌, length, Option, option_map, Result, position, codes, nat_eq}
+-- The sign at the front of some bytes.
+use Rattle.std.specs.Prelude.{ℕ, ◌&&◌, ◌==◌, List, length, Option, option_map, Result, nat_eq}
 use Rattle.std.specs.Option.{option_or, ok_or}
-use Rattle.std.specs.List.{starts_with}
-use Rattle.sa_lex.specs.declared.token.TokenKind.TheVariants.{Sign}
+use Rattle.std.specs.List.{find, starts_with}
+use Rattle.sa_lex.specs.declared.token.TokenKind.TheVariants as token
+use Rattle.sa_lex.specs.declared.sign.Sign.{Sign}
 use Rattle.sa_lex.specs.declared.found.Found.{Found}
 use Rattle.sa_lex.specs.declared.found.Fault.{Fault}
 use Rattle.sa_tree.specs.declared.rule.Rule.TheVariants as rule
+use Rattle.sa_lex.specs.Signs.{sign_text, signs}
 
-abbrev pub signs : List (List ℕ)
-signs =
-    codes "(" ∷ codes ")" ∷ codes "[" ∷ codes "]" ∷ codes "{" ∷ codes "}" ∷ codes "," ∷ codes ";" ∷ codes ":"
-    ∷ codes "." ∷ codes "::" ∷ codes ":=" ∷ codes "::=" ∷ codes "=" ∷ codes "/=" ∷ codes "<" ∷ codes "<="
-    ∷ codes ">" ∷ codes ">=" ∷ codes "+" ∷ codes "-" ∷ codes "*" ∷ codes "/" ∷ codes "%" ∷ codes "^" ∷ codes "~"
-    ∷ codes "#" ∷ codes "|" ∷ codes "_" ∷ codes "->" ∷ []
-
--- the place of the sign of n bytes that stands at the front
-abbrev pub sign_at : ℕ → List ℕ → Option ℕ
-sign_at n bs = position (λ sign. length sign == n && starts_with nat_eq bs sign) signs
+-- the sign of n bytes that stands at the front
+abbrev pub sign_at : ℕ → List ℕ → Option Sign
+sign_at n bs = find (λ (s : Sign). length (sign_text s) == n && starts_with nat_eq bs (sign_text s)) signs
 
 abbrev pub found_sign : ℕ → List ℕ → Option Found
-found_sign n bs = option_map (λ place. record { kind = Sign place; len = n }) (sign_at n bs)
+found_sign n bs = option_map (λ (s : Sign). record { kind = token.Sign s; len = n }) (sign_at n bs)
 
 -- the longest sign at the front. None has more than three bytes
 unfoldable pub sign_token : List ℕ → Result Found Fault

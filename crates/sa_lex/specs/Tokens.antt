@@ -56,6 +56,6 @@ pub record IsFaultOf (text : List ℕ) (refusal : Refusal) : Type 0 where
   pub breaks : BreaksAt text (gap_end text (end_of 0 tokens)) refusal
 
 -- a refusal names the fault of the file's text
-abbrev pub Refuses : List ℕ → ℕ → FrontFault → Type 0
-Refuses text file (Refused refusal) = IsFaultOf text refusal × (refusal.pos.file ≡ file)
-Refuses text file NoMemory = ⊤
+abbrev pub RefusesText : List ℕ → ℕ → FrontFault → Type 0
+RefusesText text file (Refused refusal) = IsFaultOf text refusal × (refusal.pos.file ≡ file)
+RefusesText text file NoMemory = ⊤

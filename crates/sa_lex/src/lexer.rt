@@ -1,7 +1,7 @@
 //! A text as its tokens.
 
 ghost use Rattle.std.specs.Prelude.{◌<◌, length, IfOk, IfErr};
-ghost use Rattle.sa_lex.specs.Tokens.{StandsAt, AreTokensOf, Refuses, RefusesAt};
+ghost use Rattle.sa_lex.specs.Tokens.{StandsAt, AreTokensOf, RefusesAt, RefusesText};
 
 use crate::found::Stop;
 use crate::front::front_of;
@@ -41,7 +41,7 @@ fn token_at(alloc: Global, src: &[u8], file: u32, place: usize) -> Result<Token,
 pub fn lex(alloc: Global, src: &[u8], file: u32) -> Result<Vec<Token>, FrontFault>
     requires { length src.now < 4294967295 }
     ensures tokens { IfOk result (λ tokens. AreTokensOf src.now tokens.items) }
-    ensures refused { IfErr result (Refuses src.now file) }
+    ensures refused { IfErr result (RefusesText src.now file) }
 {
     let mut tokens = Vec::new(alloc);
     let mut place = gap_len(src);

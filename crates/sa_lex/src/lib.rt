@@ -9,9 +9,11 @@ mod lexer;
 mod literal;
 mod name;
 mod number;
-pub mod sign;
+mod sign;
 mod token;
-pub mod word;
+mod word;
 
 pub use lexer::lex;
+pub use sign::Sign;
 pub use token::{Token, TokenKind, slice_of};
+pub use word::Word;

@@ -1,17 +1,18 @@
 //! Names and words.
 
-ghost use Rattle.std.specs.Prelude.{◌≡◌, ◌+◌, ◌<◌, ◌≤◌, not, true, Ok, length, position, slice_index, IsTrue};
+ghost use Rattle.std.specs.Prelude.{◌≡◌, ◌+◌, ◌<◌, ◌≤◌, not, true, Ok, length, slice_index, IsTrue};
 ghost use Rattle.std.specs.Char.{is_ascii_alphabetic, is_ascii_lowercase};
-ghost use Rattle.std.specs.List.{prefix_len};
+ghost use Rattle.std.specs.List.{find, prefix_len};
 ghost use Rattle.std.specs.Str.{bytes_eq};
 ghost use Rattle.sa_lex.specs.Bytes.{is_name_byte};
 ghost use Rattle.sa_lex.specs.Found.{IsAmong};
-ghost use Rattle.sa_lex.specs.Name.{name_at, words, has_lower, kind_of_name, is_iter_name, class_name_at, name_token, abstract_token};
+ghost use Rattle.sa_lex.specs.Name.{name_at, has_lower, kind_of_name, is_iter_name, class_name_at, name_token, abstract_token};
+ghost use Rattle.sa_lex.specs.Words.{word_spelled, word_text};
 
 use crate::byte::{begins_with, is_name_byte};
 use crate::found::{Fault, Found};
 use crate::token::TokenKind;
-use crate::word::WORDS;
+use crate::word::{WORDS, Word};
 use sa_tree::Rule;
 
 /// How many letters, digits and `_` stand at the front.
@@ -49,24 +50,23 @@ fn has_lower(name: &[u8]) -> bool
     name.iter().any(|b| b.is_ascii_lowercase())
 }
 
-/// The first place of a spelling in a table.
-fn place_in(table: &[&str], spelling: &[u8]) -> Option<u8>
-    requires { length table.now ≤ 256 }
-    ensures { result ≡ position (λ entry. bytes_eq spelling.now entry.now) table.now }
+/// The first of these words that is spelled so.
+fn first_spelled(words: &[Word], name: &[u8]) -> Option<Word>
+    ensures { result ≡ find (λ word. bytes_eq name.now (word_text word)) words.now }
 {
-    for (place, entry) in table.iter().enumerate() {
-        if spelling == entry.as_bytes() {
-            return Some(place as u8);
+    for &word in words {
+        if name == word.text().as_bytes() {
+            return Some(word);
         }
     }
     None
 }
 
-/// The place of a word in `WORDS`.
-fn word_spelled(name: &[u8]) -> Option<u8>
-    ensures { result ≡ position (bytes_eq name.now) words }
+/// The word of this spelling.
+fn word_spelled(name: &[u8]) -> Option<Word>
+    ensures { result ≡ word_spelled name.now }
 {
-    place_in(&WORDS, name)
+    first_spelled(&WORDS, name)
 }
 
 #[tactic(auto, unfolding(crate::specs::Name::kind_of_name))]
@@ -74,7 +74,7 @@ fn kind_of_name(name: &[u8]) -> TokenKind
     ensures { result ≡ kind_of_name name.now }
 {
     match word_spelled(name) {
-        Some(place) => TokenKind::Word(place),
+        Some(word) => TokenKind::Word(word),
         None if has_lower(name) => TokenKind::Lower,
         None => TokenKind::ClassName,
     }

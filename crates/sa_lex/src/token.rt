@@ -3,13 +3,15 @@
 ghost use Rattle.std.specs.Prelude.{◌≡◌, slice_range};
 ghost use Rattle.sa_lex.specs.Token.{IsWithin};
 
+use crate::sign::Sign;
+use crate::word::Word;
 use sa_tree::Name;
 
 /// What a token is.
 #[derive(Debug, Drop)]
 pub enum TokenKind {
-    /// A word, by its place in `word::WORDS`.
-    Word(u8),
+    /// A word.
+    Word(Word),
     /// A name without a lower-case letter that is no word.
     ClassName,
     /// `$` and a class name.
@@ -24,8 +26,8 @@ pub enum TokenKind {
     Char(u8),
     /// A text literal, by the bytes that it stands for.
     Text(Name),
-    /// A sign, by its place in `sign::SIGNS`.
-    Sign(u8),
+    /// A sign.
+    Sign(Sign),
 }
 
 /// A token of a text, which spans the bytes from `start` up to `end`.

@@ -1,194 +1,299 @@
-//! The words of the language, by their places in the list `WORDS`. The words that the profile refuses follow the others.
+//! The words of the language, each with its spelling.
 
-pub const ABSTRACT: u8 = 0;
+ghost use Rattle.std.specs.Prelude.{◌≡◌};
+ghost use Rattle.sa_lex.specs.Words.{is_refused_word, word_text};
 
-pub const AND: u8 = 1;
+use std::fmt;
 
-pub const ASSERT: u8 = 2;
-
-pub const ATTR: u8 = 3;
-
-pub const BIND: u8 = 4;
-
-pub const BUILTIN: u8 = 5;
-
-pub const CASE: u8 = 6;
-
-pub const CLASS: u8 = 7;
-
-pub const CONST: u8 = 8;
-
-pub const ELSE: u8 = 9;
-
-pub const ELSIF: u8 = 10;
-
-pub const END: u8 = 11;
-
-pub const EXCEPTION: u8 = 12;
-
-pub const FALSE: u8 = 13;
-
-pub const IF: u8 = 14;
-
-pub const IMMUTABLE: u8 = 15;
-
-pub const IN: u8 = 16;
-
-pub const INCLUDE: u8 = 17;
-
-pub const INOUT: u8 = 18;
-
-pub const IS: u8 = 19;
-
-pub const LOOP: u8 = 20;
-
-pub const NEW: u8 = 21;
-
-pub const ONCE: u8 = 22;
-
-pub const OR: u8 = 23;
-
-pub const OUT: u8 = 24;
-
-pub const PARTIAL: u8 = 25;
-
-pub const PRIVATE: u8 = 26;
-
-pub const PROTECT: u8 = 27;
-
-pub const QUIT: u8 = 28;
-
-pub const RAISE: u8 = 29;
-
-pub const READONLY: u8 = 30;
-
-pub const RETURN: u8 = 31;
-
-pub const SELF: u8 = 32;
-
-pub const SHARED: u8 = 33;
-
-pub const STUB: u8 = 34;
-
-pub const THEN: u8 = 35;
-
-pub const TRUE: u8 = 36;
-
-pub const TYPECASE: u8 = 37;
-
-pub const VOID: u8 = 38;
-
-pub const WHEN: u8 = 39;
-
-pub const YIELD: u8 = 40;
-
-pub const ITER: u8 = 41;
-
-pub const ROUT: u8 = 42;
-
-pub const SAME: u8 = 43;
-
-pub const PRE: u8 = 44;
-
-pub const POST: u8 = 45;
-
-pub const INITIAL: u8 = 46;
-
-pub const RESULT: u8 = 47;
-
-pub const INVARIANT: u8 = 48;
-
-pub const EXTERNAL: u8 = 49;
-
-pub const SPREAD: u8 = 50;
-
-pub const FORK: u8 = 51;
-
-pub const PAR: u8 = 52;
-
-pub const PARLOOP: u8 = 53;
-
-pub const LOCK: u8 = 54;
-
-pub const UNLOCK: u8 = 55;
-
-pub const GUARD: u8 = 56;
-
-pub const COHORT: u8 = 57;
-
-pub const SYNC: u8 = 58;
-
-pub const NEAR: u8 = 59;
-
-pub const FAR: u8 = 60;
+/// A word of the language, named by its spelling. `text` gives the spelling.
+#[derive(Clone, Copy, Debug, PartialEq, Eq, Hash)]
+pub enum Word {
+    /// `abstract`
+    Abstract,
+    /// `and`
+    And,
+    /// `assert`
+    Assert,
+    /// `attr`
+    Attr,
+    /// `bind`
+    Bind,
+    /// `builtin`
+    Builtin,
+    /// `case`
+    Case,
+    /// `class`
+    Class,
+    /// `const`
+    Const,
+    /// `else`
+    Else,
+    /// `elsif`
+    Elsif,
+    /// `end`
+    End,
+    /// `exception`
+    Exception,
+    /// `false`
+    False,
+    /// `if`
+    If,
+    /// `immutable`
+    Immutable,
+    /// `in`
+    In,
+    /// `include`
+    Include,
+    /// `inout`
+    Inout,
+    /// `is`
+    Is,
+    /// `loop`
+    Loop,
+    /// `new`
+    New,
+    /// `once`
+    Once,
+    /// `or`
+    Or,
+    /// `out`
+    Out,
+    /// `partial`
+    Partial,
+    /// `private`
+    Private,
+    /// `protect`
+    Protect,
+    /// `quit`
+    Quit,
+    /// `raise`
+    Raise,
+    /// `readonly`
+    Readonly,
+    /// `return`
+    Return,
+    /// `self`
+    SelfWord,
+    /// `shared`
+    Shared,
+    /// `stub`
+    Stub,
+    /// `then`
+    Then,
+    /// `true`
+    True,
+    /// `typecase`
+    Typecase,
+    /// `void`
+    Void,
+    /// `when`
+    When,
+    /// `yield`
+    Yield,
+    /// `ITER`
+    Iter,
+    /// `ROUT`
+    Rout,
+    /// `SAME`
+    Same,
+    /// `pre`
+    Pre,
+    /// `post`
+    Post,
+    /// `initial`
+    Initial,
+    /// `result`
+    Result,
+    /// `invariant`
+    Invariant,
+    /// `external`
+    External,
+    /// `spread`
+    Spread,
+    /// `fork`
+    Fork,
+    /// `par`
+    Par,
+    /// `parloop`
+    Parloop,
+    /// `lock`
+    Lock,
+    /// `unlock`
+    Unlock,
+    /// `guard`
+    Guard,
+    /// `cohort`
+    Cohort,
+    /// `sync`
+    Sync,
+    /// `near`
+    Near,
+    /// `far`
+    Far,
+}
 
 /// How many words there are.
-pub const COUNT: usize = 61;
+const COUNT: usize = 61;
 
-/// The first of the words that the profile refuses. All after it are refused too.
-pub const FIRST_REFUSED: u8 = EXTERNAL;
-
-/// The spelling of each word.
-pub const WORDS: [&str; COUNT] = [
-    "abstract",
-    "and",
-    "assert",
-    "attr",
-    "bind",
-    "builtin",
-    "case",
-    "class",
-    "const",
-    "else",
-    "elsif",
-    "end",
-    "exception",
-    "false",
-    "if",
-    "immutable",
-    "in",
-    "include",
-    "inout",
-    "is",
-    "loop",
-    "new",
-    "once",
-    "or",
-    "out",
-    "partial",
-    "private",
-    "protect",
-    "quit",
-    "raise",
-    "readonly",
-    "return",
-    "self",
-    "shared",
-    "stub",
-    "then",
-    "true",
-    "typecase",
-    "void",
-    "when",
-    "yield",
-    "ITER",
-    "ROUT",
-    "SAME",
-    "pre",
-    "post",
-    "initial",
-    "result",
-    "invariant",
-    "external",
-    "spread",
-    "fork",
-    "par",
-    "parloop",
-    "lock",
-    "unlock",
-    "guard",
-    "cohort",
-    "sync",
-    "near",
-    "far",
+/// All words.
+pub(crate) const WORDS: [Word; COUNT] = [
+    Word::Abstract,
+    Word::And,
+    Word::Assert,
+    Word::Attr,
+    Word::Bind,
+    Word::Builtin,
+    Word::Case,
+    Word::Class,
+    Word::Const,
+    Word::Else,
+    Word::Elsif,
+    Word::End,
+    Word::Exception,
+    Word::False,
+    Word::If,
+    Word::Immutable,
+    Word::In,
+    Word::Include,
+    Word::Inout,
+    Word::Is,
+    Word::Loop,
+    Word::New,
+    Word::Once,
+    Word::Or,
+    Word::Out,
+    Word::Partial,
+    Word::Private,
+    Word::Protect,
+    Word::Quit,
+    Word::Raise,
+    Word::Readonly,
+    Word::Return,
+    Word::SelfWord,
+    Word::Shared,
+    Word::Stub,
+    Word::Then,
+    Word::True,
+    Word::Typecase,
+    Word::Void,
+    Word::When,
+    Word::Yield,
+    Word::Iter,
+    Word::Rout,
+    Word::Same,
+    Word::Pre,
+    Word::Post,
+    Word::Initial,
+    Word::Result,
+    Word::Invariant,
+    Word::External,
+    Word::Spread,
+    Word::Fork,
+    Word::Par,
+    Word::Parloop,
+    Word::Lock,
+    Word::Unlock,
+    Word::Guard,
+    Word::Cohort,
+    Word::Sync,
+    Word::Near,
+    Word::Far,
 ];
+
+impl Word {
+    /// The spelling of the word.
+    pub fn text(self) -> &'static str
+        ensures { result.now ≡ word_text self }
+    {
+        match self {
+            Word::Abstract => "abstract",
+            Word::And => "and",
+            Word::Assert => "assert",
+            Word::Attr => "attr",
+            Word::Bind => "bind",
+            Word::Builtin => "builtin",
+            Word::Case => "case",
+            Word::Class => "class",
+            Word::Const => "const",
+            Word::Else => "else",
+            Word::Elsif => "elsif",
+            Word::End => "end",
+            Word::Exception => "exception",
+            Word::False => "false",
+            Word::If => "if",
+            Word::Immutable => "immutable",
+            Word::In => "in",
+            Word::Include => "include",
+            Word::Inout => "inout",
+            Word::Is => "is",
+            Word::Loop => "loop",
+            Word::New => "new",
+            Word::Once => "once",
+            Word::Or => "or",
+            Word::Out => "out",
+            Word::Partial => "partial",
+            Word::Private => "private",
+            Word::Protect => "protect",
+            Word::Quit => "quit",
+            Word::Raise => "raise",
+            Word::Readonly => "readonly",
+            Word::Return => "return",
+            Word::SelfWord => "self",
+            Word::Shared => "shared",
+            Word::Stub => "stub",
+            Word::Then => "then",
+            Word::True => "true",
+            Word::Typecase => "typecase",
+            Word::Void => "void",
+            Word::When => "when",
+            Word::Yield => "yield",
+            Word::Iter => "ITER",
+            Word::Rout => "ROUT",
+            Word::Same => "SAME",
+            Word::Pre => "pre",
+            Word::Post => "post",
+            Word::Initial => "initial",
+            Word::Result => "result",
+            Word::Invariant => "invariant",
+            Word::External => "external",
+            Word::Spread => "spread",
+            Word::Fork => "fork",
+            Word::Par => "par",
+            Word::Parloop => "parloop",
+            Word::Lock => "lock",
+            Word::Unlock => "unlock",
+            Word::Guard => "guard",
+            Word::Cohort => "cohort",
+            Word::Sync => "sync",
+            Word::Near => "near",
+            Word::Far => "far",
+        }
+    }
+
+    /// Whether the profile refuses the word.
+    pub fn is_refused(self) -> bool
+        ensures { result ≡ is_refused_word self }
+    {
+        matches!(
+            self,
+            Word::External
+                | Word::Spread
+                | Word::Fork
+                | Word::Par
+                | Word::Parloop
+                | Word::Lock
+                | Word::Unlock
+                | Word::Guard
+                | Word::Cohort
+                | Word::Sync
+                | Word::Near
+                | Word::Far
+        )
+    }
+}
+
+impl fmt::Display for Word {
+    fn fmt<W: fmt::Write>(&self, f: &mut fmt::Formatter<W>) -> fmt::Result {
+        f.write_str(self.text())
+    }
+}

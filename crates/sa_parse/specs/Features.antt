@@ -1,7 +1,7 @@
 -- Features: a relation for each production of their grammar, with a case for each of its alternatives.
-use Rattle.std.specs.Prelude.{◌≡◌, ◌+◌, ℕ, Bool, true, false, List, [], ◌∷◌, ◌++◌, Option, Some, None, map}
-use Rattle.sa_lex.specs.declared.sign.TheConstants as sign
-use Rattle.sa_lex.specs.declared.word.TheConstants as word
+use Rattle.std.specs.Prelude.{◌≡◌, ◌+◌, ℕ, true, false, List, [], ◌∷◌, ◌++◌, Option, Some, None, map}
+use Rattle.sa_lex.specs.declared.sign.Sign.TheVariants as sign
+use Rattle.sa_lex.specs.declared.word.Word.TheVariants as word
 use Rattle.sa_tree.specs.declared.ty.Ty.{Ty}
 use Rattle.sa_tree.specs.declared.expr.Expr.{Expr}
 use Rattle.sa_tree.specs.declared.stmt.Local.{Local}
@@ -16,40 +16,43 @@ use Rattle.sa_tree.specs.declared.class.Feature.{Feature}
 use Rattle.sa_tree.specs.declared.class.Change.{Change}
 use Rattle.sa_parse_expr.specs.Lexemes.{Lexeme, IsWord, IsSign, IsFeature}
 use Rattle.sa_parse_expr.specs.Types.{IsType}
-use Rattle.sa_parse.specs.declared.feature.Member.{Member}
-use Rattle.sa_parse.specs.declared.feature.Member.TheVariants as member
+use Rattle.sa_parse.specs.declared.member.Declaration.{Declaration}
+use Rattle.sa_parse.specs.declared.member.Declaration.TheVariants as member
+use Rattle.sa_parse.specs.declared.declared.SharedParts.{SharedParts}
+use Rattle.sa_parse.specs.declared.file.FileKind.{FileKind}
+use Rattle.sa_parse.specs.declared.file.FileKind.TheVariants.{Prelude}
 use Rattle.sa_parse.specs.declared.signature.Signature.{Signature}
 use Rattle.sa_parse.specs.Names.{IsLower, IsMoreNames, IsNames, name_of}
 use Rattle.sa_parse.specs.Signatures.{IsSig}
-use Rattle.sa_parse.specs.Statements.{IsAssigned, IsStmts, IsValue}
+use Rattle.sa_parse.specs.Statements.{IsAssigned, IsBody, IsValue}
 
 -- ---- access
 
 -- ["private"]
 pub data IsPrivate : List Lexeme → Access → Type 0 where
   absent : IsPrivate [] Public
-  private_word : {w : Lexeme} → IsWord word.PRIVATE w → IsPrivate (w ∷ []) Private
+  private_word : {w : Lexeme} → IsWord word.Private w → IsPrivate (w ∷ []) Private
 
 -- ["private" | "readonly"]
 pub data IsAccess : List Lexeme → Access → Type 0 where
   private : {ls : List Lexeme} {access : Access} → IsPrivate ls access → IsAccess ls access
-  readonly_word : {w : Lexeme} → IsWord word.READONLY w → IsAccess (w ∷ []) ReadOnly
+  readonly_word : {w : Lexeme} → IsWord word.Readonly w → IsAccess (w ∷ []) ReadOnly
 
 -- ---- includes
 
--- [["private" | "readonly"] F] behind the arrow of a change
+-- new_name = [["private" | "readonly"] F], behind the arrow of a change
 pub data IsNewName : List Lexeme → Access → Option (List ℕ) → Type 0 where
   absent : IsNewName [] Public None
   given : {ls : List Lexeme} {f : Lexeme} {access : Access} → IsAccess ls access → IsFeature f → IsNewName (ls ++ f ∷ []) access (Some f.bytes)
 
--- change = F "->" [["private" | "readonly"] F]
+-- change = F "->" new_name
 pub data IsChange : List Lexeme → Change → Type 0 where
-  change : {f arrow : Lexeme} {ls : List Lexeme} {access : Access} {to : Option (List ℕ)} → IsFeature f → IsSign sign.ARROW arrow → IsNewName ls access to → IsChange (f ∷ arrow ∷ ls) (record { from = name_of f; to = to; access = access })
+  change : {f arrow : Lexeme} {ls : List Lexeme} {access : Access} {to : Option (List ℕ)} → IsFeature f → IsSign sign.Arrow arrow → IsNewName ls access to → IsChange (f ∷ arrow ∷ ls) (record { from = name_of f; to = to; access = access })
 
 -- change {"," change}
 pub data IsChanges : List Lexeme → List Change → Type 0 where
   last : {ls : List Lexeme} {change : Change} → IsChange ls change → IsChanges ls (change ∷ [])
-  more : {ls ms : List Lexeme} {comma : Lexeme} {change : Change} {others : List Change} → IsChange ls change → IsSign sign.COMMA comma → IsChanges ms others → IsChanges (ls ++ comma ∷ ms) (change ∷ others)
+  more : {ls ms : List Lexeme} {comma : Lexeme} {change : Change} {others : List Change} → IsChange ls change → IsSign sign.Comma comma → IsChanges ms others → IsChanges (ls ++ comma ∷ ms) (change ∷ others)
 
 -- [change {"," change}]
 pub data IsOptionalChanges : List Lexeme → List Change → Type 0 where
@@ -68,15 +71,19 @@ counted_from number access value [] = []
 counted_from number access value (name ∷ names) =
     variable_of access None (part.Const value number) name ∷ counted_from (number + 1) access value names
 
+-- shared_parts = type [":=" expr]
+pub data IsSharedParts : List Lexeme → SharedParts → Type 0 where
+  shared_parts : {ls ms : List Lexeme} {t : Ty} {value : Option Expr} → IsType ls t → IsAssigned ms value → IsSharedParts (ls ++ ms) (record { ty = t; value = value })
+
 -- attr | shared | const, behind the words of access
 pub data IsDeclared : Access → List Lexeme → List Feature → Type 0 where
-  attr : {access : Access} {w colon : Lexeme} {ls ms : List Lexeme} {names : List Local} {t : Ty} → IsWord word.ATTR w → IsNames ls names → IsSign sign.COLON colon → IsType ms t → IsDeclared access (w ∷ ls ++ colon ∷ ms) (map (variable_of access (Some t) part.Attr) names)
-  shared : {access : Access} {w colon : Lexeme} {ls ms rest : List Lexeme} {names : List Local} {t : Ty} {value : Option Expr} → IsWord word.SHARED w → IsNames ls names → IsSign sign.COLON colon → IsType ms t → IsAssigned rest value → IsDeclared access (w ∷ ls ++ colon ∷ ms ++ rest) (map (variable_of access (Some t) (part.Shared value)) names)
+  attr : {access : Access} {w colon : Lexeme} {ls ms : List Lexeme} {names : List Local} {t : Ty} → IsWord word.Attr w → IsNames ls names → IsSign sign.Colon colon → IsType ms t → IsDeclared access (w ∷ ls ++ colon ∷ ms) (map (variable_of access (Some t) part.Attr) names)
+  shared : {access : Access} {w colon : Lexeme} {ls ms : List Lexeme} {names : List Local} {parts : SharedParts} → IsWord word.Shared w → IsNames ls names → IsSign sign.Colon colon → IsSharedParts ms parts → IsDeclared access (w ∷ ls ++ colon ∷ ms) (map (variable_of access (Some parts.ty) (part.Shared parts.value)) names)
 
 -- "const" LNAME (":" type ":=" expr | [":=" expr] {"," LNAME}), behind the words of access
 pub data IsConstants : Access → List Lexeme → List Feature → Type 0 where
-  typed_constant : {access : Access} {w l colon gets : Lexeme} {ls ms : List Lexeme} {t : Ty} {e : Expr} → IsWord word.CONST w → IsLower l → IsSign sign.COLON colon → IsType ls t → IsSign sign.ASSIGN gets → IsValue ms e → IsConstants access (w ∷ l ∷ colon ∷ ls ++ gets ∷ ms) (variable_of access (Some t) (part.Const (Some e) 0) (name_of l) ∷ [])
-  counted_constants : {access : Access} {w l : Lexeme} {ls ms : List Lexeme} {value : Option Expr} {names : List Local} → IsWord word.CONST w → IsLower l → IsAssigned ls value → IsMoreNames ms names → IsConstants access (w ∷ l ∷ ls ++ ms) (counted_from 0 access value (name_of l ∷ names))
+  typed_constant : {access : Access} {w l colon gets : Lexeme} {ls ms : List Lexeme} {t : Ty} {e : Expr} → IsWord word.Const w → IsLower l → IsSign sign.Colon colon → IsType ls t → IsSign sign.Assign gets → IsValue ms e → IsConstants access (w ∷ l ∷ colon ∷ ls ++ gets ∷ ms) (variable_of access (Some t) (part.Const (Some e) 0) (name_of l) ∷ [])
+  counted_constants : {access : Access} {w l : Lexeme} {ls ms : List Lexeme} {value : Option Expr} {names : List Local} → IsWord word.Const w → IsLower l → IsAssigned ls value → IsMoreNames ms names → IsConstants access (w ∷ l ∷ ls ++ ms) (counted_from 0 access value (name_of l ∷ names))
 
 -- ---- features
 
@@ -84,23 +91,27 @@ pub data IsConstants : Access → List Lexeme → List Feature → Type 0 where
 abbrev pub feature_of : Signature → Access → Part → Feature
 feature_of sig access part = record { name = sig.name; access = access; formals = sig.formals; result = sig.result; part = part }
 
--- the class that features stand in: its name and its kind, and whether it is one of the prelude
-pub record Place : Type 0 where
-  pub class : List ℕ
+-- the class that members stand in: its name, its kind, and the kind of its file
+pub record Enclosing : Type 0 where
+  pub name : List ℕ
   pub kind : Kind
-  pub prelude : Bool
+  pub file_kind : FileKind
+
+-- whole_body = "is" stmts "end"
+pub data IsWholeBody : List Lexeme → List Stmt → Type 0 where
+  whole_body : {closing : Lexeme} {ls : List Lexeme} {list : List Stmt} → IsBody word.Is ls list → IsWord word.End closing → IsWholeBody (ls ++ closing ∷ []) list
 
 -- routine | stub | builtin, behind the word of access. Stubs stand in partial classes alone, and built-in features in the
 -- prelude alone
-pub data IsCalled (place : Place) : Access → List Lexeme → Feature → Type 0 where
-  routine : {access : Access} {is closing : Lexeme} {ls ms : List Lexeme} {sig : Signature} {body : List Stmt} → IsSig ls sig → IsWord word.IS is → IsStmts ms body → IsWord word.END closing → IsCalled place access (ls ++ is ∷ ms ++ closing ∷ []) (feature_of sig access (part.Routine body))
-  stub : {access : Access} {w : Lexeme} {ls : List Lexeme} {sig : Signature} → place.kind ≡ Partial → IsWord word.STUB w → IsSig ls sig → IsCalled place access (w ∷ ls) (feature_of sig access part.Stub)
-  builtin : {access : Access} {w : Lexeme} {ls : List Lexeme} {sig : Signature} → place.prelude ≡ true → IsWord word.BUILTIN w → IsSig ls sig → IsCalled place access (w ∷ ls) (feature_of sig access (part.Builtin place.class sig.name.name))
+pub data IsCalled (class : Enclosing) : Access → List Lexeme → Feature → Type 0 where
+  routine : {access : Access} {ls ms : List Lexeme} {sig : Signature} {body : List Stmt} → IsSig ls sig → IsWholeBody ms body → IsCalled class access (ls ++ ms) (feature_of sig access (part.Routine body))
+  stub : {access : Access} {w : Lexeme} {ls : List Lexeme} {sig : Signature} → class.kind ≡ Partial → IsWord word.Stub w → IsSig ls sig → IsCalled class access (w ∷ ls) (feature_of sig access part.Stub)
+  builtin : {access : Access} {w : Lexeme} {ls : List Lexeme} {sig : Signature} → class.file_kind ≡ Prelude → IsWord word.Builtin w → IsSig ls sig → IsCalled class access (w ∷ ls) (feature_of sig access (part.Builtin class.name sig.name.name))
 
--- feature = ["private"] (routine | stub | builtin | const | include) | ["private" | "readonly"] (attr | shared)
-pub data IsMember (place : Place) : List Lexeme → Member → Type 0 where
-  called : {ls ms : List Lexeme} {access : Access} {feature : Feature} → IsPrivate ls access → IsCalled place access ms feature → IsMember place (ls ++ ms) (member.Features (feature ∷ []))
-  declared : {ls ms : List Lexeme} {access : Access} {features : List Feature} → IsAccess ls access → IsDeclared access ms features → IsMember place (ls ++ ms) (member.Features features)
-  constants : {ls ms : List Lexeme} {access : Access} {features : List Feature} → IsPrivate ls access → IsConstants access ms features → IsMember place (ls ++ ms) (member.Features features)
-  include : {w : Lexeme} {ls ms : List Lexeme} {t : Ty} {changes : List Change} → IsWord word.INCLUDE w → IsType ls t → IsOptionalChanges ms changes → IsMember place (w ∷ ls ++ ms) (member.Include (record { ty = t; private = false; changes = changes }))
-  private_include : {p w : Lexeme} {ls ms : List Lexeme} {t : Ty} {changes : List Change} → IsWord word.PRIVATE p → IsWord word.INCLUDE w → IsType ls t → IsOptionalChanges ms changes → IsMember place (p ∷ w ∷ ls ++ ms) (member.Include (record { ty = t; private = true; changes = changes }))
+-- member = ["private"] (routine | stub | builtin | const | include) | ["private" | "readonly"] (attr | shared)
+pub data IsMember (class : Enclosing) : List Lexeme → Declaration → Type 0 where
+  called : {ls ms : List Lexeme} {access : Access} {feature : Feature} → IsPrivate ls access → IsCalled class access ms feature → IsMember class (ls ++ ms) (member.Features (feature ∷ []))
+  declared : {ls ms : List Lexeme} {access : Access} {features : List Feature} → IsAccess ls access → IsDeclared access ms features → IsMember class (ls ++ ms) (member.Features features)
+  constants : {ls ms : List Lexeme} {access : Access} {features : List Feature} → IsPrivate ls access → IsConstants access ms features → IsMember class (ls ++ ms) (member.Features features)
+  include : {w : Lexeme} {ls ms : List Lexeme} {t : Ty} {changes : List Change} → IsWord word.Include w → IsType ls t → IsOptionalChanges ms changes → IsMember class (w ∷ ls ++ ms) (member.Include (record { ty = t; private = false; changes = changes }))
+  private_include : {p w : Lexeme} {ls ms : List Lexeme} {t : Ty} {changes : List Change} → IsWord word.Private p → IsWord word.Include w → IsType ls t → IsOptionalChanges ms changes → IsMember class (p ∷ w ∷ ls ++ ms) (member.Include (record { ty = t; private = true; changes = changes }))

@@ -1,7 +1,7 @@
 -- Names where they are declared, changed or tested.
 use Rattle.std.specs.Prelude.{◌≡◌, List, [], ◌∷◌}
 use Rattle.sa_lex.specs.declared.token.TokenKind.TheVariants.{Lower}
-use Rattle.sa_lex.specs.declared.sign.TheConstants as sign
+use Rattle.sa_lex.specs.declared.sign.Sign.TheVariants as sign
 use Rattle.sa_tree.specs.declared.stmt.Local.{Local}
 use Rattle.sa_parse_expr.specs.Lexemes.{Lexeme, IsSign}
 
@@ -16,7 +16,7 @@ IsLower l = l.kind ≡ Lower
 -- {"," LNAME}
 pub data IsMoreNames : List Lexeme → List Local → Type 0 where
   absent : IsMoreNames [] []
-  more : {comma l : Lexeme} {ls : List Lexeme} {names : List Local} → IsSign sign.COMMA comma → IsLower l → IsMoreNames ls names → IsMoreNames (comma ∷ l ∷ ls) (name_of l ∷ names)
+  more : {comma l : Lexeme} {ls : List Lexeme} {names : List Local} → IsSign sign.Comma comma → IsLower l → IsMoreNames ls names → IsMoreNames (comma ∷ l ∷ ls) (name_of l ∷ names)
 
 -- LNAME {"," LNAME}
 pub data IsNames : List Lexeme → List Local → Type 0 where

@@ -2,10 +2,10 @@
 use Rattle.std.specs.Prelude.{◌⊎◌, ℕ, List, length}
 use Rattle.sa_lex.specs.declared.token.Token.{Token}
 use Rattle.sa_tree.specs.declared.refusal.FrontFault.{FrontFault}
-use Rattle.sa_parse_expr.specs.Level.{AreTaken, Refuses}
+use Rattle.sa_parse_expr.specs.Level.{AreTaken, RefusesTokens}
 use Rattle.sa_parse_expr.specs.Places.{IsUnexpected}
 
 -- E07 or E08 at the first token that breaks one of these rules; or no token does, and one is unexpected: E06
 abbrev pub IsRefusal : List Token → ℕ → FrontFault → Type 0
 IsRefusal tokens file fault =
-    Refuses tokens file fault ⊎ (AreTaken tokens (length tokens) × IsUnexpected file fault)
+    RefusesTokens tokens file fault ⊎ (AreTaken tokens (length tokens) × IsUnexpected file fault)

@@ -1,137 +1,272 @@
 //! Statements that hold others: one function for each production of their grammar.
 //!
 //! ```text
-//! if       = "if" arm {"elsif" arm} [else] "end"
-//! arm      = expr "then" stmts
-//! else     = "else" stmts
-//! loop     = "loop" stmts "end"
-//! case     = "case" expr {"when" values} [else] "end"
-//! values   = expr {"," expr} "then" stmts
-//! typecase = "typecase" LNAME {"when" branch} [else] "end"
-//! branch   = type "then" stmts
-//! protect  = "protect" stmts {"when" branch} [else] "end"
+//! if          = "if" arms ending
+//! arms        = arm {"elsif" arm}
+//! arm         = expr "then" stmts
+//! ending      = else "end"
+//! else        = ["else" stmts]
+//! loop        = "loop" stmts "end"
+//! case        = "case" expr case_choice
+//! case_choice = case_arms ending
+//! case_arms   = {"when" case_arm}
+//! case_arm    = values "then" stmts
+//! values      = expr {"," expr}
+//! typecase    = "typecase" LNAME type_choice
+//! protect     = "protect" stmts type_choice
+//! type_choice = branches ending
+//! branches    = {"when" branch}
+//! branch      = type "then" stmts
 //! ```
 //!
-//! Each of them stands at its word.
+//! Each of the statements stands at its word.
 
-ghost use Rattle.std.specs.Prelude.{◌≤◌, IfErr, IfOk, length};
+ghost use Rattle.std.specs.Prelude.{◌<◌, ◌≤◌, IfErr, IfOk, length};
+ghost use Rattle.sa_parse.specs.Bodies.{NestsBodies};
 ghost use Rattle.sa_parse_expr.specs.Places.{IsBehind, IsFrom, IsUnexpected};
 
+use crate::body::Stmts;
 use crate::names::lower_name;
-use crate::statement::stmts;
-use sa_lex::{sign, word};
+use sa_lex::{Sign, Word};
 use sa_parse_expr::{Tokens, read_expr, read_type};
-use sa_tree::{Arm, CaseArm, Expr, FrontFault, Stmt, TypeArm};
+use sa_tree::{Arm, CaseArm, Expr, FrontFault, Local, Pos, Stmt, TypeArm};
 use sqlite_items::Items;
 use std::alloc::Global;
 
-/// `"if" arm {"elsif" arm} [else] "end"`
-#[cycle(statement)]
-pub(crate) fn if_block(
-    alloc: Global,
-    tokens: &Tokens<'_>,
-    from: u32,
-) -> Result<(Stmt, u32), FrontFault>
-    ensures next { IfOk result (λ read. IsBehind tokens.now.list.now from read.1) }
-    ensures refused { IfErr result (IsUnexpected tokens.now.file) }
-{
-    let pos = tokens.pos(from);
-    let mut arms = Vec::new(alloc);
-    let (first, mut next) = arm(alloc, tokens, tokens.after_word(from, word::IF)?)?;
-    arms.push(first)?;
-    'more: while tokens.is_word(next, word::ELSIF) {
-        let (one, end) = arm(alloc, tokens, next + 1)?;
-        arms.push(one)?;
-        next = end;
+/// What a `case` chooses from, and its `else`.
+#[derive(Drop)]
+struct CaseChoice {
+    arms: Items<CaseArm>,
+    rest: Option<Items<Stmt>>,
+}
+
+/// What a `typecase` or a `protect` chooses from, and its `else`.
+#[derive(Drop)]
+struct TypeChoice {
+    branches: Items<TypeArm>,
+    rest: Option<Items<Stmt>>,
+}
+
+fn case_of(tested: Expr, choice: CaseChoice, pos: Pos) -> Stmt {
+    Stmt::Case(tested, choice.arms, choice.rest, pos)
+}
+
+fn typecase_of(tested: Local, choice: TypeChoice, pos: Pos) -> Stmt {
+    Stmt::TypeCase(tested, choice.branches, choice.rest, pos)
+}
+
+fn protect_of(body: Items<Stmt>, choice: TypeChoice, pos: Pos) -> Stmt {
+    Stmt::Protect(body, choice.branches, choice.rest, pos)
+}
+
+impl<F: Fn(Global, &Tokens<'_>, Word, u32) -> Result<(Items<Stmt>, u32), FrontFault>> Stmts<'_, F> {
+    /// `"if" arms ending`
+    pub(crate) fn if_block(&self, from: u32) -> Result<(Stmt, u32), FrontFault>
+        requires nested { NestsBodies self.now.from (F.pre self.now.nested) (F.post self.now.nested) }
+        requires from { self.now.from < from }
+        ensures next { IfOk result (λ read. IsBehind self.now.tokens.list.now from read.1) }
+        ensures refused { IfErr result (IsUnexpected self.now.tokens.file) }
+    {
+        let next = self.tokens.after_word(from, Word::If)?;
+        let (arms, next) = self.arms(next)?;
+        let (rest, next) = self.ending(next)?;
+        let rest = rest.unwrap_or(Items::new(self.alloc));
+        Ok((Stmt::If(arms, rest, self.tokens.pos(from)), next))
     }
-    let (rest, next) = else_part(alloc, tokens, next)?;
-    let rest = rest.unwrap_or(Items::new(alloc));
-    let next = tokens.after_word(next, word::END)?;
-    arms.shrink_to_fit();
-    Ok((Stmt::If(Items::from_vec(arms), rest, pos), next))
-}
 
-/// `expr "then" stmts`
-#[cycle(statement)]
-fn arm(alloc: Global, tokens: &Tokens<'_>, from: u32) -> Result<(Arm, u32), FrontFault>
-    ensures next { IfOk result (λ read. IsBehind tokens.now.list.now from read.1) }
-    ensures refused { IfErr result (IsUnexpected tokens.now.file) }
-{
-    let (test, next) = read_expr(alloc, tokens, from)?;
-    let next = tokens.after_word(next, word::THEN)?;
-    let (body, next) = stmts(alloc, tokens, next)?;
-    Ok((Arm { test, body }, next))
-}
-
-/// `[else]`
-#[cycle(statement)]
-fn else_part(
-    alloc: Global,
-    tokens: &Tokens<'_>,
-    from: u32,
-) -> Result<(Option<Items<Stmt>>, u32), FrontFault>
-    requires { from ≤ length tokens.now.list.now }
-    ensures next { IfOk result (λ read. IsFrom tokens.now.list.now from read.1) }
-    ensures refused { IfErr result (IsUnexpected tokens.now.file) }
-{
-    if !tokens.is_word(from, word::ELSE) {
-        return Ok((None, from));
+    /// `arm {"elsif" arm}`
+    fn arms(&self, from: u32) -> Result<(Items<Arm>, u32), FrontFault>
+        requires nested { NestsBodies self.now.from (F.pre self.now.nested) (F.post self.now.nested) }
+        requires from { self.now.from < from }
+        ensures next { IfOk result (λ read. IsBehind self.now.tokens.list.now from read.1) }
+        ensures refused { IfErr result (IsUnexpected self.now.tokens.file) }
+    {
+        let (first, mut next) = self.arm(from)?;
+        let mut arms = Vec::new(self.alloc);
+        arms.push(first)?;
+        'more: while self.tokens.is_word(next, Word::Elsif) {
+            let (one, end) = self.arm(next + 1)?;
+            arms.push(one)?;
+            next = end;
+        }
+        arms.shrink_to_fit();
+        Ok((Items::from_vec(arms), next))
     }
-    let (body, next) = stmts(alloc, tokens, from + 1)?;
-    Ok((Some(body), next))
-}
 
-/// `"loop" stmts "end"`
-#[cycle(statement)]
-pub(crate) fn loop_block(
-    alloc: Global,
-    tokens: &Tokens<'_>,
-    from: u32,
-) -> Result<(Stmt, u32), FrontFault>
-    ensures next { IfOk result (λ read. IsBehind tokens.now.list.now from read.1) }
-    ensures refused { IfErr result (IsUnexpected tokens.now.file) }
-{
-    let pos = tokens.pos(from);
-    let next = tokens.after_word(from, word::LOOP)?;
-    let (body, next) = stmts(alloc, tokens, next)?;
-    let next = tokens.after_word(next, word::END)?;
-    Ok((Stmt::Loop(body, pos), next))
-}
-
-/// `"case" expr {"when" values} [else] "end"`
-#[cycle(statement)]
-pub(crate) fn case_block(
-    alloc: Global,
-    tokens: &Tokens<'_>,
-    from: u32,
-) -> Result<(Stmt, u32), FrontFault>
-    ensures next { IfOk result (λ read. IsBehind tokens.now.list.now from read.1) }
-    ensures refused { IfErr result (IsUnexpected tokens.now.file) }
-{
-    let pos = tokens.pos(from);
-    let next = tokens.after_word(from, word::CASE)?;
-    let (tested, mut next) = read_expr(alloc, tokens, next)?;
-    let mut arms = Items::new(alloc);
-    'more: while tokens.is_word(next, word::WHEN) {
-        let (arm, end) = case_arm(alloc, tokens, next + 1)?;
-        arms.push(arm)?;
-        next = end;
+    /// `expr "then" stmts`
+    fn arm(&self, from: u32) -> Result<(Arm, u32), FrontFault>
+        requires nested { NestsBodies self.now.from (F.pre self.now.nested) (F.post self.now.nested) }
+        requires from { self.now.from < from }
+        ensures next { IfOk result (λ read. IsBehind self.now.tokens.list.now from read.1) }
+        ensures refused { IfErr result (IsUnexpected self.now.tokens.file) }
+    {
+        let (test, next) = read_expr(self.alloc, &self.tokens, from)?;
+        let (body, next) = self.body(Word::Then, next)?;
+        Ok((Arm { test, body }, next))
     }
-    let (rest, next) = else_part(alloc, tokens, next)?;
-    let next = tokens.after_word(next, word::END)?;
-    Ok((Stmt::Case(tested, arms, rest, pos), next))
-}
 
-/// `expr {"," expr} "then" stmts`
-#[cycle(statement)]
-fn case_arm(alloc: Global, tokens: &Tokens<'_>, from: u32) -> Result<(CaseArm, u32), FrontFault>
-    ensures next { IfOk result (λ read. IsBehind tokens.now.list.now from read.1) }
-    ensures refused { IfErr result (IsUnexpected tokens.now.file) }
-{
-    let (values, next) = values(alloc, tokens, from)?;
-    let next = tokens.after_word(next, word::THEN)?;
-    let (body, next) = stmts(alloc, tokens, next)?;
-    Ok((CaseArm { values, body }, next))
+    /// `else "end"`
+    fn ending(&self, from: u32) -> Result<(Option<Items<Stmt>>, u32), FrontFault>
+        requires nested { NestsBodies self.now.from (F.pre self.now.nested) (F.post self.now.nested) }
+        requires from { self.now.from < from }
+        requires within { from ≤ length self.now.tokens.list.now }
+        ensures next { IfOk result (λ read. IsBehind self.now.tokens.list.now from read.1) }
+        ensures refused { IfErr result (IsUnexpected self.now.tokens.file) }
+    {
+        let (rest, next) = self.else_part(from)?;
+        Ok((rest, self.tokens.after_word(next, Word::End)?))
+    }
+
+    /// `["else" stmts]`
+    fn else_part(&self, from: u32) -> Result<(Option<Items<Stmt>>, u32), FrontFault>
+        requires nested { NestsBodies self.now.from (F.pre self.now.nested) (F.post self.now.nested) }
+        requires from { self.now.from < from }
+        requires within { from ≤ length self.now.tokens.list.now }
+        ensures next { IfOk result (λ read. IsFrom self.now.tokens.list.now from read.1) }
+        ensures refused { IfErr result (IsUnexpected self.now.tokens.file) }
+    {
+        if !self.tokens.is_word(from, Word::Else) {
+            return Ok((None, from));
+        }
+        let (body, next) = self.body(Word::Else, from)?;
+        Ok((Some(body), next))
+    }
+
+    /// `"loop" stmts "end"`
+    pub(crate) fn loop_block(&self, from: u32) -> Result<(Stmt, u32), FrontFault>
+        requires nested { NestsBodies self.now.from (F.pre self.now.nested) (F.post self.now.nested) }
+        requires from { self.now.from < from }
+        ensures next { IfOk result (λ read. IsBehind self.now.tokens.list.now from read.1) }
+        ensures refused { IfErr result (IsUnexpected self.now.tokens.file) }
+    {
+        let (body, next) = self.body(Word::Loop, from)?;
+        let next = self.tokens.after_word(next, Word::End)?;
+        Ok((Stmt::Loop(body, self.tokens.pos(from)), next))
+    }
+
+    /// `"case" expr case_choice`
+    pub(crate) fn case_block(&self, from: u32) -> Result<(Stmt, u32), FrontFault>
+        requires nested { NestsBodies self.now.from (F.pre self.now.nested) (F.post self.now.nested) }
+        requires from { self.now.from < from }
+        ensures next { IfOk result (λ read. IsBehind self.now.tokens.list.now from read.1) }
+        ensures refused { IfErr result (IsUnexpected self.now.tokens.file) }
+    {
+        let next = self.tokens.after_word(from, Word::Case)?;
+        let (tested, next) = read_expr(self.alloc, &self.tokens, next)?;
+        let (choice, next) = self.case_choice(next)?;
+        Ok((case_of(tested, choice, self.tokens.pos(from)), next))
+    }
+
+    /// `case_arms ending`
+    fn case_choice(&self, from: u32) -> Result<(CaseChoice, u32), FrontFault>
+        requires nested { NestsBodies self.now.from (F.pre self.now.nested) (F.post self.now.nested) }
+        requires from { self.now.from < from }
+        requires within { from ≤ length self.now.tokens.list.now }
+        ensures next { IfOk result (λ read. IsBehind self.now.tokens.list.now from read.1) }
+        ensures refused { IfErr result (IsUnexpected self.now.tokens.file) }
+    {
+        let (arms, next) = self.case_arms(from)?;
+        let (rest, next) = self.ending(next)?;
+        Ok((CaseChoice { arms, rest }, next))
+    }
+
+    /// `{"when" case_arm}`
+    fn case_arms(&self, from: u32) -> Result<(Items<CaseArm>, u32), FrontFault>
+        requires nested { NestsBodies self.now.from (F.pre self.now.nested) (F.post self.now.nested) }
+        requires from { self.now.from < from }
+        requires within { from ≤ length self.now.tokens.list.now }
+        ensures next { IfOk result (λ read. IsFrom self.now.tokens.list.now from read.1) }
+        ensures refused { IfErr result (IsUnexpected self.now.tokens.file) }
+    {
+        let mut arms = Items::new(self.alloc);
+        let mut next = from;
+        'more: while self.tokens.is_word(next, Word::When) {
+            let (arm, end) = self.case_arm(next + 1)?;
+            arms.push(arm)?;
+            next = end;
+        }
+        Ok((arms, next))
+    }
+
+    /// `values "then" stmts`
+    fn case_arm(&self, from: u32) -> Result<(CaseArm, u32), FrontFault>
+        requires nested { NestsBodies self.now.from (F.pre self.now.nested) (F.post self.now.nested) }
+        requires from { self.now.from < from }
+        ensures next { IfOk result (λ read. IsBehind self.now.tokens.list.now from read.1) }
+        ensures refused { IfErr result (IsUnexpected self.now.tokens.file) }
+    {
+        let (values, next) = values(self.alloc, &self.tokens, from)?;
+        let (body, next) = self.body(Word::Then, next)?;
+        Ok((CaseArm { values, body }, next))
+    }
+
+    /// `"typecase" LNAME type_choice`
+    pub(crate) fn typecase_block(&self, from: u32) -> Result<(Stmt, u32), FrontFault>
+        requires nested { NestsBodies self.now.from (F.pre self.now.nested) (F.post self.now.nested) }
+        requires from { self.now.from < from }
+        ensures next { IfOk result (λ read. IsBehind self.now.tokens.list.now from read.1) }
+        ensures refused { IfErr result (IsUnexpected self.now.tokens.file) }
+    {
+        let next = self.tokens.after_word(from, Word::Typecase)?;
+        let (tested, next) = lower_name(self.alloc, &self.tokens, next)?;
+        let (choice, next) = self.type_choice(next)?;
+        Ok((typecase_of(tested, choice, self.tokens.pos(from)), next))
+    }
+
+    /// `"protect" stmts type_choice`
+    pub(crate) fn protect_block(&self, from: u32) -> Result<(Stmt, u32), FrontFault>
+        requires nested { NestsBodies self.now.from (F.pre self.now.nested) (F.post self.now.nested) }
+        requires from { self.now.from < from }
+        ensures next { IfOk result (λ read. IsBehind self.now.tokens.list.now from read.1) }
+        ensures refused { IfErr result (IsUnexpected self.now.tokens.file) }
+    {
+        let (body, next) = self.body(Word::Protect, from)?;
+        let (choice, next) = self.type_choice(next)?;
+        Ok((protect_of(body, choice, self.tokens.pos(from)), next))
+    }
+
+    /// `branches ending`
+    fn type_choice(&self, from: u32) -> Result<(TypeChoice, u32), FrontFault>
+        requires nested { NestsBodies self.now.from (F.pre self.now.nested) (F.post self.now.nested) }
+        requires from { self.now.from < from }
+        requires within { from ≤ length self.now.tokens.list.now }
+        ensures next { IfOk result (λ read. IsBehind self.now.tokens.list.now from read.1) }
+        ensures refused { IfErr result (IsUnexpected self.now.tokens.file) }
+    {
+        let (branches, next) = self.branches(from)?;
+        let (rest, next) = self.ending(next)?;
+        Ok((TypeChoice { branches, rest }, next))
+    }
+
+    /// `{"when" branch}`
+    fn branches(&self, from: u32) -> Result<(Items<TypeArm>, u32), FrontFault>
+        requires nested { NestsBodies self.now.from (F.pre self.now.nested) (F.post self.now.nested) }
+        requires from { self.now.from < from }
+        requires within { from ≤ length self.now.tokens.list.now }
+        ensures next { IfOk result (λ read. IsFrom self.now.tokens.list.now from read.1) }
+        ensures refused { IfErr result (IsUnexpected self.now.tokens.file) }
+    {
+        let mut branches = Items::new(self.alloc);
+        let mut next = from;
+        'more: while self.tokens.is_word(next, Word::When) {
+            let (one, end) = self.branch(next + 1)?;
+            branches.push(one)?;
+            next = end;
+        }
+        Ok((branches, next))
+    }
+
+    /// `type "then" stmts`
+    fn branch(&self, from: u32) -> Result<(TypeArm, u32), FrontFault>
+        requires nested { NestsBodies self.now.from (F.pre self.now.nested) (F.post self.now.nested) }
+        requires from { self.now.from < from }
+        ensures next { IfOk result (λ read. IsBehind self.now.tokens.list.now from read.1) }
+        ensures refused { IfErr result (IsUnexpected self.now.tokens.file) }
+    {
+        let (ty, next) = read_type(self.alloc, &self.tokens, from)?;
+        let (body, next) = self.body(Word::Then, next)?;
+        Ok((TypeArm { ty, body }, next))
+    }
 }
 
 /// `expr {"," expr}`
@@ -142,81 +277,10 @@ fn values(alloc: Global, tokens: &Tokens<'_>, from: u32) -> Result<(Items<Expr>,
     let (first, mut next) = read_expr(alloc, tokens, from)?;
     let mut values = Items::new(alloc);
     values.push(first)?;
-    'more: while tokens.is_sign(next, sign::COMMA) {
+    'more: while tokens.is_sign(next, Sign::Comma) {
         let (value, end) = read_expr(alloc, tokens, next + 1)?;
         values.push(value)?;
         next = end;
     }
     Ok((values, next))
-}
-
-/// `"typecase" LNAME {"when" branch} [else] "end"`
-#[cycle(statement)]
-pub(crate) fn typecase_block(
-    alloc: Global,
-    tokens: &Tokens<'_>,
-    from: u32,
-) -> Result<(Stmt, u32), FrontFault>
-    ensures next { IfOk result (λ read. IsBehind tokens.now.list.now from read.1) }
-    ensures refused { IfErr result (IsUnexpected tokens.now.file) }
-{
-    let pos = tokens.pos(from);
-    let next = tokens.after_word(from, word::TYPECASE)?;
-    let (tested, next) = lower_name(alloc, tokens, next)?;
-    let (branches, next) = branches(alloc, tokens, next)?;
-    let (rest, next) = else_part(alloc, tokens, next)?;
-    let next = tokens.after_word(next, word::END)?;
-    Ok((Stmt::TypeCase(tested, branches, rest, pos), next))
-}
-
-/// `{"when" branch}`
-#[cycle(statement)]
-fn branches(
-    alloc: Global,
-    tokens: &Tokens<'_>,
-    from: u32,
-) -> Result<(Items<TypeArm>, u32), FrontFault>
-    requires { from ≤ length tokens.now.list.now }
-    ensures next { IfOk result (λ read. IsFrom tokens.now.list.now from read.1) }
-    ensures refused { IfErr result (IsUnexpected tokens.now.file) }
-{
-    let mut branches = Items::new(alloc);
-    let mut next = from;
-    'more: while tokens.is_word(next, word::WHEN) {
-        let (one, end) = branch(alloc, tokens, next + 1)?;
-        branches.push(one)?;
-        next = end;
-    }
-    Ok((branches, next))
-}
-
-/// `type "then" stmts`
-#[cycle(statement)]
-fn branch(alloc: Global, tokens: &Tokens<'_>, from: u32) -> Result<(TypeArm, u32), FrontFault>
-    ensures next { IfOk result (λ read. IsBehind tokens.now.list.now from read.1) }
-    ensures refused { IfErr result (IsUnexpected tokens.now.file) }
-{
-    let (ty, next) = read_type(alloc, tokens, from)?;
-    let next = tokens.after_word(next, word::THEN)?;
-    let (body, next) = stmts(alloc, tokens, next)?;
-    Ok((TypeArm { ty, body }, next))
-}
-
-/// `"protect" stmts {"when" branch} [else] "end"`
-#[cycle(statement)]
-pub(crate) fn protect_block(
-    alloc: Global,
-    tokens: &Tokens<'_>,
-    from: u32,
-) -> Result<(Stmt, u32), FrontFault>
-    ensures next { IfOk result (λ read. IsBehind tokens.now.list.now from read.1) }
-    ensures refused { IfErr result (IsUnexpected tokens.now.file) }
-{
-    let pos = tokens.pos(from);
-    let next = tokens.after_word(from, word::PROTECT)?;
-    let (body, next) = stmts(alloc, tokens, next)?;
-    let (branches, next) = branches(alloc, tokens, next)?;
-    let (rest, next) = else_part(alloc, tokens, next)?;
-    let next = tokens.after_word(next, word::END)?;
-    Ok((Stmt::Protect(body, branches, rest, pos), next))
 }

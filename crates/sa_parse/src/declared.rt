@@ -1,9 +1,10 @@
 //! Attributes, shareds and constants: one function for each production of their grammar.
 //!
 //! ```text
-//! attr   = "attr" LNAME {"," LNAME} ":" type
-//! shared = "shared" LNAME {"," LNAME} ":" type [":=" expr]
-//! const  = "const" LNAME (":" type ":=" expr | [":=" expr] {"," LNAME})
+//! attr         = "attr" LNAME {"," LNAME} ":" type
+//! shared       = "shared" LNAME {"," LNAME} ":" shared_parts
+//! shared_parts = type [":=" expr]
+//! const        = "const" LNAME (":" type ":=" expr | [":=" expr] {"," LNAME})
 //! ```
 //!
 //! Each name is a feature of its own. The type and the initialiser that several names share are read for each of them,
@@ -14,11 +15,11 @@ ghost use Rattle.std.specs.Prelude.{◌≤◌, IfErr, IfOk, length};
 ghost use Rattle.sa_parse_expr.specs.Places.{IsBehind, IsFrom, IsUnexpected};
 
 use crate::names::{lower_name, lower_names};
-use crate::sharing::Sharing;
+use crate::sharing::{Sharing, counted_type};
 use crate::statement::assigned;
-use sa_lex::sign;
+use sa_lex::Sign;
 use sa_parse_expr::{Tokens, read_expr, read_type};
-use sa_tree::{Access, Feature, FrontFault, Local, Part, Ty};
+use sa_tree::{Access, Expr, Feature, FrontFault, Local, Part, Ty};
 use sqlite_items::Items;
 use std::alloc::Global;
 
@@ -33,6 +34,23 @@ fn variable(alloc: Global, access: Access, name: Local, ty: Option<Ty>, part: Pa
     }
 }
 
+/// The type of a shared, and its initialiser.
+#[derive(Drop)]
+struct SharedParts {
+    ty: Ty,
+    value: Option<Expr>,
+}
+
+fn shared_of(alloc: Global, access: Access, name: Local, parts: SharedParts) -> Feature {
+    variable(
+        alloc,
+        access,
+        name,
+        Some(parts.ty),
+        Part::Shared(parts.value),
+    )
+}
+
 /// `LNAME {"," LNAME} ":" type`, behind `attr`.
 pub(crate) fn attr(
     alloc: Global,
@@ -45,19 +63,18 @@ pub(crate) fn attr(
     ensures refused { IfErr result (IsUnexpected tokens.now.file) }
 {
     let (names, next) = lower_names(alloc, tokens, from)?;
-    let at = tokens.after_sign(next, sign::COLON)?;
+    let at = tokens.after_sign(next, Sign::Colon)?;
     let mut end = at;
     let mut features = Items::new(alloc);
     'more: for name in names {
-        let (ty, behind) = read_type(alloc, tokens, at)?;
-        sharing.count(tokens, at, behind)?;
+        let (ty, behind) = counted_type(alloc, tokens, sharing, at)?;
         features.push(variable(alloc, access, name, Some(ty), Part::Attr))?;
         end = behind;
     }
     Ok((features, end))
 }
 
-/// `LNAME {"," LNAME} ":" type [":=" expr]`, behind `shared`.
+/// `LNAME {"," LNAME} ":" shared_parts`, behind `shared`.
 pub(crate) fn shared(
     alloc: Global,
     tokens: &Tokens<'_>,
@@ -69,17 +86,44 @@ pub(crate) fn shared(
     ensures refused { IfErr result (IsUnexpected tokens.now.file) }
 {
     let (names, next) = lower_names(alloc, tokens, from)?;
-    let at = tokens.after_sign(next, sign::COLON)?;
+    let at = tokens.after_sign(next, Sign::Colon)?;
     let mut end = at;
     let mut features = Items::new(alloc);
     'more: for name in names {
-        let (ty, behind) = read_type(alloc, tokens, at)?;
-        let (value, behind) = assigned(alloc, tokens, behind)?;
-        sharing.count(tokens, at, behind)?;
-        features.push(variable(alloc, access, name, Some(ty), Part::Shared(value)))?;
+        let (parts, behind) = counted_parts(alloc, tokens, sharing, at)?;
+        features.push(shared_of(alloc, access, name, parts))?;
         end = behind;
     }
     Ok((features, end))
+}
+
+/// `shared_parts`, counted for one of the names that share them.
+fn counted_parts(
+    alloc: Global,
+    tokens: &Tokens<'_>,
+    sharing: &mut Sharing,
+    from: u32,
+) -> Result<(SharedParts, u32), FrontFault>
+    ensures next { IfOk result (λ read. IsBehind tokens.now.list.now from read.1) }
+    ensures refused { IfErr result (IsUnexpected tokens.now.file) }
+{
+    let (parts, next) = shared_parts(alloc, tokens, from)?;
+    sharing.count(tokens, from, next)?;
+    Ok((parts, next))
+}
+
+/// `type [":=" expr]`
+fn shared_parts(
+    alloc: Global,
+    tokens: &Tokens<'_>,
+    from: u32,
+) -> Result<(SharedParts, u32), FrontFault>
+    ensures next { IfOk result (λ read. IsBehind tokens.now.list.now from read.1) }
+    ensures refused { IfErr result (IsUnexpected tokens.now.file) }
+{
+    let (ty, next) = read_type(alloc, tokens, from)?;
+    let (value, next) = assigned(alloc, tokens, next)?;
+    Ok((SharedParts { ty, value }, next))
 }
 
 /// `LNAME (":" type ":=" expr | [":=" expr] {"," LNAME})`, behind `const`.
@@ -94,7 +138,7 @@ pub(crate) fn constants(
     ensures refused { IfErr result (IsUnexpected tokens.now.file) }
 {
     let (first, next) = lower_name(alloc, tokens, from)?;
-    if tokens.is_sign(next, sign::COLON) {
+    if tokens.is_sign(next, Sign::Colon) {
         typed_constant(alloc, tokens, access, first, next + 1)
     } else {
         counted_constants(alloc, tokens, sharing, access, first, next)
@@ -113,7 +157,7 @@ fn typed_constant(
     ensures refused { IfErr result (IsUnexpected tokens.now.file) }
 {
     let (ty, next) = read_type(alloc, tokens, from)?;
-    let next = tokens.after_sign(next, sign::ASSIGN)?;
+    let next = tokens.after_sign(next, Sign::Assign)?;
     let (value, next) = read_expr(alloc, tokens, next)?;
     let part = Part::Const(Some(value), 0);
     let mut features = Items::new(alloc);
@@ -139,14 +183,28 @@ fn counted_constants(
     let mut features = Items::new(alloc);
     features.push(variable(alloc, access, first, None, part))?;
     let mut number = 0;
-    'more: while tokens.is_sign(next, sign::COMMA) {
+    'more: while tokens.is_sign(next, Sign::Comma) {
         let (name, end) = lower_name(alloc, tokens, next + 1)?;
-        let (value, behind) = assigned(alloc, tokens, from)?;
-        sharing.count(tokens, from, behind)?;
+        let value = counted_value(alloc, tokens, sharing, from)?;
         number += 1;
         let part = Part::Const(value, number);
         features.push(variable(alloc, access, name, None, part))?;
         next = end;
     }
     Ok((features, next))
+}
+
+/// `[":=" expr]`, counted for one of the names that share it.
+fn counted_value(
+    alloc: Global,
+    tokens: &Tokens<'_>,
+    sharing: &mut Sharing,
+    from: u32,
+) -> Result<Option<Expr>, FrontFault>
+    requires { from ≤ length tokens.now.list.now }
+    ensures { IfErr result (IsUnexpected tokens.now.file) }
+{
+    let (value, next) = assigned(alloc, tokens, from)?;
+    sharing.count(tokens, from, next)?;
+    Ok(value)
 }

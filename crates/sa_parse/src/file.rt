@@ -13,14 +13,20 @@ ghost use Rattle.sa_parse.specs.Refusals.{IsRefusal};
 use crate::class::class;
 use crate::sharing::Sharing;
 use crate::starts::begins_class;
-use sa_lex::{Token, sign};
+use sa_lex::{Sign, Token};
 use sa_parse_expr::{Tokens, scan};
 use sa_tree::{Class, FrontFault};
 use sqlite_items::Items;
 use std::alloc::Global;
 
-/// The classes that the tokens of a text spell. The text is that of file `file`, and `prelude` tells whether it is that
-/// of the prelude, which alone may have built-in features.
+/// What kind of file the classes are of: the prelude, which alone may have built-in features, or a file of the program.
+#[derive(Clone, Copy, Debug, PartialEq, Eq)]
+pub enum FileKind {
+    Prelude,
+    Program,
+}
+
+/// The classes that the tokens of a text spell. The text is that of file `file`.
 ///
 /// `Refused` names the first token that is a word which the profile refuses (E08), or at which the level passes 200
 /// (E07); where there is none, the first token with which the tokens up to it begin no file, or the end of the file
@@ -31,7 +37,7 @@ pub fn parse(
     tokens: &[Token],
     src: &[u8],
     file: u32,
-    prelude: bool,
+    file_kind: FileKind,
 ) -> Result<Items<Class>, FrontFault>
     requires within { All (IsWithin src.now) tokens.now }
     requires few { length tokens.now < 4294967295 }
@@ -45,18 +51,29 @@ pub fn parse(
         src,
         file,
     };
-    classes(alloc, &tokens, prelude)
+    classes(alloc, &tokens, file_kind)
 }
 
 /// `[class] {";" [class]}`, and the end of the file.
-fn classes(alloc: Global, tokens: &Tokens<'_>, prelude: bool) -> Result<Items<Class>, FrontFault>
+fn classes(
+    alloc: Global,
+    tokens: &Tokens<'_>,
+    file_kind: FileKind,
+) -> Result<Items<Class>, FrontFault>
     ensures { IfErr result (IsUnexpected tokens.now.file) }
 {
     let mut sharing = Sharing::new();
+    let (first, mut next) = optional_class(alloc, tokens, file_kind, &mut sharing, 0)?;
     let mut classes = Items::new(alloc);
-    let mut next = optional_class(alloc, tokens, prelude, &mut sharing, &mut classes, 0)?;
-    'more: while tokens.is_sign(next, sign::SEMICOLON) {
-        next = optional_class(alloc, tokens, prelude, &mut sharing, &mut classes, next + 1)?;
+    if let Some(class) = first {
+        classes.push(class)?;
+    }
+    'more: while tokens.is_sign(next, Sign::Semicolon) {
+        let (one, end) = optional_class(alloc, tokens, file_kind, &mut sharing, next + 1)?;
+        if let Some(class) = one {
+            classes.push(class)?;
+        }
+        next = end;
     }
     match tokens.kind(next) {
         None => Ok(classes),
@@ -64,23 +81,21 @@ fn classes(alloc: Global, tokens: &Tokens<'_>, prelude: bool) -> Result<Items<Cl
     }
 }
 
-/// `[class]`, put at the end of the classes.
+/// `[class]`
 fn optional_class(
     alloc: Global,
     tokens: &Tokens<'_>,
-    prelude: bool,
+    file_kind: FileKind,
     sharing: &mut Sharing,
-    classes: &mut Items<Class>,
     from: u32,
-) -> Result<u32, FrontFault>
+) -> Result<(Option<Class>, u32), FrontFault>
     requires { from ≤ length tokens.now.list.now }
-    ensures next { IfOk result (IsFrom tokens.now.list.now from) }
+    ensures next { IfOk result (λ read. IsFrom tokens.now.list.now from read.1) }
     ensures refused { IfErr result (IsUnexpected tokens.now.file) }
 {
-    if !begins_class(tokens, from) {
-        return Ok(from);
+    if !begins_class(tokens.kind(from)) {
+        return Ok((None, from));
     }
-    let (class, next) = class(alloc, tokens, prelude, sharing, from)?;
-    classes.push(class)?;
-    Ok(next)
+    let (class, next) = class(alloc, tokens, file_kind, sharing, from)?;
+    Ok((Some(class), next))
 }

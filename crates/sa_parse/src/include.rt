@@ -1,9 +1,11 @@
 //! Includes: one function for each production of their grammar.
 //!
 //! ```text
-//! include = "include" type [changes]
-//! changes = change {"," change}
-//! change  = F "->" [["private" | "readonly"] F]
+//! include          = "include" type optional_changes
+//! optional_changes = [changes]
+//! changes          = change {"," change}
+//! change           = F "->" new_name
+//! new_name         = [["private" | "readonly"] F]
 //! ```
 //!
 //! F is a lower name or the name of an iter. Whether both names of a change are of one kind isn't decided here.
@@ -12,34 +14,61 @@ ghost use Rattle.std.specs.Prelude.{◌≤◌, IfErr, IfOk, length};
 ghost use Rattle.sa_parse_expr.specs.Places.{IsBehind, IsFrom, IsUnexpected};
 
 use crate::names::feature_name;
-use sa_lex::{TokenKind, sign, word};
+use sa_lex::{Sign, TokenKind, Word};
 use sa_parse_expr::{Tokens, read_type};
-use sa_tree::{Access, Change, FrontFault, Include, Name};
+use sa_tree::{Access, Change, FrontFault, Include, Local, Name};
 use sqlite_items::Items;
 use std::alloc::Global;
 
-/// `type [changes]`, behind `include`.
+/// What stands behind the arrow of a change.
+#[derive(Drop)]
+struct NewName {
+    access: Access,
+    name: Option<Name>,
+}
+
+fn change_of(left: Local, new: NewName) -> Change {
+    Change {
+        from: left,
+        to: new.name,
+        access: new.access,
+    }
+}
+
+/// `type optional_changes`, behind `include` and what stands before it of access.
 pub(crate) fn include(
     alloc: Global,
     tokens: &Tokens<'_>,
-    private: bool,
+    access: Access,
     from: u32,
 ) -> Result<(Include, u32), FrontFault>
     ensures next { IfOk result (λ read. IsBehind tokens.now.list.now from read.1) }
     ensures refused { IfErr result (IsUnexpected tokens.now.file) }
 {
     let (ty, next) = read_type(alloc, tokens, from)?;
-    let (changes, next) = if tokens.is_feature_name(next) {
-        changes(alloc, tokens, next)?
-    } else {
-        (Items::new(alloc), next)
-    };
+    let (changes, next) = optional_changes(alloc, tokens, next)?;
     let include = Include {
         ty,
-        private,
+        private: access == Access::Private,
         changes,
     };
     Ok((include, next))
+}
+
+/// `[changes]`
+fn optional_changes(
+    alloc: Global,
+    tokens: &Tokens<'_>,
+    from: u32,
+) -> Result<(Items<Change>, u32), FrontFault>
+    requires { from ≤ length tokens.now.list.now }
+    ensures next { IfOk result (λ read. IsFrom tokens.now.list.now from read.1) }
+    ensures refused { IfErr result (IsUnexpected tokens.now.file) }
+{
+    if !tokens.is_feature_name(from) {
+        return Ok((Items::new(alloc), from));
+    }
+    changes(alloc, tokens, from)
 }
 
 /// `change {"," change}`
@@ -54,7 +83,7 @@ fn changes(
     let (first, mut next) = change(alloc, tokens, from)?;
     let mut changes = Items::new(alloc);
     changes.push(first)?;
-    'more: while tokens.is_sign(next, sign::COMMA) {
+    'more: while tokens.is_sign(next, Sign::Comma) {
         let (change, end) = change(alloc, tokens, next + 1)?;
         changes.push(change)?;
         next = end;
@@ -62,38 +91,36 @@ fn changes(
     Ok((changes, next))
 }
 
-/// `F "->" [["private" | "readonly"] F]`
+/// `F "->" new_name`
 fn change(alloc: Global, tokens: &Tokens<'_>, from: u32) -> Result<(Change, u32), FrontFault>
     ensures next { IfOk result (λ read. IsBehind tokens.now.list.now from read.1) }
     ensures refused { IfErr result (IsUnexpected tokens.now.file) }
 {
     let (left, next) = feature_name(alloc, tokens, from)?;
-    let next = tokens.after_sign(next, sign::ARROW)?;
-    let (access, to, next) = new_name(alloc, tokens, next)?;
-    let change = Change {
-        from: left,
-        to,
-        access,
-    };
-    Ok((change, next))
+    let next = tokens.after_sign(next, Sign::Arrow)?;
+    let (new, next) = new_name(alloc, tokens, next)?;
+    Ok((change_of(left, new), next))
 }
 
 /// `[["private" | "readonly"] F]`
-fn new_name(
-    alloc: Global,
-    tokens: &Tokens<'_>,
-    from: u32,
-) -> Result<(Access, Option<Name>, u32), FrontFault>
+fn new_name(alloc: Global, tokens: &Tokens<'_>, from: u32) -> Result<(NewName, u32), FrontFault>
     requires { from ≤ length tokens.now.list.now }
-    ensures next { IfOk result (λ read. IsFrom tokens.now.list.now from read.2) }
+    ensures next { IfOk result (λ read. IsFrom tokens.now.list.now from read.1) }
     ensures refused { IfErr result (IsUnexpected tokens.now.file) }
 {
     let (access, next) = match tokens.kind(from) {
         Some(TokenKind::Lower | TokenKind::IterName) => (Access::Public, from),
-        Some(TokenKind::Word(word::PRIVATE)) => (Access::Private, from + 1),
-        Some(TokenKind::Word(word::READONLY)) => (Access::ReadOnly, from + 1),
-        _ => return Ok((Access::Public, None, from)),
+        Some(TokenKind::Word(Word::Private)) => (Access::Private, from + 1),
+        Some(TokenKind::Word(Word::Readonly)) => (Access::ReadOnly, from + 1),
+        _ => {
+            let new = NewName {
+                access: Access::Public,
+                name: None,
+            };
+            return Ok((new, from));
+        }
     };
     let (name, next) = feature_name(alloc, tokens, next)?;
-    Ok((access, Some(name.name), next))
+    let name = Some(name.name);
+    Ok((NewName { access, name }, next))
 }

@@ -2,15 +2,16 @@
 #![tactic(auto)]
 
 mod blocks;
+mod body;
 mod class;
 mod declared;
-mod feature;
 mod file;
 mod include;
+mod member;
 mod names;
 mod sharing;
 mod signature;
 mod starts;
 mod statement;
 
-pub use file::parse;
+pub use file::{FileKind, parse};

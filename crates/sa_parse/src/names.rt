@@ -3,7 +3,7 @@
 ghost use Rattle.std.specs.Prelude.{IfErr, IfOk};
 ghost use Rattle.sa_parse_expr.specs.Places.{IsBehind, IsUnexpected};
 
-use sa_lex::{TokenKind, sign};
+use sa_lex::{Sign, TokenKind};
 use sa_parse_expr::Tokens;
 use sa_tree::{FrontFault, Local};
 use std::alloc::{AllocError, Global};
@@ -88,7 +88,7 @@ pub(crate) fn lower_names(
     let (first, mut next) = lower_name(alloc, tokens, from)?;
     let mut names = Vec::new(alloc);
     names.push(first)?;
-    'more: while tokens.is_sign(next, sign::COMMA) {
+    'more: while tokens.is_sign(next, Sign::Comma) {
         let (name, end) = lower_name(alloc, tokens, next + 1)?;
         names.push(name)?;
         next = end;

@@ -1,7 +1,11 @@
 //! Types and initialisers that several names share.
 
-use sa_parse_expr::Tokens;
-use sa_tree::NoMemory;
+ghost use Rattle.std.specs.Prelude.{IfErr, IfOk};
+ghost use Rattle.sa_parse_expr.specs.Places.{IsBehind, IsUnexpected};
+
+use sa_parse_expr::{Tokens, read_type};
+use sa_tree::{FrontFault, NoMemory, Ty};
+use std::alloc::Global;
 
 /// How many bytes of a file may be read for names that share them: a type or an initialiser counts once for each name
 /// that it stands behind.
@@ -33,4 +37,19 @@ impl Sharing {
         self.left = self.left.checked_sub(bytes).ok_or(NoMemory)?;
         Ok(())
     }
+}
+
+/// `type`, counted for one of the names that share it.
+pub(crate) fn counted_type(
+    alloc: Global,
+    tokens: &Tokens<'_>,
+    sharing: &mut Sharing,
+    from: u32,
+) -> Result<(Ty, u32), FrontFault>
+    ensures next { IfOk result (λ read. IsBehind tokens.now.list.now from read.1) }
+    ensures refused { IfErr result (IsUnexpected tokens.now.file) }
+{
+    let (ty, next) = read_type(alloc, tokens, from)?;
+    sharing.count(tokens, from, next)?;
+    Ok((ty, next))
 }

@@ -1,9 +1,11 @@
 //! Signatures: one function for each production of their grammar.
 //!
 //! ```text
-//! sig     = F ["(" formals ")"] [":" type]
-//! formals = formal {"," formal}
-//! formal  = [mode] LNAME {"," LNAME} ":" type
+//! sig            = F arguments written_result
+//! arguments      = ["(" formals ")"]
+//! formals        = formal {"," formal}
+//! formal         = [mode] LNAME {"," LNAME} ":" type
+//! written_result = [":" type]
 //! ```
 //!
 //! F is a lower name or the name of an iter. `once` is a mode in the signatures of iters alone.
@@ -12,9 +14,9 @@ ghost use Rattle.std.specs.Prelude.{◌≤◌, IfErr, IfOk, length};
 ghost use Rattle.sa_parse_expr.specs.Places.{IsBehind, IsFrom, IsUnexpected};
 
 use crate::names::{feature_name, lower_names};
-use crate::sharing::Sharing;
-use sa_lex::{TokenKind, sign};
-use sa_parse_expr::{Tokens, read_mode, read_type};
+use crate::sharing::{Sharing, counted_type};
+use sa_lex::{Sign, TokenKind};
+use sa_parse_expr::{CallableKind, Tokens, read_mode, read_type};
 use sa_tree::{Formal, FrontFault, Local, Ty};
 use sqlite_items::Items;
 use std::alloc::Global;
@@ -27,7 +29,15 @@ pub(crate) struct Signature {
     pub(crate) result: Option<Ty>,
 }
 
-/// `F ["(" formals ")"] [":" type]`
+/// What kind of callable a feature is of the name that stands there.
+fn callable_at(tokens: &Tokens<'_>, at: u32) -> CallableKind {
+    match tokens.kind(at) {
+        Some(TokenKind::IterName) => CallableKind::Iter,
+        _ => CallableKind::Routine,
+    }
+}
+
+/// `F arguments written_result`
 pub(crate) fn sig(
     alloc: Global,
     tokens: &Tokens<'_>,
@@ -37,9 +47,9 @@ pub(crate) fn sig(
     ensures next { IfOk result (λ read. IsBehind tokens.now.list.now from read.1) }
     ensures refused { IfErr result (IsUnexpected tokens.now.file) }
 {
-    let of_iter = matches!(tokens.kind(from), Some(TokenKind::IterName));
+    let callable = callable_at(tokens, from);
     let (name, next) = feature_name(alloc, tokens, from)?;
-    let (formals, next) = arguments(alloc, tokens, sharing, of_iter, next)?;
+    let (formals, next) = arguments(alloc, tokens, sharing, callable, next)?;
     let (gives, next) = written_result(alloc, tokens, next)?;
     let sig = Signature {
         name,
@@ -54,18 +64,18 @@ fn arguments(
     alloc: Global,
     tokens: &Tokens<'_>,
     sharing: &mut Sharing,
-    of_iter: bool,
+    callable: CallableKind,
     from: u32,
 ) -> Result<(Items<Formal>, u32), FrontFault>
     requires { from ≤ length tokens.now.list.now }
     ensures next { IfOk result (λ read. IsFrom tokens.now.list.now from read.1) }
     ensures refused { IfErr result (IsUnexpected tokens.now.file) }
 {
-    if !tokens.is_sign(from, sign::LPAREN) {
+    if !tokens.is_sign(from, Sign::LeftParen) {
         return Ok((Items::new(alloc), from));
     }
-    let (formals, next) = formals(alloc, tokens, sharing, of_iter, from + 1)?;
-    Ok((formals, tokens.after_sign(next, sign::RPAREN)?))
+    let (formals, next) = formals(alloc, tokens, sharing, callable, from + 1)?;
+    Ok((formals, tokens.after_sign(next, Sign::RightParen)?))
 }
 
 /// `formal {"," formal}`
@@ -73,44 +83,44 @@ fn formals(
     alloc: Global,
     tokens: &Tokens<'_>,
     sharing: &mut Sharing,
-    of_iter: bool,
+    callable: CallableKind,
     from: u32,
 ) -> Result<(Items<Formal>, u32), FrontFault>
     ensures next { IfOk result (λ read. IsBehind tokens.now.list.now from read.1) }
     ensures refused { IfErr result (IsUnexpected tokens.now.file) }
 {
-    let mut list = Vec::new(alloc);
-    let mut next = formal(alloc, tokens, sharing, of_iter, &mut list, from)?;
-    'more: while tokens.is_sign(next, sign::COMMA) {
-        next = formal(alloc, tokens, sharing, of_iter, &mut list, next + 1)?;
+    let (mut list, mut next) = formal(alloc, tokens, sharing, callable, from)?;
+    'more: while tokens.is_sign(next, Sign::Comma) {
+        let (more, end) = formal(alloc, tokens, sharing, callable, next + 1)?;
+        list.append(more)?;
+        next = end;
     }
-    list.shrink_to_fit();
-    Ok((Items::from_vec(list), next))
+    Ok((list, next))
 }
 
-/// `[mode] LNAME {"," LNAME} ":" type`: an argument for each name, put at the end of the list.
+/// `[mode] LNAME {"," LNAME} ":" type`: an argument for each name.
 fn formal(
     alloc: Global,
     tokens: &Tokens<'_>,
     sharing: &mut Sharing,
-    of_iter: bool,
-    list: &mut Vec<Formal>,
+    callable: CallableKind,
     from: u32,
-) -> Result<u32, FrontFault>
-    ensures next { IfOk result (IsBehind tokens.now.list.now from) }
+) -> Result<(Items<Formal>, u32), FrontFault>
+    ensures next { IfOk result (λ read. IsBehind tokens.now.list.now from read.1) }
     ensures refused { IfErr result (IsUnexpected tokens.now.file) }
 {
-    let (mode, next) = read_mode(tokens, of_iter, from);
+    let (mode, next) = read_mode(tokens, callable, from);
     let (names, next) = lower_names(alloc, tokens, next)?;
-    let at = tokens.after_sign(next, sign::COLON)?;
+    let at = tokens.after_sign(next, Sign::Colon)?;
     let mut end = at;
+    let mut list = Vec::new(alloc);
     'more: for local in names {
-        let (ty, behind) = read_type(alloc, tokens, at)?;
-        sharing.count(tokens, at, behind)?;
+        let (ty, behind) = counted_type(alloc, tokens, sharing, at)?;
         list.push(Formal { mode, local, ty })?;
         end = behind;
     }
-    Ok(end)
+    list.shrink_to_fit();
+    Ok((Items::from_vec(list), end))
 }
 
 /// `[":" type]`
@@ -123,7 +133,7 @@ fn written_result(
     ensures next { IfOk result (λ read. IsFrom tokens.now.list.now from read.1) }
     ensures refused { IfErr result (IsUnexpected tokens.now.file) }
 {
-    if !tokens.is_sign(from, sign::COLON) {
+    if !tokens.is_sign(from, Sign::Colon) {
         return Ok((None, from));
     }
     let (ty, next) = read_type(alloc, tokens, from + 1)?;

@@ -1,93 +1,71 @@
-//! Which tokens can begin what may be left out: an expression, a statement, a feature, a signature or a class.
+//! Which token can begin what may be left out: a statement, a member of a class or a class. The end of the file begins
+//! nothing.
 
-ghost use Rattle.std.specs.Prelude.{◌<◌, length};
+ghost use Rattle.std.specs.Prelude.{◌≡◌, IsSome};
 ghost use Rattle.std.specs.Bool.{OnTrue};
+ghost use Rattle.std.specs.Option.{option_copied};
+ghost use Rattle.sa_parse.specs.Starts.{begins_class, begins_member, begins_statement};
 
-use crate::feature::Within;
-use sa_lex::{TokenKind, sign, word};
-use sa_parse_expr::Tokens;
+use crate::file::FileKind;
+use crate::member::ClassContext;
+use sa_lex::{TokenKind, Word};
+use sa_parse_expr::begins_expression;
 use sa_tree::Kind;
 
-/// Whether an expression begins there.
-pub(crate) fn begins_expr(tokens: &Tokens<'_>, at: u32) -> bool
-    ensures { OnTrue result (at < length tokens.now.list.now) }
+/// Whether the token begins a statement.
+pub(crate) fn begins_statement(token: Option<&TokenKind>) -> bool
+    ensures value { result ≡ begins_statement (option_copied token.entry) }
+    ensures there { OnTrue result (IsSome token.entry) }
 {
-    match tokens.kind(at) {
+    match token {
         Some(
             TokenKind::Word(
-                word::BIND
-                | word::EXCEPTION
-                | word::FALSE
-                | word::ITER
-                | word::NEW
-                | word::ROUT
-                | word::SAME
-                | word::SELF
-                | word::TRUE
-                | word::VOID,
+                Word::Assert
+                | Word::Case
+                | Word::If
+                | Word::Loop
+                | Word::Protect
+                | Word::Quit
+                | Word::Raise
+                | Word::Return
+                | Word::Typecase
+                | Word::Yield,
             ),
         ) => true,
-        Some(
-            TokenKind::Sign(
-                sign::BAR | sign::HASH | sign::LBRACKET | sign::LPAREN | sign::MINUS | sign::TILDE,
-            ),
-        ) => true,
-        Some(TokenKind::Word(_) | TokenKind::Sign(_)) => false,
-        Some(_) => true,
-        None => false,
+        _ => begins_expression(token),
     }
 }
 
-/// Whether a statement begins there.
-pub(crate) fn begins_stmt(tokens: &Tokens<'_>, at: u32) -> bool
-    ensures { OnTrue result (at < length tokens.now.list.now) }
+/// Whether the token begins a member of this class.
+pub(crate) fn begins_member(token: Option<&TokenKind>, class: ClassContext<'_>) -> bool
+    ensures value { result ≡ begins_member class.entry.kind class.entry.file_kind (option_copied token.entry) }
+    ensures there { OnTrue result (IsSome token.entry) }
 {
-    match tokens.kind(at) {
+    match token {
         Some(
             TokenKind::Word(
-                word::ASSERT
-                | word::CASE
-                | word::IF
-                | word::LOOP
-                | word::PROTECT
-                | word::QUIT
-                | word::RAISE
-                | word::RETURN
-                | word::TYPECASE
-                | word::YIELD,
+                Word::Attr
+                | Word::Const
+                | Word::Include
+                | Word::Private
+                | Word::Readonly
+                | Word::Shared,
             ),
         ) => true,
-        _ => begins_expr(tokens, at),
+        Some(TokenKind::Word(Word::Stub)) => matches!(class.kind, Kind::Partial),
+        Some(TokenKind::Word(Word::Builtin)) => matches!(class.file_kind, FileKind::Prelude),
+        Some(TokenKind::Lower | TokenKind::IterName) => true,
+        _ => false,
     }
 }
 
-/// Whether a feature of this class begins there.
-pub(crate) fn begins_feature(tokens: &Tokens<'_>, within: Within<'_>, at: u32) -> bool
-    ensures { OnTrue result (at < length tokens.now.list.now) }
-{
-    match tokens.kind(at) {
-        Some(
-            TokenKind::Word(
-                word::ATTR
-                | word::CONST
-                | word::INCLUDE
-                | word::PRIVATE
-                | word::READONLY
-                | word::SHARED,
-            ),
-        ) => true,
-        Some(TokenKind::Word(word::STUB)) => within.kind == Kind::Partial,
-        Some(TokenKind::Word(word::BUILTIN)) => within.prelude,
-        _ => tokens.is_feature_name(at),
-    }
-}
-
-/// Whether a class begins there.
-pub(crate) fn begins_class(tokens: &Tokens<'_>, at: u32) -> bool
-    ensures { OnTrue result (at < length tokens.now.list.now) }
+/// Whether the token begins a class.
+pub(crate) fn begins_class(token: Option<&TokenKind>) -> bool
+    ensures value { result ≡ begins_class (option_copied token.entry) }
+    ensures there { OnTrue result (IsSome token.entry) }
 {
     matches!(
-        tokens.kind(at),
-        Some(TokenKind::Word(word::ABSTRACT | word::CLASS | word::IMMUTABLE | word::PARTIAL))
+        token,
+        Some(TokenKind::Word(Word::Abstract | Word::Class | Word::Immutable | Word::Partial))
     )
 }

@@ -11,74 +11,79 @@
 //!
 //! An assignment stands at its `:=`, and a declaration at its first name. What may be assigned isn't decided here.
 
-ghost use Rattle.std.specs.Prelude.{◌≤◌, IfErr, IfOk, length};
+ghost use Rattle.std.specs.Prelude.{◌<◌, ◌≤◌, IfErr, IfOk, length};
+ghost use Rattle.sa_parse.specs.Bodies.{NestsBodies};
 ghost use Rattle.sa_parse_expr.specs.Places.{IsBehind, IsFrom, IsUnexpected};
 
-use crate::blocks::{case_block, if_block, loop_block, protect_block, typecase_block};
+use crate::body::Stmts;
 use crate::names::{lower_name, lower_names};
-use crate::starts::{begins_expr, begins_stmt};
-use sa_lex::{TokenKind, sign, word};
-use sa_parse_expr::{Tokens, read_expr, read_type};
+use crate::starts::begins_statement;
+use sa_lex::{Sign, TokenKind, Word};
+use sa_parse_expr::{Tokens, begins_expression, read_expr, read_type};
 use sa_tree::{Expr, FrontFault, Stmt};
 use sqlite_items::Items;
 use std::alloc::Global;
 
-/// `[stmt] {";" [stmt]}`
-#[cycle(statement)]
-pub(crate) fn stmts(
-    alloc: Global,
-    tokens: &Tokens<'_>,
-    from: u32,
-) -> Result<(Items<Stmt>, u32), FrontFault>
-    requires { from ≤ length tokens.now.list.now }
-    ensures next { IfOk result (λ read. IsFrom tokens.now.list.now from read.1) }
-    ensures refused { IfErr result (IsUnexpected tokens.now.file) }
-{
-    let mut list = Vec::new(alloc);
-    let mut next = optional_stmt(alloc, tokens, &mut list, from)?;
-    'more: while tokens.is_sign(next, sign::SEMICOLON) {
-        next = optional_stmt(alloc, tokens, &mut list, next + 1)?;
+impl<F: Fn(Global, &Tokens<'_>, Word, u32) -> Result<(Items<Stmt>, u32), FrontFault>> Stmts<'_, F> {
+    /// `[stmt] {";" [stmt]}`
+    pub(crate) fn stmts(&self, from: u32) -> Result<(Items<Stmt>, u32), FrontFault>
+        requires nested { NestsBodies self.now.from (F.pre self.now.nested) (F.post self.now.nested) }
+        requires from { self.now.from < from }
+        requires within { from ≤ length self.now.tokens.list.now }
+        ensures next { IfOk result (λ read. IsFrom self.now.tokens.list.now from read.1) }
+        ensures refused { IfErr result (IsUnexpected self.now.tokens.file) }
+    {
+        let (first, mut next) = self.optional_stmt(from)?;
+        let mut list = Vec::new(self.alloc);
+        if let Some(stmt) = first {
+            list.push(stmt)?;
+        }
+        'more: while self.tokens.is_sign(next, Sign::Semicolon) {
+            let (one, end) = self.optional_stmt(next + 1)?;
+            if let Some(stmt) = one {
+                list.push(stmt)?;
+            }
+            next = end;
+        }
+        list.shrink_to_fit();
+        Ok((Items::from_vec(list), next))
     }
-    list.shrink_to_fit();
-    Ok((Items::from_vec(list), next))
-}
 
-/// `[stmt]`, put at the end of the list.
-#[cycle(statement)]
-fn optional_stmt(
-    alloc: Global,
-    tokens: &Tokens<'_>,
-    list: &mut Vec<Stmt>,
-    from: u32,
-) -> Result<u32, FrontFault>
-    requires { from ≤ length tokens.now.list.now }
-    ensures next { IfOk result (IsFrom tokens.now.list.now from) }
-    ensures refused { IfErr result (IsUnexpected tokens.now.file) }
-{
-    if !begins_stmt(tokens, from) {
-        return Ok(from);
+    /// `[stmt]`
+    fn optional_stmt(&self, from: u32) -> Result<(Option<Stmt>, u32), FrontFault>
+        requires nested { NestsBodies self.now.from (F.pre self.now.nested) (F.post self.now.nested) }
+        requires from { self.now.from < from }
+        requires within { from ≤ length self.now.tokens.list.now }
+        ensures next { IfOk result (λ read. IsFrom self.now.tokens.list.now from read.1) }
+        ensures refused { IfErr result (IsUnexpected self.now.tokens.file) }
+    {
+        if !begins_statement(self.tokens.kind(from)) {
+            return Ok((None, from));
+        }
+        let (stmt, next) = self.stmt(from)?;
+        Ok((Some(stmt), next))
     }
-    let (stmt, next) = stmt(alloc, tokens, from)?;
-    list.push(stmt)?;
-    Ok(next)
-}
 
-/// `if | loop | case | typecase | protect | leave | simple`
-#[cycle(statement)]
-fn stmt(alloc: Global, tokens: &Tokens<'_>, from: u32) -> Result<(Stmt, u32), FrontFault>
-    ensures next { IfOk result (λ read. IsBehind tokens.now.list.now from read.1) }
-    ensures refused { IfErr result (IsUnexpected tokens.now.file) }
-{
-    match tokens.kind(from) {
-        Some(TokenKind::Word(word::IF)) => if_block(alloc, tokens, from),
-        Some(TokenKind::Word(word::LOOP)) => loop_block(alloc, tokens, from),
-        Some(TokenKind::Word(word::CASE)) => case_block(alloc, tokens, from),
-        Some(TokenKind::Word(word::TYPECASE)) => typecase_block(alloc, tokens, from),
-        Some(TokenKind::Word(word::PROTECT)) => protect_block(alloc, tokens, from),
-        Some(
-            TokenKind::Word(word::RETURN | word::YIELD | word::QUIT | word::RAISE | word::ASSERT),
-        ) => leave(alloc, tokens, from),
-        _ => simple(alloc, tokens, from),
+    /// `if | loop | case | typecase | protect | leave | simple`
+    fn stmt(&self, from: u32) -> Result<(Stmt, u32), FrontFault>
+        requires nested { NestsBodies self.now.from (F.pre self.now.nested) (F.post self.now.nested) }
+        requires from { self.now.from < from }
+        ensures next { IfOk result (λ read. IsBehind self.now.tokens.list.now from read.1) }
+        ensures refused { IfErr result (IsUnexpected self.now.tokens.file) }
+    {
+        match self.tokens.kind(from) {
+            Some(TokenKind::Word(Word::If)) => self.if_block(from),
+            Some(TokenKind::Word(Word::Loop)) => self.loop_block(from),
+            Some(TokenKind::Word(Word::Case)) => self.case_block(from),
+            Some(TokenKind::Word(Word::Typecase)) => self.typecase_block(from),
+            Some(TokenKind::Word(Word::Protect)) => self.protect_block(from),
+            Some(
+                TokenKind::Word(
+                    Word::Return | Word::Yield | Word::Quit | Word::Raise | Word::Assert,
+                ),
+            ) => leave(self.alloc, &self.tokens, from),
+            _ => simple(self.alloc, &self.tokens, from),
+        }
     }
 }
 
@@ -91,8 +96,8 @@ fn simple(alloc: Global, tokens: &Tokens<'_>, from: u32) -> Result<(Stmt, u32), 
         return assign(alloc, tokens, from);
     }
     match tokens.kind(from + 1) {
-        Some(TokenKind::Sign(sign::COMMA | sign::COLON)) => declare(alloc, tokens, from),
-        Some(TokenKind::Sign(sign::DECLARE)) => declare_by_value(alloc, tokens, from),
+        Some(TokenKind::Sign(Sign::Comma | Sign::Colon)) => declare(alloc, tokens, from),
+        Some(TokenKind::Sign(Sign::Declare)) => declare_by_value(alloc, tokens, from),
         _ => assign(alloc, tokens, from),
     }
 }
@@ -103,7 +108,7 @@ fn declare(alloc: Global, tokens: &Tokens<'_>, from: u32) -> Result<(Stmt, u32),
     ensures refused { IfErr result (IsUnexpected tokens.now.file) }
 {
     let (names, next) = lower_names(alloc, tokens, from)?;
-    let next = tokens.after_sign(next, sign::COLON)?;
+    let next = tokens.after_sign(next, Sign::Colon)?;
     let (ty, next) = read_type(alloc, tokens, next)?;
     let (value, next) = assigned(alloc, tokens, next)?;
     let locals = Items::from_vec(names);
@@ -120,7 +125,7 @@ pub(crate) fn assigned(
     ensures next { IfOk result (λ read. IsFrom tokens.now.list.now from read.1) }
     ensures refused { IfErr result (IsUnexpected tokens.now.file) }
 {
-    if !tokens.is_sign(from, sign::ASSIGN) {
+    if !tokens.is_sign(from, Sign::Assign) {
         return Ok((None, from));
     }
     let (value, next) = read_expr(alloc, tokens, from + 1)?;
@@ -137,7 +142,7 @@ fn declare_by_value(
     ensures refused { IfErr result (IsUnexpected tokens.now.file) }
 {
     let (name, next) = lower_name(alloc, tokens, from)?;
-    let next = tokens.after_sign(next, sign::DECLARE)?;
+    let next = tokens.after_sign(next, Sign::Declare)?;
     let (value, next) = read_expr(alloc, tokens, next)?;
     let mut locals = Items::new(alloc);
     locals.push(name)?;
@@ -150,7 +155,7 @@ fn assign(alloc: Global, tokens: &Tokens<'_>, from: u32) -> Result<(Stmt, u32), 
     ensures refused { IfErr result (IsUnexpected tokens.now.file) }
 {
     let (target, next) = read_expr(alloc, tokens, from)?;
-    if !tokens.is_sign(next, sign::ASSIGN) {
+    if !tokens.is_sign(next, Sign::Assign) {
         return Ok((Stmt::Do(target), next));
     }
     let (value, end) = read_expr(alloc, tokens, next + 1)?;
@@ -164,20 +169,20 @@ fn leave(alloc: Global, tokens: &Tokens<'_>, from: u32) -> Result<(Stmt, u32), F
 {
     let pos = tokens.pos(from);
     match tokens.kind(from) {
-        Some(TokenKind::Word(word::RETURN)) => {
+        Some(TokenKind::Word(Word::Return)) => {
             let (value, next) = optional_expr(alloc, tokens, from + 1)?;
             Ok((Stmt::Return(value, pos), next))
         }
-        Some(TokenKind::Word(word::YIELD)) => {
+        Some(TokenKind::Word(Word::Yield)) => {
             let (value, next) = optional_expr(alloc, tokens, from + 1)?;
             Ok((Stmt::Yield(value, pos), next))
         }
-        Some(TokenKind::Word(word::QUIT)) => Ok((Stmt::Quit(pos), from + 1)),
-        Some(TokenKind::Word(word::RAISE)) => {
+        Some(TokenKind::Word(Word::Quit)) => Ok((Stmt::Quit(pos), from + 1)),
+        Some(TokenKind::Word(Word::Raise)) => {
             let (value, next) = read_expr(alloc, tokens, from + 1)?;
             Ok((Stmt::Raise(value, pos), next))
         }
-        Some(TokenKind::Word(word::ASSERT)) => {
+        Some(TokenKind::Word(Word::Assert)) => {
             let (test, next) = read_expr(alloc, tokens, from + 1)?;
             Ok((Stmt::Assert(test, pos), next))
         }
@@ -195,7 +200,7 @@ fn optional_expr(
     ensures next { IfOk result (λ read. IsFrom tokens.now.list.now from read.1) }
     ensures refused { IfErr result (IsUnexpected tokens.now.file) }
 {
-    if !begins_expr(tokens, from) {
+    if !begins_expression(tokens.kind(from)) {
         return Ok((None, from));
     }
     let (value, next) = read_expr(alloc, tokens, from)?;

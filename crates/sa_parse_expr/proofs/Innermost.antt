@@ -24,11 +24,11 @@ module _ (xs : List Counter) (i : ℕ) (last : i + 1 ≡ length xs) where
   pub reverse-top : (top : Counter) → top ≡ get_or xs i top → reverse xs ≡ top ∷ reverse (take i xs)
   reverse-top top is = reverse-last top ∙ ap (λ (c : Counter). c ∷ reverse (take i xs)) (sym is)
 
-  pub reverse-added : (top : Counter) → top ≡ get_or xs i top → reverse (set xs i (record { level = top.level + 1; of_bar = top.of_bar })) ≡ added (reverse xs)
-  reverse-added top is = reverse-set_last (record { level = top.level + 1; of_bar = top.of_bar }) ∙ sym (ap added (reverse-top top is))
+  pub reverse-added : (top : Counter) → top ≡ get_or xs i top → reverse (set xs i (record { level = top.level + 1; opener = top.opener })) ≡ added (reverse xs)
+  reverse-added top is = reverse-set_last (record { level = top.level + 1; opener = top.opener }) ∙ sym (ap added (reverse-top top is))
 
-  pub reverse-set_to_one : (top : Counter) → top ≡ get_or xs i top → reverse (set xs i (record { level = 1; of_bar = top.of_bar })) ≡ set_to_one (reverse xs)
-  reverse-set_to_one top is = reverse-set_last (record { level = 1; of_bar = top.of_bar }) ∙ sym (ap set_to_one (reverse-top top is))
+  pub reverse-set_to_one : (top : Counter) → top ≡ get_or xs i top → reverse (set xs i (record { level = 1; opener = top.opener })) ≡ set_to_one (reverse xs)
+  reverse-set_to_one top is = reverse-set_last (record { level = 1; opener = top.opener }) ∙ sym (ap set_to_one (reverse-top top is))
 
   -- the sum of the counters after the innermost one was set to c
   level_of-set_last : (top c : Counter) → top ≡ get_or xs i top → level_of (reverse (set xs i c)) + top.level ≡ level_of (reverse xs) + c.level
@@ -37,9 +37,9 @@ module _ (xs : List Counter) (i : ℕ) (last : i + 1 ≡ length xs) where
       let after : level_of (reverse (set xs i c)) ≡ c.level + level_of (reverse (take i xs)) = ap level_of (reverse-set_last c) ∙ sum_by-cons (λ (d : Counter). d.level) c (reverse (take i xs)) in
       omega (arith, before, after)
 
-  pub level_of-added : (level : ℕ) (top : Counter) → top ≡ get_or xs i top → level ≡ level_of (reverse xs) → level + 1 ≡ level_of (reverse (set xs i (record { level = top.level + 1; of_bar = top.of_bar })))
+  pub level_of-added : (level : ℕ) (top : Counter) → top ≡ get_or xs i top → level ≡ level_of (reverse xs) → level + 1 ≡ level_of (reverse (set xs i (record { level = top.level + 1; opener = top.opener })))
   level_of-added level top is sum =
-      let kept : level_of (reverse (set xs i (record { level = top.level + 1; of_bar = top.of_bar }))) + top.level ≡ level_of (reverse xs) + (top.level + 1) = level_of-set_last top (record { level = top.level + 1; of_bar = top.of_bar }) is in
+      let kept : level_of (reverse (set xs i (record { level = top.level + 1; opener = top.opener }))) + top.level ≡ level_of (reverse xs) + (top.level + 1) = level_of-set_last top (record { level = top.level + 1; opener = top.opener }) is in
       omega (arith, kept, sum)
 
   -- the innermost counter is no larger than the sum
@@ -48,8 +48,8 @@ module _ (xs : List Counter) (i : ℕ) (last : i + 1 ≡ length xs) where
       let before : level_of (reverse xs) ≡ top.level + level_of (reverse (take i xs)) = ap level_of (reverse-top top is) ∙ sum_by-cons (λ (c : Counter). c.level) top (reverse (take i xs)) in
       omega (arith, before, sum)
 
-  pub level_of-set_to_one : (level : ℕ) (top : Counter) → top ≡ get_or xs i top → level ≡ level_of (reverse xs) → level - top.level + 1 ≡ level_of (reverse (set xs i (record { level = 1; of_bar = top.of_bar })))
+  pub level_of-set_to_one : (level : ℕ) (top : Counter) → top ≡ get_or xs i top → level ≡ level_of (reverse xs) → level - top.level + 1 ≡ level_of (reverse (set xs i (record { level = 1; opener = top.opener })))
   level_of-set_to_one level top is sum =
-      let kept : level_of (reverse (set xs i (record { level = 1; of_bar = top.of_bar }))) + top.level ≡ level_of (reverse xs) + 1 = level_of-set_last top (record { level = 1; of_bar = top.of_bar }) is in
+      let kept : level_of (reverse (set xs i (record { level = 1; opener = top.opener }))) + top.level ≡ level_of (reverse xs) + 1 = level_of-set_last top (record { level = 1; opener = top.opener }) is in
       let le : top.level ≤ level = top-le level top is sum in
       omega (arith, kept, sum, le)

@@ -1,2 +1,3 @@
 mod Innermost
+mod Precedences
 mod Taken

@@ -1,81 +1,115 @@
 -- The levels of nesting of a file's tokens.
-use Rattle.std.specs.Prelude.{◌≡◌, ◌⊎◌, ℕ, ◌+◌, ◌<◌, ◌≤◌, Bool, true, false, ◌==◌, List, [], ◌∷◌, ◌++◌, take, drop, fold, sum_by, nat_le, slice_get, Some, if◌then◌else◌, All, ⊤}
-use Rattle.std.specs.List.{list_any}
+use Rattle.std.specs.Prelude.{◌≡◌, ◌⊎◌, ℕ, ◌+◌, ◌<◌, ◌≤◌, Bool, true, false, List, [], ◌∷◌, ◌++◌, take, drop, fold, sum_by, slice_get, Some, if◌then◌else◌, All, ⊤}
 use Rattle.sa_lex.specs.declared.token.Token.{Token}
 use Rattle.sa_lex.specs.declared.token.TokenKind.{TokenKind}
-use Rattle.sa_lex.specs.declared.token.TokenKind.TheVariants.{Word, Sign}
-use Rattle.sa_lex.specs.declared.sign.TheConstants as sign
-use Rattle.sa_lex.specs.declared.word.TheConstants as word
+use Rattle.sa_lex.specs.declared.token.TokenKind.TheVariants as token
+use Rattle.sa_lex.specs.declared.sign.Sign.{Sign}
+use Rattle.sa_lex.specs.declared.word.Word.{Word}
+use Rattle.sa_lex.specs.Words.{is_refused_word}
+use Rattle.sa_lex.specs.declared.sign.Sign.TheVariants as sign
+use Rattle.sa_lex.specs.declared.word.Word.TheVariants as word
 use Rattle.sa_tree.specs.declared.refusal.Refusal.{Refusal}
 use Rattle.sa_tree.specs.declared.refusal.FrontFault.{FrontFault}
 use Rattle.sa_tree.specs.declared.refusal.FrontFault.TheVariants.{Refused, NoMemory}
 use Rattle.sa_tree.specs.declared.rule.Rule.{Rule}
 use Rattle.sa_tree.specs.declared.rule.Rule.TheVariants.{NestedTooDeep, WordNotTaken}
 use Rattle.sa_parse_expr.specs.declared.levels.Counter.{Counter}
+use Rattle.sa_parse_expr.specs.declared.levels.Opener.{Opener}
+use Rattle.sa_parse_expr.specs.declared.levels.Opener.TheVariants as opener
 use Rattle.sa_parse_expr.specs.declared.levels.Step.{Step}
-use Rattle.sa_parse_expr.specs.declared.levels.Step.TheVariants.{Open, Close, Add, AddAndOpen, Reset, Bar, Clear, Keep}
-
-abbrev is_among : ℕ → List ℕ → Bool
-is_among n all = list_any (λ m. n == m) all
+use Rattle.sa_parse_expr.specs.declared.levels.Step.TheVariants as step
 
 -- what a sign does to the counters
-abbrev pub step_of_sign : ℕ → Step
-step_of_sign s =
-    if is_among s (sign.LPAREN ∷ sign.LBRACE ∷ []) then Open
-    else (if s == sign.LBRACKET then AddAndOpen
-    else (if is_among s (sign.RPAREN ∷ sign.RBRACKET ∷ sign.RBRACE ∷ []) then Close
-    else (if s == sign.BAR then Bar
-    else (if is_among s (sign.PLUS ∷ sign.MINUS ∷ sign.STAR ∷ sign.SLASH ∷ sign.PERCENT ∷ sign.CARET ∷ sign.TILDE ∷ []) then Add
-    else (if is_among s (sign.EQUAL ∷ sign.NOT_EQUAL ∷ sign.LESS ∷ sign.LESS_EQUAL ∷ sign.GREATER ∷ sign.GREATER_EQUAL ∷ []) then Add
-    else (if is_among s (sign.DOT ∷ sign.DOUBLE_COLON ∷ sign.HASH ∷ []) then Add
-    else (if is_among s (sign.COMMA ∷ sign.SEMICOLON ∷ sign.ASSIGN ∷ sign.DECLARE ∷ []) then Reset
-    else Keep)))))))
+abbrev pub step_of_sign : Sign → Step
+step_of_sign sign.LeftParen = step.Open
+step_of_sign sign.LeftBrace = step.Open
+step_of_sign sign.LeftBracket = step.AddAndOpen
+step_of_sign sign.RightParen = step.Close
+step_of_sign sign.RightBracket = step.Close
+step_of_sign sign.RightBrace = step.Close
+step_of_sign sign.Bar = step.Bar
+step_of_sign sign.Plus = step.Add
+step_of_sign sign.Minus = step.Add
+step_of_sign sign.Star = step.Add
+step_of_sign sign.Slash = step.Add
+step_of_sign sign.Percent = step.Add
+step_of_sign sign.Caret = step.Add
+step_of_sign sign.Tilde = step.Add
+step_of_sign sign.Equal = step.Add
+step_of_sign sign.NotEqual = step.Add
+step_of_sign sign.Less = step.Add
+step_of_sign sign.LessEqual = step.Add
+step_of_sign sign.Greater = step.Add
+step_of_sign sign.GreaterEqual = step.Add
+step_of_sign sign.Dot = step.Add
+step_of_sign sign.DoubleColon = step.Add
+step_of_sign sign.Hash = step.Add
+step_of_sign sign.Comma = step.Reset
+step_of_sign sign.Semicolon = step.Reset
+step_of_sign sign.Assign = step.Reset
+step_of_sign sign.Declare = step.Reset
+step_of_sign _ = step.Keep
 
 -- what a word does to them
-abbrev pub step_of_word : ℕ → Step
-step_of_word w =
-    if is_among w (word.IS ∷ word.IF ∷ word.LOOP ∷ word.CASE ∷ word.TYPECASE ∷ word.PROTECT ∷ []) then Open
-    else (if w == word.END then Close
-    else (if is_among w (word.AND ∷ word.OR ∷ word.ROUT ∷ word.ITER ∷ []) then Add
-    else (if is_among w (word.THEN ∷ word.ELSE ∷ word.ELSIF ∷ word.WHEN ∷ []) then Reset
-    else (if w == word.CLASS then Clear
-    else Keep))))
+abbrev pub step_of_word : Word → Step
+step_of_word word.Is = step.Open
+step_of_word word.If = step.Open
+step_of_word word.Loop = step.Open
+step_of_word word.Case = step.Open
+step_of_word word.Typecase = step.Open
+step_of_word word.Protect = step.Open
+step_of_word word.End = step.Close
+step_of_word word.And = step.Add
+step_of_word word.Or = step.Add
+step_of_word word.Rout = step.Add
+step_of_word word.Iter = step.Add
+step_of_word word.Then = step.Reset
+step_of_word word.Else = step.Reset
+step_of_word word.Elsif = step.Reset
+step_of_word word.When = step.Reset
+step_of_word word.Class = step.Clear
+step_of_word _ = step.Keep
 
 -- what a token does to them: names, numbers and texts do nothing
 abbrev pub step_of : TokenKind → Step
-step_of (Sign s) = step_of_sign s
-step_of (Word w) = step_of_word w
-step_of _ = Keep
+step_of (token.Sign s) = step_of_sign s
+step_of (token.Word w) = step_of_word w
+step_of _ = step.Keep
 
--- a counter that has just been opened, by a `|` or otherwise
-abbrev pub opened : Bool → Counter
-opened of_bar = record { level = 1; of_bar = of_bar }
+-- a counter that has just been opened
+abbrev pub opened : Opener → Counter
+opened o = record { level = 1; opener = o }
 
 -- 1 is added to the innermost counter. Where none is open, one is opened
 abbrev pub added : List Counter → List Counter
-added [] = opened false ∷ []
-added (c ∷ cs) = record { level = c.level + 1; of_bar = c.of_bar } ∷ cs
+added [] = opened opener.Other ∷ []
+added (c ∷ cs) = record { level = c.level + 1; opener = c.opener } ∷ cs
 
 -- the innermost counter is set to 1, if there is one
 abbrev pub set_to_one : List Counter → List Counter
 set_to_one [] = []
-set_to_one (c ∷ cs) = record { level = 1; of_bar = c.of_bar } ∷ cs
+set_to_one (c ∷ cs) = record { level = 1; opener = c.opener } ∷ cs
+
+-- a `|` opened it
+abbrev is_of_bar : Opener → Bool
+is_of_bar opener.Bar = true
+is_of_bar opener.Other = false
 
 -- a `|` closes the counter that a `|` opened, and opens another one elsewhere
 abbrev pub at_bar : List Counter → List Counter
-at_bar [] = opened true ∷ []
-at_bar (c ∷ cs) = if c.of_bar then cs else opened true ∷ c ∷ cs
+at_bar [] = opened opener.Bar ∷ []
+at_bar (c ∷ cs) = if is_of_bar c.opener then cs else opened opener.Bar ∷ c ∷ cs
 
 -- the counters, the innermost one first, after a step
 abbrev pub after : Step → List Counter → List Counter
-after Open counters = opened false ∷ counters
-after Close counters = drop 1 counters
-after Add counters = added counters
-after AddAndOpen counters = opened false ∷ added counters
-after Reset counters = set_to_one counters
-after Bar counters = at_bar counters
-after Clear counters = []
-after Keep counters = counters
+after step.Open counters = opened opener.Other ∷ counters
+after step.Close counters = drop 1 counters
+after step.Add counters = added counters
+after step.AddAndOpen counters = opened opener.Other ∷ added counters
+after step.Reset counters = set_to_one counters
+after step.Bar counters = at_bar counters
+after step.Clear counters = []
+after step.Keep counters = counters
 
 -- the counters that are open behind these tokens of a file, the innermost one first
 unfoldable pub counters_behind : List Token → List Counter
@@ -91,7 +125,7 @@ level_behind tokens = level_of (counters_behind tokens)
 
 -- a word that the profile refuses
 abbrev pub is_refused : TokenKind → Bool
-is_refused (Word w) = nat_le word.FIRST_REFUSED w
+is_refused (token.Word w) = is_refused_word w
 is_refused _ = false
 
 abbrev pub IsTaken : Token → Type 0
@@ -118,6 +152,6 @@ pub record IsFirstBreach (tokens : List Token) (refusal : Refusal) : Type 0 wher
   pub at : refusal.pos.at ≡ token.start
 
 -- a refusal names the first token of the file that breaks a rule, and the rule
-abbrev pub Refuses : List Token → ℕ → FrontFault → Type 0
-Refuses tokens file (Refused refusal) = IsFirstBreach tokens refusal × (refusal.pos.file ≡ file)
-Refuses tokens file NoMemory = ⊤
+abbrev pub RefusesTokens : List Token → ℕ → FrontFault → Type 0
+RefusesTokens tokens file (Refused refusal) = IsFirstBreach tokens refusal × (refusal.pos.file ≡ file)
+RefusesTokens tokens file NoMemory = ⊤

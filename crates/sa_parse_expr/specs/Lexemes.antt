@@ -2,7 +2,9 @@
 use Rattle.std.specs.Prelude.{◌≡◌, ℕ, List, map, slice_range}
 use Rattle.sa_lex.specs.declared.token.Token.{Token}
 use Rattle.sa_lex.specs.declared.token.TokenKind.{TokenKind}
-use Rattle.sa_lex.specs.declared.token.TokenKind.TheVariants.{Word, Sign, ClassName, AbstractName, Lower, IterName}
+use Rattle.sa_lex.specs.declared.token.TokenKind.TheVariants as token
+use Rattle.sa_lex.specs.declared.sign.Sign.{Sign}
+use Rattle.sa_lex.specs.declared.word.Word.{Word}
 use Rattle.sa_tree.specs.declared.pos.Pos.{Pos}
 
 -- a token by its kind, its bytes and the position of its first byte
@@ -16,20 +18,20 @@ abbrev pub lexemes_of : ℕ → List ℕ → List Token → List Lexeme
 lexemes_of file text tokens =
     map (λ (token : Token). record { kind = token.kind; bytes = slice_range text token.start token.end; pos = record { file = file; at = token.start } }) tokens
 
--- the word with this number
-pub record IsWord (word : ℕ) (l : Lexeme) : Type 0 where
-  pub kind : l.kind ≡ Word word
+-- this word
+pub record IsWord (word : Word) (l : Lexeme) : Type 0 where
+  pub kind : l.kind ≡ token.Word word
 
--- the sign with this number
-pub record IsSign (sign : ℕ) (l : Lexeme) : Type 0 where
-  pub kind : l.kind ≡ Sign sign
+-- this sign
+pub record IsSign (sign : Sign) (l : Lexeme) : Type 0 where
+  pub kind : l.kind ≡ token.Sign sign
 
 -- C: the name of a class, `$` at its front or not
 pub data IsClass : Lexeme → Type 0 where
-  class_name : {l : Lexeme} → l.kind ≡ ClassName → IsClass l
-  abstract_name : {l : Lexeme} → l.kind ≡ AbstractName → IsClass l
+  class_name : {l : Lexeme} → l.kind ≡ token.ClassName → IsClass l
+  abstract_name : {l : Lexeme} → l.kind ≡ token.AbstractName → IsClass l
 
 -- F: the name of a feature, `!` at its end or not
 pub data IsFeature : Lexeme → Type 0 where
-  lower_name : {l : Lexeme} → l.kind ≡ Lower → IsFeature l
-  iter_name : {l : Lexeme} → l.kind ≡ IterName → IsFeature l
+  lower_name : {l : Lexeme} → l.kind ≡ token.Lower → IsFeature l
+  iter_name : {l : Lexeme} → l.kind ≡ token.IterName → IsFeature l

@@ -3,4 +3,5 @@ pub mod Level
 pub mod Lexemes
 pub mod Nests
 pub mod Places
+pub mod Starts
 pub mod Types

@@ -3,23 +3,31 @@
 //! A stack of counters goes over the tokens. Its sum is the level, which bounds how deep the constructs at a place nest,
 //! and with it the recursion of all that reads or walks a tree.
 
-ghost use Rattle.std.specs.Prelude.{◌≡◌, ◌+◌, ◌≤◌, [], ◌∷◌, IfErr, IfNone, IfSome, OnOk, drop, false, length, reverse, true};
-ghost use Rattle.sa_parse_expr.specs.Level.{AreTaken, Refuses, added, after, at_bar, is_refused, level_of, opened, set_to_one, step_of, step_of_sign, step_of_word};
+ghost use Rattle.std.specs.Prelude.{◌≡◌, ◌+◌, ◌≤◌, [], ◌∷◌, IfErr, IfNone, IfSome, OnOk, drop, length, reverse};
+ghost use Rattle.sa_parse_expr.specs.Level.{AreTaken, RefusesTokens, added, after, at_bar, is_refused, level_of, opened, set_to_one, step_of, step_of_sign, step_of_word};
 
-use sa_lex::{Token, TokenKind, sign, word};
+use sa_lex::{Sign, Token, TokenKind, Word};
 use sa_tree::{FrontFault, Pos, Rule};
 use std::alloc::{AllocError, Global};
 
 /// The greatest level that is taken.
 const MAX_LEVEL: u32 = 200;
 
+/// What opened a construct.
+#[derive(Clone, Copy, Debug, PartialEq, Eq)]
+pub(crate) enum Opener {
+    /// A `|`.
+    Bar,
+    /// Another token.
+    Other,
+}
+
 /// An open construct.
 #[derive(Clone, Copy)]
 pub(crate) struct Counter {
     /// How much it adds to the level.
     pub level: u32,
-    /// Whether a `|` opened it.
-    pub of_bar: bool,
+    pub opener: Opener,
 }
 
 /// What a token does to the open counters.
@@ -43,45 +51,45 @@ pub(crate) enum Step {
     Keep,
 }
 
-fn step_of_sign(sign: u8) -> Step
+fn step_of_sign(sign: Sign) -> Step
     ensures { result ≡ step_of_sign sign }
 {
     match sign {
-        sign::LPAREN | sign::LBRACE => Step::Open,
-        sign::LBRACKET => Step::AddAndOpen,
-        sign::BAR => Step::Bar,
-        sign::RPAREN | sign::RBRACKET | sign::RBRACE => Step::Close,
-        sign::PLUS
-        | sign::MINUS
-        | sign::STAR
-        | sign::SLASH
-        | sign::PERCENT
-        | sign::CARET
-        | sign::TILDE
-        | sign::EQUAL
-        | sign::NOT_EQUAL
-        | sign::LESS
-        | sign::LESS_EQUAL
-        | sign::GREATER
-        | sign::GREATER_EQUAL
-        | sign::DOT
-        | sign::DOUBLE_COLON
-        | sign::HASH => Step::Add,
-        sign::COMMA | sign::SEMICOLON | sign::ASSIGN | sign::DECLARE => Step::Reset,
+        Sign::LeftParen | Sign::LeftBrace => Step::Open,
+        Sign::LeftBracket => Step::AddAndOpen,
+        Sign::Bar => Step::Bar,
+        Sign::RightParen | Sign::RightBracket | Sign::RightBrace => Step::Close,
+        Sign::Plus
+        | Sign::Minus
+        | Sign::Star
+        | Sign::Slash
+        | Sign::Percent
+        | Sign::Caret
+        | Sign::Tilde
+        | Sign::Equal
+        | Sign::NotEqual
+        | Sign::Less
+        | Sign::LessEqual
+        | Sign::Greater
+        | Sign::GreaterEqual
+        | Sign::Dot
+        | Sign::DoubleColon
+        | Sign::Hash => Step::Add,
+        Sign::Comma | Sign::Semicolon | Sign::Assign | Sign::Declare => Step::Reset,
         _ => Step::Keep,
     }
 }
 
-fn step_of_word(word: u8) -> Step
+fn step_of_word(word: Word) -> Step
     ensures { result ≡ step_of_word word }
 {
     match word {
-        word::IS | word::IF | word::LOOP | word::CASE | word::TYPECASE | word::PROTECT =>
+        Word::Is | Word::If | Word::Loop | Word::Case | Word::Typecase | Word::Protect =>
             Step::Open,
-        word::END => Step::Close,
-        word::AND | word::OR | word::ROUT | word::ITER => Step::Add,
-        word::THEN | word::ELSE | word::ELSIF | word::WHEN => Step::Reset,
-        word::CLASS => Step::Clear,
+        Word::End => Step::Close,
+        Word::And | Word::Or | Word::Rout | Word::Iter => Step::Add,
+        Word::Then | Word::Else | Word::Elsif | Word::When => Step::Reset,
+        Word::Class => Step::Clear,
         _ => Step::Keep,
     }
 }
@@ -122,12 +130,12 @@ impl Levels {
         self.counters.len().checked_sub(1)
     }
 
-    fn push(&mut self, of_bar: bool) -> Result<(), AllocError>
+    fn push(&mut self, opener: Opener) -> Result<(), AllocError>
         requires { self.old.level ≤ 201 }
-        ensures counters { OnOk result (reverse self.new.counters.items ≡ opened of_bar ∷ reverse self.old.counters.items) }
+        ensures counters { OnOk result (reverse self.new.counters.items ≡ opened opener ∷ reverse self.old.counters.items) }
         ensures level { self.new.level ≤ self.old.level + 1 }
     {
-        self.counters.push(Counter { level: 1, of_bar })?;
+        self.counters.push(Counter { level: 1, opener })?;
         self.level += 1;
         Ok(())
     }
@@ -146,7 +154,7 @@ impl Levels {
         ensures level { self.new.level ≤ self.old.level + 1 }
     {
         let Some(innermost) = self.innermost() else {
-            return self.push(false);
+            return self.push(Opener::Other);
         };
         self.counters[innermost].level += 1;
         self.level += 1;
@@ -176,12 +184,12 @@ impl Levels {
         ensures { OnOk result (reverse self.new.counters.items ≡ at_bar (reverse self.old.counters.items)) }
     {
         if let Some(innermost) = self.innermost()
-            && self.counters[innermost].of_bar
+            && matches!(self.counters[innermost].opener, Opener::Bar)
         {
             self.pop();
             return Ok(());
         }
-        self.push(true)
+        self.push(Opener::Bar)
     }
 
     fn step(&mut self, step: Step) -> Result<(), AllocError>
@@ -189,7 +197,7 @@ impl Levels {
         ensures { OnOk result (reverse self.new.counters.items ≡ after step (reverse self.old.counters.items)) }
     {
         match step {
-            Step::Open => self.push(false),
+            Step::Open => self.push(Opener::Other),
             Step::Close => {
                 self.pop();
                 Ok(())
@@ -197,7 +205,7 @@ impl Levels {
             Step::Add => self.add(),
             Step::AddAndOpen => {
                 self.add()?;
-                self.push(false)
+                self.push(Opener::Other)
             }
             Step::Reset => {
                 self.reset();
@@ -217,7 +225,7 @@ impl Levels {
 fn is_refused(kind: &TokenKind) -> bool
     ensures { result ≡ is_refused kind.now }
 {
-    matches!(kind, TokenKind::Word(word) if *word >= word::FIRST_REFUSED)
+    matches!(kind, TokenKind::Word(word) if word.is_refused())
 }
 
 /// Whether a parser may go over these tokens, which are those of file `file`.
@@ -226,7 +234,7 @@ fn is_refused(kind: &TokenKind) -> bool
 /// (E07). `NoMemory` means that memory has run out.
 pub fn scan(alloc: Global, tokens: &[Token], file: u32) -> Result<(), FrontFault>
     ensures taken { OnOk result (AreTaken tokens.now (length tokens.now)) }
-    ensures refused { IfErr result (Refuses tokens.now file) }
+    ensures refused { IfErr result (RefusesTokens tokens.now file) }
 {
     let mut levels = Levels::new(alloc);
     for token in tokens {

@@ -7,10 +7,12 @@ mod levels;
 mod operators;
 mod postfix;
 mod primary;
+mod starts;
 mod tokens;
 mod types;
 
 pub use expression::{expr, read_expr};
 pub use levels::scan;
+pub use starts::begins_expression;
 pub use tokens::Tokens;
-pub use types::{read_mode, read_type, read_types};
+pub use types::{CallableKind, read_mode, read_type, read_types};

@@ -1,15 +1,17 @@
-//! Expressions of operators: one function for each production of their grammar.
+//! Expressions of operators.
 //!
 //! ```text
-//! expr  = comp {("and" | "or") comp}
-//! comp  = sum {("=" | "/=" | "<" | "<=" | ">" | ">=") sum}
-//! sum   = prod {("+" | "-") prod}
-//! prod  = unary {("*" | "/" | "%") unary}
-//! unary = ("-" | "~") unary | power
-//! power = post ["^" power]
+//! expr    = logical
+//! logical = comp {("and" | "or") comp}
+//! comp    = sum {("=" | "/=" | "<" | "<=" | ">" | ">=") sum}
+//! sum     = prod {("+" | "-") prod}
+//! prod    = unary {("*" | "/" | "%") unary}
+//! unary   = ("-" | "~") unary | power
+//! power   = post ["^" power]
 //! ```
 //!
-//! An operator stands at its sign or word.
+//! The four productions of operators of two operands that go to the left are alike, `operation = operand {operator operand}`,
+//! and have one function; a `Precedence` tells which it reads. An operator stands at its sign or word.
 
 ghost use Rattle.std.specs.Prelude.{◌<◌, ◌≤◌, IfErr, IfOk, OnSome, length};
 ghost use Rattle.sa_parse_expr.specs.Nests.{Nests};
@@ -17,10 +19,23 @@ ghost use Rattle.sa_parse_expr.specs.Places.{IsBehind, IsUnexpected};
 
 use crate::grammar::{Around, Form, Grammar};
 use crate::tokens::Tokens;
-use sa_lex::{TokenKind, sign, word};
+use sa_lex::{Sign, TokenKind, Word};
 use sa_tree::{Expr, FrontFault, Op, Pos};
 use sqlite_items::Boxed;
 use std::alloc::{AllocError, Global};
+
+/// How strongly operators of two operands bind that go to the left, from the weakest to the strongest.
+#[derive(Clone, Copy, Debug, PartialEq, Eq)]
+pub(crate) enum Precedence {
+    /// `and` and `or`.
+    Logical,
+    /// `=`, `/=`, `<`, `<=`, `>` and `>=`.
+    Comparing,
+    /// `+` and `-`.
+    Adding,
+    /// `*`, `/` and `%`.
+    Multiplying,
+}
 
 /// The operator of two operands, which stands at this position.
 fn binary(alloc: Global, op: Op, left: Expr, right: Expr, pos: Pos) -> Result<Expr, AllocError> {
@@ -29,13 +44,25 @@ fn binary(alloc: Global, op: Op, left: Expr, right: Expr, pos: Pos) -> Result<Ex
     Ok(Expr::Binary(op, left, right, pos))
 }
 
+/// The operator of this precedence that stands there, if there is one.
+fn operator(precedence: Precedence, tokens: &Tokens<'_>, at: u32) -> Option<Op>
+    ensures { OnSome result (at < length tokens.now.list.now) }
+{
+    match precedence {
+        Precedence::Logical => logical(tokens, at),
+        Precedence::Comparing => comparing(tokens, at),
+        Precedence::Adding => adding(tokens, at),
+        Precedence::Multiplying => multiplying(tokens, at),
+    }
+}
+
 /// `"and" | "or"`
 fn logical(tokens: &Tokens<'_>, at: u32) -> Option<Op>
     ensures { OnSome result (at < length tokens.now.list.now) }
 {
     match tokens.kind(at) {
-        Some(TokenKind::Word(word::AND)) => Some(Op::And),
-        Some(TokenKind::Word(word::OR)) => Some(Op::Or),
+        Some(TokenKind::Word(Word::And)) => Some(Op::And),
+        Some(TokenKind::Word(Word::Or)) => Some(Op::Or),
         _ => None,
     }
 }
@@ -45,12 +72,12 @@ fn comparing(tokens: &Tokens<'_>, at: u32) -> Option<Op>
     ensures { OnSome result (at < length tokens.now.list.now) }
 {
     match tokens.kind(at) {
-        Some(TokenKind::Sign(sign::EQUAL)) => Some(Op::Eq),
-        Some(TokenKind::Sign(sign::NOT_EQUAL)) => Some(Op::Neq),
-        Some(TokenKind::Sign(sign::LESS)) => Some(Op::Lt),
-        Some(TokenKind::Sign(sign::LESS_EQUAL)) => Some(Op::Leq),
-        Some(TokenKind::Sign(sign::GREATER)) => Some(Op::Gt),
-        Some(TokenKind::Sign(sign::GREATER_EQUAL)) => Some(Op::Geq),
+        Some(TokenKind::Sign(Sign::Equal)) => Some(Op::Eq),
+        Some(TokenKind::Sign(Sign::NotEqual)) => Some(Op::Neq),
+        Some(TokenKind::Sign(Sign::Less)) => Some(Op::Lt),
+        Some(TokenKind::Sign(Sign::LessEqual)) => Some(Op::Leq),
+        Some(TokenKind::Sign(Sign::Greater)) => Some(Op::Gt),
+        Some(TokenKind::Sign(Sign::GreaterEqual)) => Some(Op::Geq),
         _ => None,
     }
 }
@@ -60,8 +87,8 @@ fn adding(tokens: &Tokens<'_>, at: u32) -> Option<Op>
     ensures { OnSome result (at < length tokens.now.list.now) }
 {
     match tokens.kind(at) {
-        Some(TokenKind::Sign(sign::PLUS)) => Some(Op::Plus),
-        Some(TokenKind::Sign(sign::MINUS)) => Some(Op::Minus),
+        Some(TokenKind::Sign(Sign::Plus)) => Some(Op::Plus),
+        Some(TokenKind::Sign(Sign::Minus)) => Some(Op::Minus),
         _ => None,
     }
 }
@@ -71,9 +98,9 @@ fn multiplying(tokens: &Tokens<'_>, at: u32) -> Option<Op>
     ensures { OnSome result (at < length tokens.now.list.now) }
 {
     match tokens.kind(at) {
-        Some(TokenKind::Sign(sign::STAR)) => Some(Op::Times),
-        Some(TokenKind::Sign(sign::SLASH)) => Some(Op::Div),
-        Some(TokenKind::Sign(sign::PERCENT)) => Some(Op::Mod),
+        Some(TokenKind::Sign(Sign::Star)) => Some(Op::Times),
+        Some(TokenKind::Sign(Sign::Slash)) => Some(Op::Div),
+        Some(TokenKind::Sign(Sign::Percent)) => Some(Op::Mod),
         _ => None,
     }
 }
@@ -83,75 +110,64 @@ fn prefix(tokens: &Tokens<'_>, at: u32) -> Option<Op>
     ensures { OnSome result (at < length tokens.now.list.now) }
 {
     match tokens.kind(at) {
-        Some(TokenKind::Sign(sign::MINUS)) => Some(Op::Negate),
-        Some(TokenKind::Sign(sign::TILDE)) => Some(Op::Not),
+        Some(TokenKind::Sign(Sign::Minus)) => Some(Op::Negate),
+        Some(TokenKind::Sign(Sign::Tilde)) => Some(Op::Not),
         _ => None,
     }
 }
 
 impl<F: Fn(Global, &Tokens<'_>, Form, u32) -> Result<(Expr, u32), FrontFault>> Grammar<'_, F> {
-    /// `comp {("and" | "or") comp}`
+    /// `logical`
     pub(crate) fn expr(&self, around: Around, from: u32) -> Result<(Expr, u32), FrontFault>
         requires nested { Nests self.now.from (F.pre self.now.nested) (F.post self.now.nested) }
         requires from { self.now.from ≤ from }
         ensures next { IfOk result (λ read. IsBehind self.now.tokens.list.now from read.1) }
         ensures refused { IfErr result (IsUnexpected self.now.tokens.file) }
     {
-        let (mut left, mut next) = self.comp(around, from)?;
-        'more: while let Some(op) = logical(&self.tokens, next) {
-            let (right, end) = self.comp(around, next + 1)?;
+        self.operation(Precedence::Logical, around, from)
+    }
+
+    /// `operand {operator operand}`
+    #[cycle(operation)]
+    fn operation(
+        &self,
+        precedence: Precedence,
+        around: Around,
+        from: u32,
+    ) -> Result<(Expr, u32), FrontFault>
+        requires nested { Nests self.now.from (F.pre self.now.nested) (F.post self.now.nested) }
+        requires from { self.now.from ≤ from }
+        ensures next { IfOk result (λ read. IsBehind self.now.tokens.list.now from read.1) }
+        ensures refused { IfErr result (IsUnexpected self.now.tokens.file) }
+    {
+        let (mut left, mut next) = self.operand(precedence, around, from)?;
+        'more: while let Some(op) = operator(precedence, &self.tokens, next) {
+            let (right, end) = self.operand(precedence, around, next + 1)?;
             left = binary(self.alloc, op, left, right, self.tokens.pos(next))?;
             next = end;
         }
         Ok((left, next))
     }
 
-    /// `sum {("=" | "/=" | "<" | "<=" | ">" | ">=") sum}`
-    fn comp(&self, around: Around, from: u32) -> Result<(Expr, u32), FrontFault>
+    /// An operand of operators of this precedence: an operation of the next stronger ones, or a unary.
+    #[cycle(operation)]
+    fn operand(
+        &self,
+        precedence: Precedence,
+        around: Around,
+        from: u32,
+    ) -> Result<(Expr, u32), FrontFault>
         requires nested { Nests self.now.from (F.pre self.now.nested) (F.post self.now.nested) }
         requires from { self.now.from ≤ from }
         ensures next { IfOk result (λ read. IsBehind self.now.tokens.list.now from read.1) }
         ensures refused { IfErr result (IsUnexpected self.now.tokens.file) }
     {
-        let (mut left, mut next) = self.sum(around, from)?;
-        'more: while let Some(op) = comparing(&self.tokens, next) {
-            let (right, end) = self.sum(around, next + 1)?;
-            left = binary(self.alloc, op, left, right, self.tokens.pos(next))?;
-            next = end;
+        match precedence {
+            Precedence::Logical => self.operation(Precedence::Comparing, around, from),
+            Precedence::Comparing => self.operation(Precedence::Adding, around, from),
+            Precedence::Adding => self.operation(Precedence::Multiplying, around, from),
+            Precedence::Multiplying => self.unary(around, from),
         }
-        Ok((left, next))
-    }
-
-    /// `prod {("+" | "-") prod}`
-    fn sum(&self, around: Around, from: u32) -> Result<(Expr, u32), FrontFault>
-        requires nested { Nests self.now.from (F.pre self.now.nested) (F.post self.now.nested) }
-        requires from { self.now.from ≤ from }
-        ensures next { IfOk result (λ read. IsBehind self.now.tokens.list.now from read.1) }
-        ensures refused { IfErr result (IsUnexpected self.now.tokens.file) }
-    {
-        let (mut left, mut next) = self.prod(around, from)?;
-        'more: while let Some(op) = adding(&self.tokens, next) {
-            let (right, end) = self.prod(around, next + 1)?;
-            left = binary(self.alloc, op, left, right, self.tokens.pos(next))?;
-            next = end;
-        }
-        Ok((left, next))
-    }
-
-    /// `unary {("*" | "/" | "%") unary}`
-    fn prod(&self, around: Around, from: u32) -> Result<(Expr, u32), FrontFault>
-        requires nested { Nests self.now.from (F.pre self.now.nested) (F.post self.now.nested) }
-        requires from { self.now.from ≤ from }
-        ensures next { IfOk result (λ read. IsBehind self.now.tokens.list.now from read.1) }
-        ensures refused { IfErr result (IsUnexpected self.now.tokens.file) }
-    {
-        let (mut left, mut next) = self.unary(around, from)?;
-        'more: while let Some(op) = multiplying(&self.tokens, next) {
-            let (right, end) = self.unary(around, next + 1)?;
-            left = binary(self.alloc, op, left, right, self.tokens.pos(next))?;
-            next = end;
-        }
-        Ok((left, next))
     }
 
     /// `("-" | "~") unary | power`
@@ -177,7 +193,7 @@ impl<F: Fn(Global, &Tokens<'_>, Form, u32) -> Result<(Expr, u32), FrontFault>> G
         ensures refused { IfErr result (IsUnexpected self.now.tokens.file) }
     {
         let (base, next) = self.post(around, from)?;
-        if !self.tokens.is_sign(next, sign::CARET) {
+        if !self.tokens.is_sign(next, Sign::Caret) {
             return Ok((base, next));
         }
         let (exponent, end) = self.power(around, next + 1)?;

@@ -1,10 +1,11 @@
 //! What follows a first: calls on it and indexes, and the arguments of calls. One function for each production.
 //!
 //! ```text
-//! post  = first {"." F [args] | "[" exprs "]"}
-//! args  = "(" arg {"," arg} ")"
-//! arg   = ["out" | "inout"] expr | "_" [":" type]
-//! exprs = expr {"," expr}
+//! post     = first {"." F [args] | "[" exprs "]"}
+//! args     = "(" arg_list ")"
+//! arg_list = arg {"," arg}
+//! arg      = ["out" | "inout"] expr | "_" [":" type]
+//! exprs    = expr {"," expr}
 //! ```
 //!
 //! F is a lower name or an iter name. A call stands at this name, and an index at the first token of the whole form, a
@@ -17,7 +18,7 @@ ghost use Rattle.sa_parse_expr.specs.Places.{IsBehind, IsFrom, IsUnexpected};
 use crate::grammar::{Around, Form, Grammar};
 use crate::tokens::Tokens;
 use crate::types::read_type;
-use sa_lex::{TokenKind, sign, word};
+use sa_lex::{Sign, TokenKind, Word};
 use sa_tree::{Expr, FrontFault, Given, Mode, Recv};
 use sqlite_items::{Boxed, Items};
 use std::alloc::Global;
@@ -32,10 +33,10 @@ impl<F: Fn(Global, &Tokens<'_>, Form, u32) -> Result<(Expr, u32), FrontFault>> G
     {
         let (mut of, mut next) = self.first(around, from)?;
         'more: loop {
-            if self.tokens.is_sign(next, sign::DOT) {
+            if self.tokens.is_sign(next, Sign::Dot) {
                 let on = Recv::Of(Boxed::new(self.alloc, of)?);
                 (of, next) = self.call(on, next + 1)?;
-            } else if self.tokens.is_sign(next, sign::LBRACKET) {
+            } else if self.tokens.is_sign(next, Sign::LeftBracket) {
                 let (places, end) = self.index(next)?;
                 let on = Some(Boxed::new(self.alloc, of)?);
                 of = Expr::Index(on, places, self.tokens.pos(from));
@@ -69,20 +70,30 @@ impl<F: Fn(Global, &Tokens<'_>, Form, u32) -> Result<(Expr, u32), FrontFault>> G
         ensures next { IfOk result (λ read. IsFrom self.now.tokens.list.now from read.1) }
         ensures refused { IfErr result (IsUnexpected self.now.tokens.file) }
     {
-        if !self.tokens.is_sign(from, sign::LPAREN) {
+        if !self.tokens.is_sign(from, Sign::LeftParen) {
             return Ok((Items::new(self.alloc), from));
         }
-        let (first, mut next) = self.arg(from + 1)?;
+        let (given, next) = self.arg_list(from + 1)?;
+        Ok((given, self.tokens.after_sign(next, Sign::RightParen)?))
+    }
+
+    /// `arg {"," arg}`
+    fn arg_list(&self, from: u32) -> Result<(Items<Given>, u32), FrontFault>
+        requires nested { Nests self.now.from (F.pre self.now.nested) (F.post self.now.nested) }
+        requires from { self.now.from < from }
+        ensures next { IfOk result (λ read. IsBehind self.now.tokens.list.now from read.1) }
+        ensures refused { IfErr result (IsUnexpected self.now.tokens.file) }
+    {
+        let (first, mut next) = self.arg(from)?;
         let mut args = Vec::new(self.alloc);
         args.push(first)?;
-        'more: while self.tokens.is_sign(next, sign::COMMA) {
+        'more: while self.tokens.is_sign(next, Sign::Comma) {
             let (one, end) = self.arg(next + 1)?;
             args.push(one)?;
             next = end;
         }
         args.shrink_to_fit();
-        let args = Items::from_vec(args);
-        Ok((args, self.tokens.after_sign(next, sign::RPAREN)?))
+        Ok((Items::from_vec(args), next))
     }
 
     /// `["out" | "inout"] expr | "_" [":" type]`
@@ -92,12 +103,12 @@ impl<F: Fn(Global, &Tokens<'_>, Form, u32) -> Result<(Expr, u32), FrontFault>> G
         ensures next { IfOk result (λ read. IsBehind self.now.tokens.list.now from read.1) }
         ensures refused { IfErr result (IsUnexpected self.now.tokens.file) }
     {
-        if self.tokens.is_sign(from, sign::UNDERSCORE) {
+        if self.tokens.is_sign(from, Sign::Underscore) {
             return left_open(self.alloc, &self.tokens, from);
         }
         let (mode, next) = match self.tokens.kind(from) {
-            Some(TokenKind::Word(word::OUT)) => (Mode::Out, from + 1),
-            Some(TokenKind::Word(word::INOUT)) => (Mode::Inout, from + 1),
+            Some(TokenKind::Word(Word::Out)) => (Mode::Out, from + 1),
+            Some(TokenKind::Word(Word::Inout)) => (Mode::Inout, from + 1),
             _ => (Mode::In, from),
         };
         let (value, next) = self.inner(Form::Expr(Around::Open), next)?;
@@ -113,7 +124,7 @@ impl<F: Fn(Global, &Tokens<'_>, Form, u32) -> Result<(Expr, u32), FrontFault>> G
         ensures refused { IfErr result (IsUnexpected self.now.tokens.file) }
     {
         let (places, next) = self.exprs(Around::Open, from + 1)?;
-        Ok((places, self.tokens.after_sign(next, sign::RBRACKET)?))
+        Ok((places, self.tokens.after_sign(next, Sign::RightBracket)?))
     }
 
     /// `expr {"," expr}`
@@ -126,7 +137,7 @@ impl<F: Fn(Global, &Tokens<'_>, Form, u32) -> Result<(Expr, u32), FrontFault>> G
         let (first, mut next) = self.inner(Form::Expr(around), from)?;
         let mut exprs = Vec::new(self.alloc);
         exprs.push(first)?;
-        'more: while self.tokens.is_sign(next, sign::COMMA) {
+        'more: while self.tokens.is_sign(next, Sign::Comma) {
             let (one, end) = self.inner(Form::Expr(around), next + 1)?;
             exprs.push(one)?;
             next = end;
@@ -143,7 +154,7 @@ fn left_open(alloc: Global, tokens: &Tokens<'_>, from: u32) -> Result<(Given, u3
     ensures refused { IfErr result (IsUnexpected tokens.now.file) }
 {
     let pos = tokens.pos(from);
-    if !tokens.is_sign(from + 1, sign::COLON) {
+    if !tokens.is_sign(from + 1, Sign::Colon) {
         return Ok((Given::Left(None, pos), from + 1));
     }
     let (ty, next) = read_type(alloc, tokens, from + 2)?;

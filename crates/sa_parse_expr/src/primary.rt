@@ -13,9 +13,10 @@ ghost use Rattle.sa_parse_expr.specs.Nests.{Nests};
 ghost use Rattle.sa_parse_expr.specs.Places.{IsBehind, IsFrom, IsUnexpected};
 
 use crate::grammar::{Around, Form, Grammar};
+use crate::starts::begins_type;
 use crate::tokens::Tokens;
-use crate::types::{begins_type, read_type};
-use sa_lex::{TokenKind, sign, word};
+use crate::types::read_type;
+use sa_lex::{Sign, TokenKind, Word};
 use sa_tree::{Expr, FrontFault, Name, Recv, Ty};
 use sqlite_items::Boxed;
 use std::alloc::{AllocError, Global};
@@ -45,7 +46,7 @@ impl<F: Fn(Global, &Tokens<'_>, Form, u32) -> Result<(Expr, u32), FrontFault>> G
     }
 
     /// A first that begins with this word.
-    fn first_word(&self, word: u8, from: u32) -> Result<(Expr, u32), FrontFault>
+    fn first_word(&self, word: Word, from: u32) -> Result<(Expr, u32), FrontFault>
         requires nested { Nests self.now.from (F.pre self.now.nested) (F.post self.now.nested) }
         requires from { self.now.from ≤ from }
         requires within { from < length self.now.tokens.list.now }
@@ -54,20 +55,20 @@ impl<F: Fn(Global, &Tokens<'_>, Form, u32) -> Result<(Expr, u32), FrontFault>> G
     {
         let pos = self.tokens.pos(from);
         match word {
-            word::TRUE => Ok((Expr::Bool(true, pos), from + 1)),
-            word::FALSE => Ok((Expr::Bool(false, pos), from + 1)),
-            word::SELF => Ok((Expr::Me(pos), from + 1)),
-            word::EXCEPTION => Ok((Expr::Exception(pos), from + 1)),
-            word::VOID => self.void(from),
-            word::NEW => self.new(from),
-            word::BIND => self.bind(from),
-            word::SAME | word::ROUT | word::ITER => self.class_call(from),
+            Word::True => Ok((Expr::Bool(true, pos), from + 1)),
+            Word::False => Ok((Expr::Bool(false, pos), from + 1)),
+            Word::SelfWord => Ok((Expr::Me(pos), from + 1)),
+            Word::Exception => Ok((Expr::Exception(pos), from + 1)),
+            Word::Void => self.void(from),
+            Word::New => self.new(from),
+            Word::Bind => self.bind(from),
+            Word::Same | Word::Rout | Word::Iter => self.class_call(from),
             _ => Err(self.tokens.unexpected(from)),
         }
     }
 
     /// A first that begins with this sign.
-    fn first_sign(&self, around: Around, sign: u8, from: u32) -> Result<(Expr, u32), FrontFault>
+    fn first_sign(&self, around: Around, sign: Sign, from: u32) -> Result<(Expr, u32), FrontFault>
         requires nested { Nests self.now.from (F.pre self.now.nested) (F.post self.now.nested) }
         requires from { self.now.from ≤ from }
         requires within { from < length self.now.tokens.list.now }
@@ -75,13 +76,13 @@ impl<F: Fn(Global, &Tokens<'_>, Form, u32) -> Result<(Expr, u32), FrontFault>> G
         ensures refused { IfErr result (IsUnexpected self.now.tokens.file) }
     {
         match sign {
-            sign::LPAREN => self.parenthesised(from),
-            sign::HASH => self.create(from),
-            sign::LBRACKET => {
+            Sign::LeftParen => self.parenthesised(from),
+            Sign::Hash => self.create(from),
+            Sign::LeftBracket => {
                 let (places, next) = self.index(from)?;
                 Ok((Expr::Index(None, places, self.tokens.pos(from)), next))
             }
-            sign::BAR if around == Around::Open => self.items(from),
+            Sign::Bar if around == Around::Open => self.items(from),
             _ => Err(self.tokens.unexpected(from)),
         }
     }
@@ -93,9 +94,9 @@ impl<F: Fn(Global, &Tokens<'_>, Form, u32) -> Result<(Expr, u32), FrontFault>> G
         ensures next { IfOk result (λ read. IsBehind self.now.tokens.list.now from read.1) }
         ensures refused { IfErr result (IsUnexpected self.now.tokens.file) }
     {
-        let next = self.tokens.after_sign(from, sign::LPAREN)?;
+        let next = self.tokens.after_sign(from, Sign::LeftParen)?;
         let (inner, next) = self.inner(Form::Expr(Around::Open), next)?;
-        Ok((inner, self.tokens.after_sign(next, sign::RPAREN)?))
+        Ok((inner, self.tokens.after_sign(next, Sign::RightParen)?))
     }
 
     /// `"void" ["(" expr ")"]`
@@ -107,7 +108,7 @@ impl<F: Fn(Global, &Tokens<'_>, Form, u32) -> Result<(Expr, u32), FrontFault>> G
         ensures refused { IfErr result (IsUnexpected self.now.tokens.file) }
     {
         let pos = self.tokens.pos(from);
-        if !self.tokens.is_sign(from + 1, sign::LPAREN) {
+        if !self.tokens.is_sign(from + 1, Sign::LeftParen) {
             return Ok((Expr::Void(pos), from + 1));
         }
         let (of, next) = self.parenthesised(from + 1)?;
@@ -123,7 +124,7 @@ impl<F: Fn(Global, &Tokens<'_>, Form, u32) -> Result<(Expr, u32), FrontFault>> G
         ensures refused { IfErr result (IsUnexpected self.now.tokens.file) }
     {
         let pos = self.tokens.pos(from);
-        if !self.tokens.is_sign(from + 1, sign::LPAREN) {
+        if !self.tokens.is_sign(from + 1, Sign::LeftParen) {
             return Ok((Expr::New(None, pos), from + 1));
         }
         let (count, next) = self.parenthesised(from + 1)?;
@@ -138,7 +139,7 @@ impl<F: Fn(Global, &Tokens<'_>, Form, u32) -> Result<(Expr, u32), FrontFault>> G
         ensures refused { IfErr result (IsUnexpected self.now.tokens.file) }
     {
         let (class, next) = read_type(self.alloc, &self.tokens, from)?;
-        let next = self.tokens.after_sign(next, sign::DOUBLE_COLON)?;
+        let next = self.tokens.after_sign(next, Sign::DoubleColon)?;
         self.call(Recv::OfClass(class), next)
     }
 
@@ -150,7 +151,7 @@ impl<F: Fn(Global, &Tokens<'_>, Form, u32) -> Result<(Expr, u32), FrontFault>> G
         ensures next { IfOk result (λ read. IsBehind self.now.tokens.list.now from read.1) }
         ensures refused { IfErr result (IsUnexpected self.now.tokens.file) }
     {
-        let (class, next) = class_of_new(self.alloc, &self.tokens, from + 1)?;
+        let (class, next) = optional_type(self.alloc, &self.tokens, from + 1)?;
         let (given, next) = self.args(next)?;
         Ok((Expr::Create(class, given, self.tokens.pos(from)), next))
     }
@@ -164,7 +165,7 @@ impl<F: Fn(Global, &Tokens<'_>, Form, u32) -> Result<(Expr, u32), FrontFault>> G
         ensures refused { IfErr result (IsUnexpected self.now.tokens.file) }
     {
         let (items, next) = self.exprs(Around::Items, from + 1)?;
-        let next = self.tokens.after_sign(next, sign::BAR)?;
+        let next = self.tokens.after_sign(next, Sign::Bar)?;
         Ok((Expr::Items(items, self.tokens.pos(from)), next))
     }
 
@@ -176,16 +177,16 @@ impl<F: Fn(Global, &Tokens<'_>, Form, u32) -> Result<(Expr, u32), FrontFault>> G
         ensures next { IfOk result (λ read. IsBehind self.now.tokens.list.now from read.1) }
         ensures refused { IfErr result (IsUnexpected self.now.tokens.file) }
     {
-        let next = self.tokens.after_sign(from + 1, sign::LPAREN)?;
+        let next = self.tokens.after_sign(from + 1, Sign::LeftParen)?;
         let (head, next) = self.inner(Form::Post, next)?;
-        let next = self.tokens.after_sign(next, sign::RPAREN)?;
+        let next = self.tokens.after_sign(next, Sign::RightParen)?;
         let head = Boxed::new(self.alloc, head)?;
         Ok((Expr::Bind(head, self.tokens.pos(from)), next))
     }
 }
 
-/// `[type]` behind a `#`
-fn class_of_new(
+/// `[type]`
+fn optional_type(
     alloc: Global,
     tokens: &Tokens<'_>,
     from: u32,
@@ -194,11 +195,11 @@ fn class_of_new(
     ensures next { IfOk result (λ read. IsFrom tokens.now.list.now from read.1) }
     ensures refused { IfErr result (IsUnexpected tokens.now.file) }
 {
-    if !begins_type(tokens, from) {
+    if !begins_type(tokens.kind(from)) {
         return Ok((None, from));
     }
-    let (class, next) = read_type(alloc, tokens, from)?;
-    Ok((Some(class), next))
+    let (ty, next) = read_type(alloc, tokens, from)?;
+    Ok((Some(ty), next))
 }
 
 /// `{text}` behind a first text: one text of the bytes of all.

@@ -4,12 +4,12 @@ ghost use Rattle.std.specs.Prelude.{◌≡◌, ◌+◌, ◌<◌, ◌↔◌, All,
 ghost use Rattle.std.specs.Option.{option_copied};
 ghost use Rattle.std.specs.Bool.{OnTrue};
 ghost use Rattle.sa_lex.specs.Token.{IsWithin};
-ghost use Rattle.sa_lex.specs.declared.token.TokenKind.TheVariants.{Sign, Word};
+ghost use Rattle.sa_lex.specs.declared.token.TokenKind.TheVariants as token;
 ghost use Rattle.sa_tree.specs.declared.refusal.FrontFault.TheVariants.{Refused};
 ghost use Rattle.sa_tree.specs.declared.rule.Rule.TheVariants.{UnexpectedToken};
 ghost use Rattle.sa_parse_expr.specs.Places.{IsUnexpected, bytes_at, kind_at, start_at};
 
-use sa_lex::{Token, TokenKind, slice_of};
+use sa_lex::{Sign, Token, TokenKind, Word, slice_of};
 use sa_tree::{FrontFault, Name, Pos, Rule};
 use std::alloc::{AllocError, Global};
 
@@ -39,17 +39,17 @@ impl Tokens<'_> {
         }
     }
 
-    /// Whether this sign, of `sa_lex::sign`, stands there.
-    pub fn is_sign(&self, at: u32, sign: u8) -> bool
-        ensures value { IsTrue result ↔ (kind_at self.now.list.now at ≡ Some (Sign sign)) }
+    /// Whether this sign stands there.
+    pub fn is_sign(&self, at: u32, sign: Sign) -> bool
+        ensures value { IsTrue result ↔ (kind_at self.now.list.now at ≡ Some (token.Sign sign)) }
         ensures within { OnTrue result (at < length self.now.list.now) }
     {
         matches!(self.kind(at), Some(TokenKind::Sign(there)) if *there == sign)
     }
 
-    /// Whether this word, of `sa_lex::word`, stands there.
-    pub fn is_word(&self, at: u32, word: u8) -> bool
-        ensures value { IsTrue result ↔ (kind_at self.now.list.now at ≡ Some (Word word)) }
+    /// Whether this word stands there.
+    pub fn is_word(&self, at: u32, word: Word) -> bool
+        ensures value { IsTrue result ↔ (kind_at self.now.list.now at ≡ Some (token.Word word)) }
         ensures within { OnTrue result (at < length self.now.list.now) }
     {
         matches!(self.kind(at), Some(TokenKind::Word(there)) if *there == word)
@@ -104,9 +104,9 @@ impl Tokens<'_> {
     }
 
     /// The place behind this sign, or E06 where another token or none stands.
-    pub fn after_sign(&self, at: u32, sign: u8) -> Result<u32, FrontFault>
+    pub fn after_sign(&self, at: u32, sign: Sign) -> Result<u32, FrontFault>
         ensures next { IfOk result (λ next. (next ≡ at + 1) × (at < length self.now.list.now)) }
-        ensures sign { IfOk result (λ _. kind_at self.now.list.now at ≡ Some (Sign sign)) }
+        ensures sign { IfOk result (λ _. kind_at self.now.list.now at ≡ Some (token.Sign sign)) }
         ensures refused { IfErr result (IsUnexpected self.now.file) }
     {
         if self.is_sign(at, sign) {
@@ -117,9 +117,9 @@ impl Tokens<'_> {
     }
 
     /// The place behind this word, or E06 where another token or none stands.
-    pub fn after_word(&self, at: u32, word: u8) -> Result<u32, FrontFault>
+    pub fn after_word(&self, at: u32, word: Word) -> Result<u32, FrontFault>
         ensures next { IfOk result (λ next. (next ≡ at + 1) × (at < length self.now.list.now)) }
-        ensures word { IfOk result (λ _. kind_at self.now.list.now at ≡ Some (Word word)) }
+        ensures word { IfOk result (λ _. kind_at self.now.list.now at ≡ Some (token.Word word)) }
         ensures refused { IfErr result (IsUnexpected self.now.file) }
     {
         if self.is_word(at, word) {

@@ -1,36 +1,32 @@
 //! Types: one function for each production of their grammar.
 //!
 //! ```text
-//! type  = C ["{" types "}"] | "SAME" | "ROUT" bound | "ITER" bound
-//! types = type {"," type}
-//! bound = ["{" [mode] type {"," [mode] type} "}"] [":" type]
-//! mode  = "out" | "inout" | "once" | "in"
+//! type         = C given_types | "SAME" | "ROUT" bound_args bound_result | "ITER" bound_args bound_result
+//! given_types  = ["{" types "}"]
+//! types        = type {"," type}
+//! bound_args   = ["{" mode_types "}"]
+//! mode_types   = mode_type {"," mode_type}
+//! mode_type    = [mode] type
+//! mode         = "out" | "inout" | "once" | "in"
+//! bound_result = [":" type]
 //! ```
 //!
 //! C is a class name or an abstract name. `once` stands in the arguments of ITER alone.
 
-ghost use Rattle.std.specs.Prelude.{◌<◌, ◌≤◌, IfErr, IfOk, length};
-ghost use Rattle.std.specs.Bool.{OnTrue};
+ghost use Rattle.std.specs.Prelude.{◌≤◌, IfErr, IfOk, length};
 ghost use Rattle.sa_parse_expr.specs.Places.{IsBehind, IsFrom, IsUnexpected};
 
 use crate::tokens::Tokens;
-use sa_lex::{TokenKind, sign, word};
+use sa_lex::{Sign, TokenKind, Word};
 use sa_tree::{FrontFault, Mode, ModeTy, Ty};
 use sqlite_items::{Boxed, Items};
 use std::alloc::Global;
 
-/// Whether a type begins at a place.
-pub(crate) fn begins_type(tokens: &Tokens<'_>, at: u32) -> bool
-    ensures { OnTrue result (at < length tokens.now.list.now) }
-{
-    matches!(
-        tokens.kind(at),
-        Some(
-            TokenKind::ClassName
-                | TokenKind::AbstractName
-                | TokenKind::Word(word::SAME | word::ROUT | word::ITER)
-        )
-    )
+/// What kind of callable arguments are of. `once` is a mode of those of iters alone.
+#[derive(Clone, Copy, Debug, PartialEq, Eq)]
+pub enum CallableKind {
+    Routine,
+    Iter,
 }
 
 /// The type that begins at a place, and the place behind it. A type stands at its first token.
@@ -45,17 +41,17 @@ pub fn read_type(alloc: Global, tokens: &Tokens<'_>, from: u32) -> Result<(Ty, u
     match tokens.kind(from) {
         Some(TokenKind::ClassName | TokenKind::AbstractName) => {
             let name = tokens.name(alloc, from)?;
-            let (given, next) = params(alloc, tokens, from + 1)?;
+            let (given, next) = given_types(alloc, tokens, from + 1)?;
             Ok((Ty::Named(name, given, pos), next))
         }
-        Some(TokenKind::Word(word::SAME)) => Ok((Ty::Same(pos), from + 1)),
-        Some(TokenKind::Word(word::ROUT)) => {
-            let (args, next) = bound_args(alloc, tokens, false, from + 1)?;
+        Some(TokenKind::Word(Word::Same)) => Ok((Ty::Same(pos), from + 1)),
+        Some(TokenKind::Word(Word::Rout)) => {
+            let (args, next) = bound_args(alloc, tokens, CallableKind::Routine, from + 1)?;
             let (gives, next) = bound_result(alloc, tokens, next)?;
             Ok((Ty::Rout(args, gives, pos), next))
         }
-        Some(TokenKind::Word(word::ITER)) => {
-            let (args, next) = bound_args(alloc, tokens, true, from + 1)?;
+        Some(TokenKind::Word(Word::Iter)) => {
+            let (args, next) = bound_args(alloc, tokens, CallableKind::Iter, from + 1)?;
             let (gives, next) = bound_result(alloc, tokens, next)?;
             Ok((Ty::Iter(args, gives, pos), next))
         }
@@ -65,16 +61,20 @@ pub fn read_type(alloc: Global, tokens: &Tokens<'_>, from: u32) -> Result<(Ty, u
 
 /// `["{" types "}"]`
 #[cycle(ty)]
-fn params(alloc: Global, tokens: &Tokens<'_>, from: u32) -> Result<(Items<Ty>, u32), FrontFault>
+fn given_types(
+    alloc: Global,
+    tokens: &Tokens<'_>,
+    from: u32,
+) -> Result<(Items<Ty>, u32), FrontFault>
     requires { from ≤ length tokens.now.list.now }
     ensures next { IfOk result (λ read. IsFrom tokens.now.list.now from read.1) }
     ensures refused { IfErr result (IsUnexpected tokens.now.file) }
 {
-    if !tokens.is_sign(from, sign::LBRACE) {
+    if !tokens.is_sign(from, Sign::LeftBrace) {
         return Ok((Items::new(alloc), from));
     }
     let (types, next) = read_types(alloc, tokens, from + 1)?;
-    Ok((types, tokens.after_sign(next, sign::RBRACE)?))
+    Ok((types, tokens.after_sign(next, Sign::RightBrace)?))
 }
 
 /// One type or several with `,` between them, and the place behind the last.
@@ -90,7 +90,7 @@ pub fn read_types(
     let (first, mut next) = read_type(alloc, tokens, from)?;
     let mut types = Items::new(alloc);
     types.push(first)?;
-    'more: while tokens.is_sign(next, sign::COMMA) {
+    'more: while tokens.is_sign(next, Sign::Comma) {
         let (ty, end) = read_type(alloc, tokens, next + 1)?;
         types.push(ty)?;
         next = end;
@@ -98,44 +98,59 @@ pub fn read_types(
     Ok((types, next))
 }
 
-/// `["{" [mode] type {"," [mode] type} "}"]`
+/// `["{" mode_types "}"]`
 #[cycle(ty)]
 fn bound_args(
     alloc: Global,
     tokens: &Tokens<'_>,
-    of_iter: bool,
+    callable: CallableKind,
     from: u32,
 ) -> Result<(Items<ModeTy>, u32), FrontFault>
     requires { from ≤ length tokens.now.list.now }
     ensures next { IfOk result (λ read. IsFrom tokens.now.list.now from read.1) }
     ensures refused { IfErr result (IsUnexpected tokens.now.file) }
 {
-    let mut args = Items::new(alloc);
-    if !tokens.is_sign(from, sign::LBRACE) {
-        return Ok((args, from));
+    if !tokens.is_sign(from, Sign::LeftBrace) {
+        return Ok((Items::new(alloc), from));
     }
-    let (first, mut next) = bound_arg(alloc, tokens, of_iter, from + 1)?;
+    let (args, next) = mode_types(alloc, tokens, callable, from + 1)?;
+    Ok((args, tokens.after_sign(next, Sign::RightBrace)?))
+}
+
+/// `mode_type {"," mode_type}`
+#[cycle(ty)]
+fn mode_types(
+    alloc: Global,
+    tokens: &Tokens<'_>,
+    callable: CallableKind,
+    from: u32,
+) -> Result<(Items<ModeTy>, u32), FrontFault>
+    ensures next { IfOk result (λ read. IsBehind tokens.now.list.now from read.1) }
+    ensures refused { IfErr result (IsUnexpected tokens.now.file) }
+{
+    let (first, mut next) = mode_type(alloc, tokens, callable, from)?;
+    let mut args = Items::new(alloc);
     args.push(first)?;
-    'more: while tokens.is_sign(next, sign::COMMA) {
-        let (arg, end) = bound_arg(alloc, tokens, of_iter, next + 1)?;
+    'more: while tokens.is_sign(next, Sign::Comma) {
+        let (arg, end) = mode_type(alloc, tokens, callable, next + 1)?;
         args.push(arg)?;
         next = end;
     }
-    Ok((args, tokens.after_sign(next, sign::RBRACE)?))
+    Ok((args, next))
 }
 
 /// `[mode] type`
 #[cycle(ty)]
-fn bound_arg(
+fn mode_type(
     alloc: Global,
     tokens: &Tokens<'_>,
-    of_iter: bool,
+    callable: CallableKind,
     from: u32,
 ) -> Result<(ModeTy, u32), FrontFault>
     ensures next { IfOk result (λ read. IsBehind tokens.now.list.now from read.1) }
     ensures refused { IfErr result (IsUnexpected tokens.now.file) }
 {
-    let (mode, next) = read_mode(tokens, of_iter, from);
+    let (mode, next) = read_mode(tokens, callable, from);
     let (ty, next) = read_type(alloc, tokens, next)?;
     Ok((ModeTy { mode, ty }, next))
 }
@@ -151,7 +166,7 @@ fn bound_result(
     ensures next { IfOk result (λ read. IsFrom tokens.now.list.now from read.1) }
     ensures refused { IfErr result (IsUnexpected tokens.now.file) }
 {
-    if !tokens.is_sign(from, sign::COLON) {
+    if !tokens.is_sign(from, Sign::Colon) {
         return Ok((None, from));
     }
     let (ty, next) = read_type(alloc, tokens, from + 1)?;
@@ -160,15 +175,18 @@ fn bound_result(
 
 /// The mode that is written at a place, and the place behind it; where none is written, `In` and the place itself.
 /// `once` is a mode of iters' arguments alone: elsewhere it is left, and can't begin what has to follow.
-pub fn read_mode(tokens: &Tokens<'_>, of_iter: bool, from: u32) -> (Mode, u32)
+pub fn read_mode(tokens: &Tokens<'_>, callable: CallableKind, from: u32) -> (Mode, u32)
     ensures from { from ≤ result.1 }
     ensures within { from ≤ length tokens.now.list.now → result.1 ≤ length tokens.now.list.now }
 {
     match tokens.kind(from) {
-        Some(TokenKind::Word(word::OUT)) => (Mode::Out, from + 1),
-        Some(TokenKind::Word(word::INOUT)) => (Mode::Inout, from + 1),
-        Some(TokenKind::Word(word::IN)) => (Mode::In, from + 1),
-        Some(TokenKind::Word(word::ONCE)) if of_iter => (Mode::Once, from + 1),
+        Some(TokenKind::Word(Word::Out)) => (Mode::Out, from + 1),
+        Some(TokenKind::Word(Word::Inout)) => (Mode::Inout, from + 1),
+        Some(TokenKind::Word(Word::In)) => (Mode::In, from + 1),
+        Some(TokenKind::Word(Word::Once)) if callable == CallableKind::Iter => (
+            Mode::Once,
+            from + 1,
+        ),
         _ => (Mode::In, from),
     }
 }

@@ -3,12 +3,12 @@ use Rattle.std.proofs.Common.{◌≡◌, ℕ, ◌+◌, ◌<◌, ◌≤◌, List,
 use Rattle.std.proofs.lemmas.List.{get_or_append_left, get_or_default, get_or_push, length-append}
 use Rattle.std.proofs.lemmas.Bool.{cases_lt}
 use Rattle.sa_lex.specs.declared.token.Token.{Token}
-use Rattle.sa_lex.specs.Tokens.{AreTokensOf, Follow, IsFaultOf, Refuses as RefusesText}
-use Rattle.sa_parse_expr.specs.Level.{Refuses as RefusesTokens}
+use Rattle.sa_lex.specs.Tokens.{AreTokensOf, Follow, IsFaultOf, RefusesText}
+use Rattle.sa_parse_expr.specs.Level.{RefusesTokens}
 use Rattle.sa_parse.specs.Refusals.{IsRefusal}
 use Rattle.sa_tree.specs.declared.refusal.FrontFault.{FrontFault}
 use Rattle.sa_tree.specs.declared.refusal.FrontFault.TheVariants.{Refused, NoMemory}
-use Rattle.sa_read.specs.Front.{AreTokensOfTexts, AreTokenizedUpTo, IsTakenUpTo, Refuses}
+use Rattle.sa_read.specs.Front.{AreTokensOfTexts, AreTokenizedUpTo, IsTakenUpTo, RefusesProgram}
 use Rattle.sa_read.specs.Program.{at}
 
 -- what holds up to a number and of it holds up to the next one
@@ -33,7 +33,7 @@ tokenized : (texts : List (List ℕ)) (lists : List (List Token)) (n : ℕ) → 
 tokenized texts lists n (count, each) k lt = (slice_index_or lists k [], each k lt)
 
 -- a text without tokens behind texts that have them
-pub lexical : (texts : List (List ℕ)) (lists : List (List Token)) (n : ℕ) (fault : FrontFault) → AreTokensOfTexts texts lists n → n < length texts → RefusesText (at texts n) n fault → Refuses texts fault
+pub lexical : (texts : List (List ℕ)) (lists : List (List Token)) (n : ℕ) (fault : FrontFault) → AreTokensOfTexts texts lists n → n < length texts → RefusesText (at texts n) n fault → RefusesProgram texts fault
 lexical texts lists n NoMemory each there refused = tt
 lexical texts lists n (Refused refusal) each there (fault, file) = inl (record {
   within = rw file there;
@@ -42,7 +42,7 @@ lexical texts lists n (Refused refusal) each there (fault, file) = inl (record {
 })
 
 -- a text whose tokens break a rule behind texts whose tokens don't
-pub breach : (texts : List (List ℕ)) (lists : List (List Token)) (n : ℕ) (fault : FrontFault) → AreTokensOfTexts texts lists (length texts) → n < length texts → IsTakenUpTo texts n → RefusesTokens (slice_index_or lists n []) n fault → Refuses texts fault
+pub breach : (texts : List (List ℕ)) (lists : List (List Token)) (n : ℕ) (fault : FrontFault) → AreTokensOfTexts texts lists (length texts) → n < length texts → IsTakenUpTo texts n → RefusesTokens (slice_index_or lists n []) n fault → RefusesProgram texts fault
 breach texts lists n NoMemory each there before refused = tt
 breach texts lists n (Refused refusal) each there before (broken, file) = inr (inl (record {
   tokenized = tokenized texts lists (length texts) each;
@@ -54,7 +54,7 @@ breach texts lists n (Refused refusal) each there before (broken, file) = inr (i
 }))
 
 -- a text that the grammar refuses
-pub grammar : (texts : List (List ℕ)) (lists : List (List Token)) (n : ℕ) (fault : FrontFault) → AreTokensOfTexts texts lists (length texts) → n < length texts → IsTakenUpTo texts (length texts) → IsRefusal (slice_index_or lists n []) n fault → Refuses texts fault
+pub grammar : (texts : List (List ℕ)) (lists : List (List Token)) (n : ℕ) (fault : FrontFault) → AreTokensOfTexts texts lists (length texts) → n < length texts → IsTakenUpTo texts (length texts) → IsRefusal (slice_index_or lists n []) n fault → RefusesProgram texts fault
 grammar texts lists n fault each there taken (inl broken) = breach texts lists n fault each there (λ k lt. taken k (omega arith)) broken
 grammar texts lists n NoMemory each there taken (inr (none, unexpected)) = tt
 grammar texts lists n (Refused refusal) each there taken (inr (none, (rule, file))) = inr (inr (record {

@@ -45,15 +45,15 @@ pub record IsBreach (texts : List (List ℕ)) (refusal : Refusal) : Type 0 where
   pub breach : IsFirstBreach tokens refusal
 
 -- all texts may be parsed, and the refusal is that of the grammar in one of them
-pub record IsUnexpected (texts : List (List ℕ)) (refusal : Refusal) : Type 0 where
+pub record IsGrammarFault (texts : List (List ℕ)) (refusal : Refusal) : Type 0 where
   pub taken : IsTakenUpTo texts (length texts)
   pub within : refusal.pos.file < length texts
   pub rule : refusal.rule ≡ UnexpectedToken
 
 -- the refusal is the first of these texts
 abbrev pub IsRefusalOf : List (List ℕ) → Refusal → Type 0
-IsRefusalOf texts refusal = IsLexicalFault texts refusal ⊎ (IsBreach texts refusal ⊎ IsUnexpected texts refusal)
+IsRefusalOf texts refusal = IsLexicalFault texts refusal ⊎ (IsBreach texts refusal ⊎ IsGrammarFault texts refusal)
 
-abbrev pub Refuses : List (List ℕ) → FrontFault → Type 0
-Refuses texts (Refused refusal) = IsRefusalOf texts refusal
-Refuses texts NoMemory = ⊤
+abbrev pub RefusesProgram : List (List ℕ) → FrontFault → Type 0
+RefusesProgram texts (Refused refusal) = IsRefusalOf texts refusal
+RefusesProgram texts NoMemory = ⊤

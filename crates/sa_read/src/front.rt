@@ -2,11 +2,11 @@
 
 ghost use Rattle.std.specs.Prelude.{◌<◌, [], length, slice_index_or, All, IfOk, IfErr};
 ghost use Rattle.sa_parse.specs.Refusals.{IsRefusal};
-ghost use Rattle.sa_read.specs.Front.{AreTokensOfTexts, IsTakenUpTo, Refuses};
+ghost use Rattle.sa_read.specs.Front.{AreTokensOfTexts, IsTakenUpTo, RefusesProgram};
 
 use crate::tokens::{lex_all, scan_all};
 use sa_lex::Token;
-use sa_parse::parse;
+use sa_parse::{FileKind, parse};
 use sa_tree::{Class, FrontFault};
 use sqlite_items::Items;
 use std::alloc::Global;
@@ -20,7 +20,7 @@ pub fn classes(alloc: Global, texts: &[Items<u8>]) -> Result<Items<Class>, Front
     requires short { All (λ text. length text < 4294967295) texts.now }
     requires few { length texts.now < 4294967295 }
     ensures taken { IfOk result (λ _. IsTakenUpTo texts.now (length texts.now)) }
-    ensures refused { IfErr result (Refuses texts.now) }
+    ensures refused { IfErr result (RefusesProgram texts.now) }
 {
     let lists = lex_all(alloc, texts)?;
     scan_all(alloc, texts, lists.as_slice())?;
@@ -37,7 +37,7 @@ fn parse_all(
     requires few { length texts.now < 4294967295 }
     requires tokens { AreTokensOfTexts texts.now lists.now (length texts.now) }
     requires taken { IsTakenUpTo texts.now (length texts.now) }
-    ensures refused { IfErr result (Refuses texts.now) }
+    ensures refused { IfErr result (RefusesProgram texts.now) }
 {
     let mut classes = Items::new(alloc);
     for number in 0..texts.len() {
@@ -61,5 +61,10 @@ fn parse_text(
 {
     let tokens = lists[number].as_slice();
     let text = texts[number].as_slice();
-    parse(alloc, tokens, text, number as u32, number == 0)
+    let file_kind = if number == 0 {
+        FileKind::Prelude
+    } else {
+        FileKind::Program
+    };
+    parse(alloc, tokens, text, number as u32, file_kind)
 }

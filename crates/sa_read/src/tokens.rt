@@ -1,9 +1,9 @@
 //! The tokens of each text of a program, and whether a parser may go over them.
 
 ghost use Rattle.std.specs.Prelude.{◌<◌, [], length, slice_index_or, All, IfOk, IfErr};
-ghost use Rattle.sa_lex.specs.Tokens.{AreTokensOf, Refuses as RefusesText};
-ghost use Rattle.sa_parse_expr.specs.Level.{Refuses as RefusesTokens};
-ghost use Rattle.sa_read.specs.Front.{AreTokensOfTexts, IsTakenText, IsTakenUpTo, Refuses};
+ghost use Rattle.sa_lex.specs.Tokens.{AreTokensOf, RefusesText};
+ghost use Rattle.sa_parse_expr.specs.Level.{RefusesTokens};
+ghost use Rattle.sa_read.specs.Front.{AreTokensOfTexts, IsTakenText, IsTakenUpTo, RefusesProgram};
 ghost use Rattle.sa_read.specs.Program.{at};
 
 use sa_lex::{Token, lex};
@@ -17,7 +17,7 @@ pub(crate) fn lex_all(alloc: Global, texts: &[Items<u8>]) -> Result<Items<Items<
     requires short { All (λ text. length text < 4294967295) texts.now }
     requires few { length texts.now < 4294967295 }
     ensures tokens { IfOk result (λ lists. AreTokensOfTexts texts.now lists (length texts.now)) }
-    ensures refused { IfErr result (Refuses texts.now) }
+    ensures refused { IfErr result (RefusesProgram texts.now) }
 {
     let mut lists = Items::new(alloc);
     for number in 0..texts.len() {
@@ -48,7 +48,7 @@ pub(crate) fn scan_all(
     requires tokens { AreTokensOfTexts texts.now lists.now (length texts.now) }
     requires few { length texts.now < 4294967295 }
     ensures taken { IfOk result (λ _. IsTakenUpTo texts.now (length texts.now)) }
-    ensures refused { IfErr result (Refuses texts.now) }
+    ensures refused { IfErr result (RefusesProgram texts.now) }
 {
     for number in 0..texts.len() {
         scan_text(alloc, texts, lists, number)?;

@@ -10,6 +10,7 @@ mod expr;
 use crate::expr::Printer;
 use anyhow::{Context, Result};
 use sa_lex::lex;
+use sa_parse::FileKind;
 use sa_tree::FrontFault;
 use std::alloc::{AllocError, Global};
 use std::fmt::Write;
@@ -80,7 +81,7 @@ fn shown_file(alloc: Global, src: &[u8]) -> Result<String, FrontFault> {
     if tokens.len() >= LONGEST {
         return Err(FrontFault::NoMemory);
     }
-    let classes = sa_parse::parse(alloc, tokens.as_slice(), src, 1, false)?;
+    let classes = sa_parse::parse(alloc, tokens.as_slice(), src, 1, FileKind::Program)?;
     let mut out = String::new(alloc);
     for one in classes.as_slice() {
         class::class(&mut out, one)?;

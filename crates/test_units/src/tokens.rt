@@ -2,8 +2,6 @@
 
 ghost use Rattle.std.specs.Prelude.{◌<◌, length};
 
-use sa_lex::sign::SIGNS;
-use sa_lex::word::{self, WORDS};
 use sa_lex::{TokenKind, lex};
 use sa_tree::FrontFault;
 use std::alloc::{AllocError, Global};
@@ -185,78 +183,10 @@ const SIGN_TEXTS: [(&[u8], &str); 7] = [
     (b"@", "E01: bad byte at 0"),
 ];
 
-/// Each word by its constant.
-const WORD_PLACES: [(u8, &str); 61] = [
-    (word::ABSTRACT, "abstract"),
-    (word::AND, "and"),
-    (word::ASSERT, "assert"),
-    (word::ATTR, "attr"),
-    (word::BIND, "bind"),
-    (word::BUILTIN, "builtin"),
-    (word::CASE, "case"),
-    (word::CLASS, "class"),
-    (word::CONST, "const"),
-    (word::ELSE, "else"),
-    (word::ELSIF, "elsif"),
-    (word::END, "end"),
-    (word::EXCEPTION, "exception"),
-    (word::FALSE, "false"),
-    (word::IF, "if"),
-    (word::IMMUTABLE, "immutable"),
-    (word::IN, "in"),
-    (word::INCLUDE, "include"),
-    (word::INOUT, "inout"),
-    (word::IS, "is"),
-    (word::LOOP, "loop"),
-    (word::NEW, "new"),
-    (word::ONCE, "once"),
-    (word::OR, "or"),
-    (word::OUT, "out"),
-    (word::PARTIAL, "partial"),
-    (word::PRIVATE, "private"),
-    (word::PROTECT, "protect"),
-    (word::QUIT, "quit"),
-    (word::RAISE, "raise"),
-    (word::READONLY, "readonly"),
-    (word::RETURN, "return"),
-    (word::SELF, "self"),
-    (word::SHARED, "shared"),
-    (word::STUB, "stub"),
-    (word::THEN, "then"),
-    (word::TRUE, "true"),
-    (word::TYPECASE, "typecase"),
-    (word::VOID, "void"),
-    (word::WHEN, "when"),
-    (word::YIELD, "yield"),
-    (word::ITER, "ITER"),
-    (word::ROUT, "ROUT"),
-    (word::SAME, "SAME"),
-    (word::PRE, "pre"),
-    (word::POST, "post"),
-    (word::INITIAL, "initial"),
-    (word::RESULT, "result"),
-    (word::INVARIANT, "invariant"),
-    (word::EXTERNAL, "external"),
-    (word::SPREAD, "spread"),
-    (word::FORK, "fork"),
-    (word::PAR, "par"),
-    (word::PARLOOP, "parloop"),
-    (word::LOCK, "lock"),
-    (word::UNLOCK, "unlock"),
-    (word::GUARD, "guard"),
-    (word::COHORT, "cohort"),
-    (word::SYNC, "sync"),
-    (word::NEAR, "near"),
-    (word::FAR, "far"),
-];
-
 /// The kind of a token, and what it stands for.
 fn push_kind(line: &mut String, kind: &TokenKind) -> Result<(), AllocError> {
     match kind {
-        TokenKind::Word(place) => {
-            let word = WORDS.get(*place as usize).copied().unwrap_or("?");
-            write!(line, "word {word}")
-        }
+        TokenKind::Word(word) => write!(line, "word {word}"),
         TokenKind::ClassName => line.push_str("class"),
         TokenKind::AbstractName => line.push_str("abstract"),
         TokenKind::Lower => line.push_str("lower"),
@@ -267,10 +197,7 @@ fn push_kind(line: &mut String, kind: &TokenKind) -> Result<(), AllocError> {
             let bytes = name.as_slice();
             write!(line, "text {bytes:?}")
         }
-        TokenKind::Sign(place) => {
-            let sign = SIGNS.get(*place as usize).copied().unwrap_or("?");
-            write!(line, "sign {sign}")
-        }
+        TokenKind::Sign(sign) => write!(line, "sign {sign}"),
     }
 }
 
@@ -324,11 +251,4 @@ fn each_text_has_its_tokens(rt: HostRuntime) -> Result<(), Fail> {
         expect_all(&rt, rt.alloc(), cases)?;
     }
     Ok(())
-}
-
-#[test]
-fn the_constant_of_a_word_is_its_place(rt: HostRuntime) {
-    for (place, spelling) in &WORD_PLACES {
-        assert_eq!(rt; WORDS.get(*place as usize).copied(), Some(*spelling));
-    }
 }

@@ -4,28 +4,31 @@ use Rattle.sa_parse_expr.specs.Places.{IsBehind}
 use Rattle.sa_parse_expr.proofs.types.+ty.Given as goal
 
 abbrev pub decreases-read_type : goal.decreases-read_type
-decreases-read_type l = 2 * (length l.tokens.now.list.now - l.from)
+decreases-read_type l = 3 * (length l.tokens.now.list.now - l.from)
 
-abbrev pub decreases-params : goal.decreases-params
-decreases-params l = 2 * (length l.tokens.now.list.now - l.from)
+abbrev pub decreases-given_types : goal.decreases-given_types
+decreases-given_types l = 3 * (length l.tokens.now.list.now - l.from)
 
 abbrev pub decreases-read_types : goal.decreases-read_types
-decreases-read_types l = 2 * (length l.tokens.now.list.now - l.from) + 1
+decreases-read_types l = 3 * (length l.tokens.now.list.now - l.from) + 1
 
 abbrev pub decreases-bound_args : goal.decreases-bound_args
-decreases-bound_args l = 2 * (length l.tokens.now.list.now - l.from)
+decreases-bound_args l = 3 * (length l.tokens.now.list.now - l.from)
 
-abbrev pub decreases-bound_arg : goal.decreases-bound_arg
-decreases-bound_arg l = 2 * (length l.tokens.now.list.now - l.from) + 1
+abbrev pub decreases-mode_types : goal.decreases-mode_types
+decreases-mode_types l = 3 * (length l.tokens.now.list.now - l.from) + 2
+
+abbrev pub decreases-mode_type : goal.decreases-mode_type
+decreases-mode_type l = 3 * (length l.tokens.now.list.now - l.from) + 1
 
 abbrev pub decreases-bound_result : goal.decreases-bound_result
-decreases-bound_result l = 2 * (length l.tokens.now.list.now - l.from)
+decreases-bound_result l = 3 * (length l.tokens.now.list.now - l.from)
 
-abbrev pub invariant-bound_args-more : goal.invariant-bound_args-more
-invariant-bound_args-more l = IsBehind l.tokens.list.now l.from l.next
+abbrev pub invariant-mode_types-more : goal.invariant-mode_types-more
+invariant-mode_types-more l = IsBehind l.tokens.list.now l.from l.next
 
-abbrev pub decreases-bound_args-more : goal.decreases-bound_args-more
-decreases-bound_args-more l = length l.tokens.list.now - l.next
+abbrev pub decreases-mode_types-more : goal.decreases-mode_types-more
+decreases-mode_types-more l = length l.tokens.list.now - l.next
 
 abbrev pub invariant-read_types-more : goal.invariant-read_types-more
 invariant-read_types-more l = IsBehind l.tokens.list.now l.from l.next

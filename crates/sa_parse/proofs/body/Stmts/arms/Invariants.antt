@@ -1,6 +1,6 @@
 use Rattle.std.proofs.Common.{length, ◌-◌}
 use Rattle.sa_parse_expr.specs.Places.{IsBehind}
-use Rattle.sa_parse_expr.proofs.grammar.Grammar.prod.Given as goal
+use Rattle.sa_parse.proofs.body.Stmts.arms.Given as goal
 
 abbrev pub invariant-more : goal.invariant-more
 invariant-more g l = IsBehind l.self.tokens.list.now l.from l.next

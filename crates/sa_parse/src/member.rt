@@ -1,40 +1,42 @@
-//! Features: one function for each alternative of their grammar.
+//! The members of a class, which are its features and includes: one function for each alternative of their grammar.
 //!
 //! ```text
-//! feature = ["private"] sig "is" stmts "end"
-//!         | ["private"] "stub" sig                    in partial classes alone
-//!         | ["private"] "builtin" sig                 in the prelude alone
-//!         | ["private" | "readonly"] attr
-//!         | ["private" | "readonly"] shared
-//!         | ["private"] const
-//!         | ["private"] include
+//! member = ["private"] sig whole_body
+//!        | ["private"] "stub" sig                    in partial classes alone
+//!        | ["private"] "builtin" sig                 in the prelude alone
+//!        | ["private" | "readonly"] attr
+//!        | ["private" | "readonly"] shared
+//!        | ["private"] const
+//!        | ["private"] include
+//! whole_body = "is" stmts "end"
 //! ```
 
 ghost use Rattle.std.specs.Prelude.{IfErr, IfOk};
 ghost use Rattle.sa_parse_expr.specs.Places.{IsBehind, IsUnexpected};
 
+use crate::body::read_body;
 use crate::declared::{attr, constants, shared};
+use crate::file::FileKind;
 use crate::include::include;
 use crate::sharing::Sharing;
 use crate::signature::{Signature, sig};
-use crate::statement::stmts;
-use sa_lex::{TokenKind, word};
+use sa_lex::{TokenKind, Word};
 use sa_parse_expr::Tokens;
-use sa_tree::{Access, Feature, FrontFault, Include, Kind, Name, Part, Shared};
+use sa_tree::{Access, Body, Feature, FrontFault, Include, Kind, Name, Part, Shared};
 use sqlite_items::Items;
 use std::alloc::Global;
 
-/// The class that features stand in.
+/// The class that members stand in.
 #[derive(Clone, Copy)]
-pub(crate) struct Within<'a> {
-    pub(crate) class: &'a Name,
+pub(crate) struct ClassContext<'a> {
+    pub(crate) name: &'a Name,
     pub(crate) kind: Kind,
-    pub(crate) prelude: bool,
+    pub(crate) file_kind: FileKind,
 }
 
-/// What a feature of the grammar gives: an include, or a feature of the tree for each of its names.
+/// What a member of the grammar gives: an include, or a feature of the tree for each of its names.
 #[derive(Drop)]
-pub(crate) enum Member {
+pub(crate) enum Declaration {
     Features(Items<Feature>),
     Include(Include),
 }
@@ -50,26 +52,26 @@ pub(crate) fn of_sig(sig: Signature, access: Access, part: Part) -> Feature {
     }
 }
 
-/// A feature of a class.
-pub(crate) fn feature(
+/// A member of a class.
+pub(crate) fn member(
     alloc: Global,
     tokens: &Tokens<'_>,
-    within: Within<'_>,
+    class: ClassContext<'_>,
     sharing: &mut Sharing,
     from: u32,
-) -> Result<(Member, u32), FrontFault>
+) -> Result<(Declaration, u32), FrontFault>
     ensures next { IfOk result (λ read. IsBehind tokens.now.list.now from read.1) }
     ensures refused { IfErr result (IsUnexpected tokens.now.file) }
 {
     match tokens.kind(from) {
-        Some(TokenKind::Word(word::PRIVATE)) => {
-            after_access(alloc, tokens, within, sharing, Access::Private, from + 1)
+        Some(TokenKind::Word(Word::Private)) => {
+            after_access(alloc, tokens, class, sharing, Access::Private, from + 1)
         }
-        Some(TokenKind::Word(word::READONLY)) => {
+        Some(TokenKind::Word(Word::Readonly)) => {
             let (features, next) = variables(alloc, tokens, sharing, Access::ReadOnly, from + 1)?;
-            Ok((Member::Features(features), next))
+            Ok((Declaration::Features(features), next))
         }
-        _ => after_access(alloc, tokens, within, sharing, Access::Public, from),
+        _ => after_access(alloc, tokens, class, sharing, Access::Public, from),
     }
 }
 
@@ -77,33 +79,32 @@ pub(crate) fn feature(
 fn after_access(
     alloc: Global,
     tokens: &Tokens<'_>,
-    within: Within<'_>,
+    class: ClassContext<'_>,
     sharing: &mut Sharing,
     access: Access,
     from: u32,
-) -> Result<(Member, u32), FrontFault>
+) -> Result<(Declaration, u32), FrontFault>
     ensures next { IfOk result (λ read. IsBehind tokens.now.list.now from read.1) }
     ensures refused { IfErr result (IsUnexpected tokens.now.file) }
 {
     match tokens.kind(from) {
-        Some(TokenKind::Word(word::INCLUDE)) => {
-            let private = access == Access::Private;
-            let (include, next) = include(alloc, tokens, private, from + 1)?;
-            Ok((Member::Include(include), next))
+        Some(TokenKind::Word(Word::Include)) => {
+            let (include, next) = include(alloc, tokens, access, from + 1)?;
+            Ok((Declaration::Include(include), next))
         }
-        Some(TokenKind::Word(word::ATTR | word::SHARED)) => {
+        Some(TokenKind::Word(Word::Attr | Word::Shared)) => {
             let (features, next) = variables(alloc, tokens, sharing, access, from)?;
-            Ok((Member::Features(features), next))
+            Ok((Declaration::Features(features), next))
         }
-        Some(TokenKind::Word(word::CONST)) => {
+        Some(TokenKind::Word(Word::Const)) => {
             let (features, next) = constants(alloc, tokens, sharing, access, from + 1)?;
-            Ok((Member::Features(features), next))
+            Ok((Declaration::Features(features), next))
         }
         _ => {
-            let (feature, next) = called(alloc, tokens, within, sharing, access, from)?;
+            let (feature, next) = called(alloc, tokens, class, sharing, access, from)?;
             let mut features = Items::new(alloc);
             features.push(feature)?;
-            Ok((Member::Features(features), next))
+            Ok((Declaration::Features(features), next))
         }
     }
 }
@@ -120,17 +121,17 @@ fn variables(
     ensures refused { IfErr result (IsUnexpected tokens.now.file) }
 {
     match tokens.kind(from) {
-        Some(TokenKind::Word(word::ATTR)) => attr(alloc, tokens, sharing, access, from + 1),
-        Some(TokenKind::Word(word::SHARED)) => shared(alloc, tokens, sharing, access, from + 1),
+        Some(TokenKind::Word(Word::Attr)) => attr(alloc, tokens, sharing, access, from + 1),
+        Some(TokenKind::Word(Word::Shared)) => shared(alloc, tokens, sharing, access, from + 1),
         _ => Err(tokens.unexpected(from)),
     }
 }
 
-/// `sig "is" stmts "end" | "stub" sig | "builtin" sig`
+/// `sig whole_body | "stub" sig | "builtin" sig`
 fn called(
     alloc: Global,
     tokens: &Tokens<'_>,
-    within: Within<'_>,
+    class: ClassContext<'_>,
     sharing: &mut Sharing,
     access: Access,
     from: u32,
@@ -139,12 +140,12 @@ fn called(
     ensures refused { IfErr result (IsUnexpected tokens.now.file) }
 {
     match tokens.kind(from) {
-        Some(TokenKind::Word(word::STUB)) if within.kind == Kind::Partial => {
+        Some(TokenKind::Word(Word::Stub)) if class.kind == Kind::Partial => {
             let (sig, next) = sig(alloc, tokens, sharing, from + 1)?;
             Ok((of_sig(sig, access, Part::Stub), next))
         }
-        Some(TokenKind::Word(word::BUILTIN)) if within.prelude => {
-            builtin(alloc, tokens, within, sharing, access, from + 1)
+        Some(TokenKind::Word(Word::Builtin)) if class.file_kind == FileKind::Prelude => {
+            builtin(alloc, tokens, class, sharing, access, from + 1)
         }
         _ => routine(alloc, tokens, sharing, access, from),
     }
@@ -154,7 +155,7 @@ fn called(
 fn builtin(
     alloc: Global,
     tokens: &Tokens<'_>,
-    within: Within<'_>,
+    class: ClassContext<'_>,
     sharing: &mut Sharing,
     access: Access,
     from: u32,
@@ -163,12 +164,12 @@ fn builtin(
     ensures refused { IfErr result (IsUnexpected tokens.now.file) }
 {
     let (sig, next) = sig(alloc, tokens, sharing, from)?;
-    let class = within.class.copy(alloc)?;
+    let of = class.name.copy(alloc)?;
     let name = sig.name.name.copy(alloc)?;
-    Ok((of_sig(sig, access, Part::Builtin(class, name)), next))
+    Ok((of_sig(sig, access, Part::Builtin(of, name)), next))
 }
 
-/// `sig "is" stmts "end"`
+/// `sig whole_body`
 fn routine(
     alloc: Global,
     tokens: &Tokens<'_>,
@@ -180,9 +181,16 @@ fn routine(
     ensures refused { IfErr result (IsUnexpected tokens.now.file) }
 {
     let (sig, next) = sig(alloc, tokens, sharing, from)?;
-    let next = tokens.after_word(next, word::IS)?;
-    let (body, next) = stmts(alloc, tokens, next)?;
-    let next = tokens.after_word(next, word::END)?;
-    let body = Shared::new(alloc, body)?;
+    let (body, next) = whole_body(alloc, tokens, next)?;
     Ok((of_sig(sig, access, Part::Routine(body)), next))
+}
+
+/// `"is" stmts "end"`
+fn whole_body(alloc: Global, tokens: &Tokens<'_>, from: u32) -> Result<(Body, u32), FrontFault>
+    ensures next { IfOk result (λ read. IsBehind tokens.now.list.now from read.1) }
+    ensures refused { IfErr result (IsUnexpected tokens.now.file) }
+{
+    let (body, next) = read_body(alloc, tokens, Word::Is, from)?;
+    let next = tokens.after_word(next, Word::End)?;
+    Ok((Shared::new(alloc, body)?, next))
 }

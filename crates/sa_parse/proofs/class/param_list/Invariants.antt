@@ -1,9 +1,9 @@
 use Rattle.std.proofs.Common.{length, ◌-◌}
 use Rattle.sa_parse_expr.specs.Places.{IsBehind}
-use Rattle.sa_parse_expr.proofs.grammar.Grammar.expr.Given as goal
+use Rattle.sa_parse.proofs.class.param_list.Given as goal
 
 abbrev pub invariant-more : goal.invariant-more
-invariant-more g l = IsBehind l.self.tokens.list.now l.from l.next
+invariant-more l = IsBehind l.tokens.list.now l.from l.next
 
 abbrev pub decreases-more : goal.decreases-more
-decreases-more g l = length l.self.tokens.list.now - l.next
+decreases-more l = length l.tokens.list.now - l.next

@@ -1,0 +1,17 @@
+-- The weaker operators before the stronger ones, and an operation before its operands.
+use Rattle.std.proofs.Common.{length, ◌+◌, ◌-◌, ◌*◌}
+use Rattle.sa_parse_expr.specs.Places.{IsBehind}
+use Rattle.sa_parse_expr.proofs.Precedences.{weaker_than}
+use Rattle.sa_parse_expr.proofs.grammar.Grammar.+operation.Given as goal
+
+abbrev pub decreases-operation : goal.decreases-operation
+decreases-operation g l = 2 * weaker_than l.precedence + 1
+
+abbrev pub decreases-operand : goal.decreases-operand
+decreases-operand g l = 2 * weaker_than l.precedence
+
+abbrev pub invariant-operation-more : goal.invariant-operation-more
+invariant-operation-more g l = IsBehind l.self.tokens.list.now l.from l.next
+
+abbrev pub decreases-operation-more : goal.decreases-operation-more
+decreases-operation-more g l = length l.self.tokens.list.now - l.next
