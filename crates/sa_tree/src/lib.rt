@@ -2,6 +2,7 @@
 #![tactic(auto)]
 
 mod class;
+mod contract;
 mod expr;
 mod fault_kind;
 mod name;
@@ -13,6 +14,7 @@ mod stmt;
 mod ty;
 
 pub use class::{Access, Change, Class, Feature, Flat, Formal, Include, Kind, Param, Part};
+pub use contract::Contract;
 pub use expr::{Expr, Given, Op, Recv};
 pub use fault_kind::FaultKind;
 pub use name::Name;

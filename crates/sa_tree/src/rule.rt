@@ -86,6 +86,8 @@ pub enum Rule {
     ExceptionOutsideBranch,
     /// E45: a bind is of something that it has no form for.
     BadBind,
+    /// E46: a condition calls more than what only reads.
+    ConditionNotQuiet,
     /// E50: the files have more than 4,194,304 bytes together.
     SourceTooLarge,
     /// E51: more than 2,000 instances are needed.
@@ -153,6 +155,7 @@ impl Rule {
             Rule::DeclaredTwice => "E43: declared twice",
             Rule::ExceptionOutsideBranch => "E44: exception outside a branch",
             Rule::BadBind => "E45: bad bind",
+            Rule::ConditionNotQuiet => "E46: condition not quiet",
             Rule::SourceTooLarge => "E50: source too large",
             Rule::TooManyInstances => "E51: too many instances",
             Rule::TypeTooDeep => "E52: type too deep",
