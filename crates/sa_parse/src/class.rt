@@ -14,7 +14,7 @@
 //! members       = [member] {";" [member]}
 //! ```
 
-ghost use Rattle.std.specs.Prelude.{◌≡◌, ◌+◌, ◌<◌, ◌≤◌, IfErr, IfOk, OnOk, length};
+ghost use Rattle.std.specs.Prelude.{◌≡◌, ◌+◌, ◌<◌, ◌≤◌, [], IfErr, IfOk, OnOk, length};
 ghost use Rattle.sa_parse.specs.Features.{features_in};
 ghost use Rattle.sa_parse_expr.specs.Places.{IsBehind, IsFrom, IsUnexpected};
 
@@ -60,7 +60,9 @@ pub(crate) struct Inside {
 }
 
 impl Inside {
-    fn new(alloc: Global) -> Inside {
+    fn new(alloc: Global) -> Inside
+        ensures { result.features ≡ [] }
+    {
         Inside {
             includes: Items::new(alloc),
             features: Items::new(alloc),
@@ -204,10 +206,8 @@ fn abstract_inside(
     let next = tokens.after_word(from, Word::Is)?;
     let (features, next) = signatures(alloc, tokens, sharing, next)?;
     let next = tokens.after_word(next, Word::End)?;
-    let inside = Inside {
-        features,
-        ..Inside::new(alloc)
-    };
+    let mut inside = Inside::new(alloc);
+    inside.features = features;
     Ok((inside, next))
 }
 

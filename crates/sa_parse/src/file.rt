@@ -4,7 +4,7 @@
 //! file = [class] {";" [class]}
 //! ```
 
-ghost use Rattle.std.specs.Prelude.{◌≡◌, ◌+◌, ◌<◌, ◌≤◌, All, IfErr, IfOk, OnOk, length};
+ghost use Rattle.std.specs.Prelude.{◌≡◌, ◌+◌, ◌<◌, ◌≤◌, [], All, IfErr, IfOk, OnOk, length};
 ghost use Rattle.sa_lex.specs.Token.{IsWithin};
 ghost use Rattle.sa_parse_expr.specs.Level.{AreTaken};
 ghost use Rattle.sa_parse_expr.specs.Places.{IsFrom, IsUnexpected};
@@ -15,7 +15,7 @@ use crate::sharing::Sharing;
 use crate::starts::begins_class;
 use sa_lex::{Sign, Token};
 use sa_parse_expr::{Tokens, scan};
-use sa_tree::{Class, Contract, FrontFault};
+use sa_tree::{Class, Condition, Contract, FrontFault};
 use sqlite_items::Items;
 use std::alloc::{AllocError, Global};
 
@@ -36,7 +36,7 @@ pub struct Parsed {
 
 impl Parsed {
     fn new(alloc: Global) -> Parsed
-        ensures { length result.classes ≡ 0 }
+        ensures { result.classes ≡ [] }
     {
         Parsed {
             classes: Items::new(alloc),
@@ -48,16 +48,34 @@ impl Parsed {
     fn put(&mut self, place: u32, one: Option<WholeClass>) -> Result<(), AllocError>
         ensures { OnOk result (length self.new.classes ≤ length self.old.classes + 1) }
     {
-        let Some(whole) = one else {
+        let Some(
+            WholeClass {
+                class,
+                clauses,
+                invariant,
+            },
+        ) = one
+        else {
             return Ok(());
         };
-        self.classes.push(whole.class)?;
-        self.contracts.append(whole.clauses)?;
-        if let Some(holds) = whole.invariant {
-            let class = place;
-            self.contracts.push(Contract::Invariant { class, holds })?;
+        self.classes.push(class)?;
+        self.put_contracts(place, clauses, invariant)
+    }
+
+    /// Puts the contracts of the class with this place at the end.
+    fn put_contracts(
+        &mut self,
+        class: u32,
+        clauses: Items<Contract>,
+        invariant: Option<Condition>,
+    ) -> Result<(), AllocError>
+        ensures { OnOk result (self.new.classes ≡ self.old.classes) }
+    {
+        self.contracts.append(clauses)?;
+        match invariant {
+            Some(holds) => self.contracts.push(Contract::Invariant { class, holds }),
+            None => Ok(()),
         }
-        Ok(())
     }
 }
 
@@ -77,9 +95,8 @@ pub fn parse(
     first: u32,
 ) -> Result<Parsed, FrontFault>
     requires within { All (IsWithin src.now) tokens.now }
-    requires few { length tokens.now < 4294967295 }
     requires short { length src.now < 4294967295 }
-    requires places { first + length tokens.now < 4294967295 }
+    requires few { first + length tokens.now < 4294967295 }
     ensures taken { OnOk result (AreTaken tokens.now (length tokens.now)) }
     ensures refused { IfErr result (IsRefusal tokens.now file) }
 {

@@ -9,7 +9,7 @@ use sa_lex::Token;
 use sa_parse::{FileKind, Parsed, parse};
 use sa_tree::{FrontFault, NoMemory};
 use sqlite_items::Items;
-use std::alloc::Global;
+use std::alloc::{AllocError, Global};
 
 /// The places of classes are below this.
 const MOST_PLACES: usize = u32::MAX as usize;
@@ -43,15 +43,23 @@ fn parse_all(
     requires taken { IsTakenUpTo texts.now (length texts.now) }
     ensures refused { IfErr result (RefusesProgram texts.now) }
 {
-    let mut classes = Items::new(alloc);
-    let mut contracts = Items::new(alloc);
+    let mut parsed = Parsed {
+        classes: Items::new(alloc),
+        contracts: Items::new(alloc),
+    };
     for number in 0..texts.len() {
-        let first = first_place(classes.len(), lists[number].len())?;
+        let first = first_place(parsed.classes.len(), lists[number].len())?;
         let file = parse_text(alloc, texts, lists, number, first)?;
-        classes.append(file.classes)?;
-        contracts.append(file.contracts)?;
+        append(&mut parsed, file)?;
     }
-    Ok(Parsed { classes, contracts })
+    Ok(parsed)
+}
+
+/// Puts what a file declares behind what is there.
+fn append(parsed: &mut Parsed, file: Parsed) -> Result<(), AllocError> {
+    let Parsed { classes, contracts } = file;
+    parsed.classes.append(classes)?;
+    parsed.contracts.append(contracts)
 }
 
 /// The place of the class behind so many, where those of so many tokens can be numbered from there.

@@ -1,9 +1,9 @@
-use Rattle.std.proofs.Common.{length, ◌-◌}
+use Rattle.std.proofs.Common.{length, ◌-◌, ◌≤◌}
 use Rattle.sa_parse_expr.specs.Places.{IsFrom}
 use Rattle.sa_parse.proofs.class.members.Given as goal
 
 abbrev pub invariant-more : goal.invariant-more
-invariant-more l = IsFrom l.tokens.list.now l.from l.next
+invariant-more l = (IsFrom l.tokens.list.now l.from l.next) × (length l.inside.features ≤ l.next)
 
 abbrev pub decreases-more : goal.decreases-more
 decreases-more l = length l.tokens.list.now - l.next

@@ -1,9 +1,10 @@
-use Rattle.std.proofs.Common.{length, ◌-◌, ◌≤◌}
+use Rattle.std.proofs.Common.{length, ◌+◌, ◌-◌, ◌≤◌}
 use Rattle.sa_parse_expr.specs.Places.{IsFrom}
 use Rattle.sa_parse.proofs.declared.counted_constants.Given as goal
 
 abbrev pub invariant-more : goal.invariant-more
-invariant-more l = (IsFrom l.tokens.list.now l.from l.next) × (l.number ≤ l.next)
+invariant-more l =
+    (IsFrom l.tokens.list.now l.from l.next) × (l.number ≤ l.next) × (l.from + length l.features ≤ l.next + 1)
 
 abbrev pub decreases-more : goal.decreases-more
 decreases-more l = length l.tokens.list.now - l.next
