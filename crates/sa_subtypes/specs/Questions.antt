@@ -15,9 +15,9 @@ use Rattle.sa_subtypes.specs.declared.part.Part.{Part}
 use Rattle.sa_subtypes.specs.declared.part.Part.TheVariants as part
 use Rattle.sa_subtypes.specs.declared.question.Question.{Question}
 use Rattle.sa_subtypes_pairs.specs.Spelled.{count_types, count_args, count_result, written_args, written_result, nowhere, same_nodes, spelled, spelled_all, Item, a_type, a_mode}
-use Rattle.sa_subtypes_pairs.specs.Words.{Values, AreWords, put}
+use Rattle.sa_subtypes_pairs.specs.Terms.{Values, AreTerms, substitute}
 
--- ---- the words of types
+-- ---- the terms of types
 
 abbrev pub spelled_args : BareArgs → List Node
 spelled_args = written_args nowhere same_nodes
@@ -25,16 +25,16 @@ spelled_args = written_args nowhere same_nodes
 abbrev pub spelled_result : BareResult → List Node
 spelled_result = written_result nowhere same_nodes
 
--- a type or the mode of an argument as a word
-abbrev pub word_of : Item → List Node
-word_of (a_type t) = spelled t
-word_of (a_mode m) = node.Passed m ∷ []
+-- a type or the mode of an argument as a term
+abbrev pub term_of : Item → List Node
+term_of (a_type t) = spelled t
+term_of (a_mode m) = node.Passed m ∷ []
 
 -- ---- whether two types are an instance of a pair
 
--- the nodes are those of a pair with as many arguments as the types have, and these are the types' with words in place of the variables
+-- the nodes are those of a pair with as many arguments as the types have, and these are the types' with terms for the variables
 abbrev pub IsPairFor : List Node → BareTys → BareTys → Type 0
-IsPairFor nodes lower upper = (name : List ℕ) × (below : List Node) × (above : List Node) × (values : Values) × (nodes ≡ node.List (count_types lower) ∷ below ++ node.Class name (count_types upper) ∷ above) × AreWords values × (put values below ≡ spelled_all lower) × (put values above ≡ spelled_all upper)
+IsPairFor nodes lower upper = (name : List ℕ) × (below : List Node) × (above : List Node) × (values : Values) × (nodes ≡ node.List (count_types lower) ∷ below ++ node.Class name (count_types upper) ∷ above) × AreTerms values × (substitute values below ≡ spelled_all lower) × (substitute values above ≡ spelled_all upper)
 
 -- ---- one node
 
@@ -58,7 +58,7 @@ abbrev pub is_passed : Mode → Node → Bool
 is_passed m (node.Passed other) = same_mode other m
 is_passed m _ = false
 
--- whether it is the node with which the word of a type begins
+-- whether it is the node with which the term of a type begins
 abbrev pub is_type_head : BareTy → Node → Bool
 is_type_head (Named name args) a = is_class name (count_types args) a
 is_type_head Same a = is_list 0 a

@@ -28,7 +28,7 @@ pub(crate) struct Question<'a> {
     pub upper: &'a [Ty],
 }
 
-/// Whether there are words for the variables with which the pair is that of two types with these arguments.
+/// Whether there are terms for the variables with which the pair is that of two types with these arguments.
 #[tactic(auto, using(crate::proofs::Comparing::pair_steps))]
 pub(crate) fn pair_fits(nodes: &[Node], lower: &[Ty], upper: &[Ty]) -> bool
     ensures { result ≡ pair_fits (map bare lower.now) (map bare upper.now) nodes.now }

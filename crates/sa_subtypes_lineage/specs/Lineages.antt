@@ -9,7 +9,7 @@ use Rattle.sa_subtypes_lineage.specs.declared.lineage.Lineage.{Lineage}
 use Rattle.std.specs.Option.{option_map_or}
 use Rattle.sa_subtypes_pairs.specs.Numbers.{name_of, arity_of}
 use Rattle.sa_subtypes_pairs.specs.Pairs.{nodes_of}
-use Rattle.sa_subtypes_pairs.specs.Words.{behind, IsInstance, SameInstances, IsComposed}
+use Rattle.sa_subtypes_pairs.specs.Terms.{behind, IsInstance, SameInstances, IsComposed}
 
 -- ---- what declared edges lead to
 
@@ -32,7 +32,7 @@ pub record At : Type 0 where
 abbrev pub class_at : ℕ → ℕ → List Node → At
 class_at class count args = record { class = class; count = count; args = args }
 
--- the arguments are so many words
+-- the arguments are so many terms
 abbrev pub AreArgs : ℕ → List Node → Type 0
 AreArgs count args = behind args count ≡ Some []
 

@@ -1,5 +1,5 @@
 use Rattle.std.proofs.Common.{◌≡◌, ◌≤◌, length, take}
-use Rattle.sa_subtypes_pairs.proofs.equations.difference.Given as goal
+use Rattle.sa_subtypes_pairs.proofs.unification.difference.Given as goal
 
 abbrev pub invariant-loop-i : goal.invariant-loop-i
 invariant-loop-i l = record {

@@ -1,13 +1,13 @@
--- Types with variables as lists of nodes, in which a node comes before those that it holds, and types put in place of the variables.
+-- Types with variables as lists of nodes, in which a node comes before those that it holds, and types substituted for the variables.
 use Rattle.std.specs.Prelude.{◌≡◌, ◌↔◌, ℕ, zero, suc, ◌+◌, max, ◌||◌, Bool, true, false, cond, nat_eq, List, [], ◌∷◌, ◌++◌, get_or, Option, Some, None, flat_map}
 use Rattle.sa_subtypes_pairs.specs.declared.pattern.Node.{Node}
 use Rattle.sa_subtypes_pairs.specs.declared.pattern.Node.TheVariants as node
-use Rattle.sa_subtypes_pairs.specs.declared.equations.Step.{Step}
-use Rattle.sa_subtypes_pairs.specs.declared.equations.Step.TheVariants as step
+use Rattle.sa_subtypes_pairs.specs.declared.unification.Step.{Step}
+use Rattle.sa_subtypes_pairs.specs.declared.unification.Step.TheVariants as step
 
--- ---- words: a node with all that it holds
+-- ---- terms: a node with all that it holds
 
--- how many words a node holds
+-- how many terms a node holds
 abbrev pub held : Node → ℕ
 held (node.Variable number) = 0
 held (node.Class name count) = count
@@ -16,25 +16,25 @@ held (node.Iter count) = count
 held (node.Passed mode) = 0
 held (node.List count) = count
 
--- the nodes behind so many words at the head of a list, if they are there
+-- the nodes behind so many terms at the head of a list, if they are there
 abbrev pub behind : List Node → ℕ → Option (List Node)
 behind [] zero = Some []
 behind [] (suc n) = None
 behind (a ∷ more) zero = Some (a ∷ more)
 behind (a ∷ more) (suc n) = behind more (held a + n)
 
--- the nodes are one word
-abbrev pub IsWord : List Node → Type 0
-IsWord nodes = behind nodes 1 ≡ Some []
+-- the nodes are one term
+abbrev pub IsTerm : List Node → Type 0
+IsTerm nodes = behind nodes 1 ≡ Some []
 
--- ---- words in place of variables
+-- ---- substitution: terms for variables
 
 abbrev pub Values : Type 0
 Values = ℕ → List Node
 
--- each variable stands for one word
-abbrev pub AreWords : Values → Type 0
-AreWords values = (number : ℕ) → IsWord (values number)
+-- each variable stands for one term
+abbrev pub AreTerms : Values → Type 0
+AreTerms values = (number : ℕ) → IsTerm (values number)
 
 abbrev pub value_of : Values → Node → List Node
 value_of values (node.Variable number) = values number
@@ -44,13 +44,13 @@ value_of values (node.Iter count) = node.Iter count ∷ []
 value_of values (node.Passed mode) = node.Passed mode ∷ []
 value_of values (node.List count) = node.List count ∷ []
 
--- the nodes with these words in place of the variables
-abbrev pub put : Values → List Node → List Node
-put values nodes = flat_map (value_of values) nodes
+-- the nodes with these terms substituted for the variables
+abbrev pub substitute : Values → List Node → List Node
+substitute values nodes = flat_map (value_of values) nodes
 
--- the variable stands for this word, and each other one for itself
+-- the variable stands for this term, and each other one for itself
 abbrev pub only : ℕ → List Node → Values
-only number word other = cond (nat_eq other number) word (node.Variable other ∷ [])
+only number term other = cond (nat_eq other number) term (node.Variable other ∷ [])
 
 -- each variable stands for one that many numbers later
 abbrev pub later : ℕ → Values
@@ -89,39 +89,60 @@ Differ [] others = Unit {0}
 Differ (a ∷ more) [] = Unit {0}
 Differ (a ∷ more) (b ∷ others) = a ≡ b → ⊥
 
--- no words make the two lists equal
+-- the two lists have no unifier: no terms make them equal
 pub record NeverEqual (one other : List Node) : Type 0 where
-  pub never : (values : Values) → AreWords values → put values one ≡ put values other → ⊥
+  pub never : (values : Values) → AreTerms values → substitute values one ≡ substitute values other → ⊥
 
 -- what is to be done next so that the two lists become equal
 abbrev pub IsStep : List Node → List Node → Step → Type 0
 IsStep one other step.Equal = one ≡ other
 IsStep one other step.Never = NeverEqual one other
-IsStep one other (step.Bind number word) = IsWord word.items × ((values : Values) → AreWords values → put values one ≡ put values other → values number ≡ put values word.items)
+IsStep one other (step.Bind number term) = IsTerm term.items × ((values : Values) → AreTerms values → substitute values one ≡ substitute values other → values number ≡ substitute values term.items)
 
--- the variable is bound to the word at the head of the nodes, if that doesn't hold it
+-- the variable is bound to the term at the head of the nodes, if that doesn't hold it
 abbrev pub IsBound : ℕ → List Node → Step → Type 0
 IsBound number nodes step.Equal = ⊥
-IsBound number nodes step.Never = (word : List Node) × (rest : List Node) × (nodes ≡ word ++ rest) × IsWord word × (comes number word ≡ true)
-IsBound number nodes (step.Bind other word) = (rest : List Node) × (nodes ≡ word.items ++ rest) × IsWord word.items × (other ≡ number)
+IsBound number nodes step.Never = (term : List Node) × (rest : List Node) × (nodes ≡ term ++ rest) × IsTerm term × (comes number term ≡ true)
+IsBound number nodes (step.Bind other term) = (rest : List Node) × (nodes ≡ term.items ++ rest) × IsTerm term.items × (other ≡ number)
 
--- what the nodes `kept` become where the two lists are made equal: with words in place of its variables it is what `kept` is with words that make the lists equal, and nothing else
-abbrev pub IsSolved : List Node → List Node → List Node → Option (List Node) → Type 0
-IsSolved kept one other None = NeverEqual one other
-IsSolved kept one other (Some solved) = ((values : Values) → AreWords values → (joint : Values) × AreWords joint × (put joint one ≡ put joint other) × (put values solved ≡ put joint kept)) × ((joint : Values) → AreWords joint → put joint one ≡ put joint other → put joint solved ≡ put joint kept)
+-- each instance of the answer is what `kept` is under a unifier of the two lists
+abbrev pub IsByUnifiers : (kept one other unified : List Node) → Type 0
+IsByUnifiers kept one other unified =
+    (values : Values) → AreTerms values → (unifier : Values) × AreTerms unifier × (substitute unifier one ≡ substitute unifier other) × (substitute values unified ≡ substitute unifier kept)
 
--- the nodes of a pair that two pairs give: with words in place of its variables it is the beginning of the first and the end of the second, each with words that make the end of the first equal to the beginning of the second, and so for all such words
+-- under each unifier the answer is what `kept` is
+abbrev pub IsUnderUnifiers : (kept one other unified : List Node) → Type 0
+IsUnderUnifiers kept one other unified =
+    (unifier : Values) → AreTerms unifier → substitute unifier one ≡ substitute unifier other → substitute unifier unified ≡ substitute unifier kept
+
+-- what the nodes `kept` become under a most general unifier of the two lists, where they have a unifier
+abbrev pub IsUnified : List Node → List Node → List Node → Option (List Node) → Type 0
+IsUnified kept one other None = NeverEqual one other
+IsUnified kept one other (Some unified) = IsByUnifiers kept one other unified × IsUnderUnifiers kept one other unified
+
+-- ---- the nodes of a pair that two pairs give
+
+-- each instance of the answer is the beginning of the first pair and the end of the second, each with terms that make the end of the first equal to the beginning of the second
+abbrev pub IsOfJoints : (below ends begins above joined : List Node) → Type 0
+IsOfJoints below ends begins above joined =
+    (values : Values) → AreTerms values → (lower : Values) × (upper : Values) × AreTerms lower × AreTerms upper × (substitute lower ends ≡ substitute upper begins) × (substitute values joined ≡ substitute lower below ++ substitute upper above)
+
+-- all such terms give an instance of the answer
+abbrev pub HasJoints : (below ends begins above joined : List Node) → Type 0
+HasJoints below ends begins above joined =
+    (lower upper : Values) → AreTerms lower → AreTerms upper → substitute lower ends ≡ substitute upper begins → (values : Values) × AreTerms values × (substitute values joined ≡ substitute lower below ++ substitute upper above)
+
 abbrev pub IsJoined : (below ends begins above : List Node) → Option (List Node) → Type 0
-IsJoined below ends begins above None = (lower upper : Values) → AreWords lower → AreWords upper → put lower ends ≡ put upper begins → ⊥
-IsJoined below ends begins above (Some joined) = ((values : Values) → AreWords values → (lower : Values) × (upper : Values) × AreWords lower × AreWords upper × (put lower ends ≡ put upper begins) × (put values joined ≡ put lower below ++ put upper above)) × ((lower upper : Values) → AreWords lower → AreWords upper → put lower ends ≡ put upper begins → (values : Values) × AreWords values × (put values joined ≡ put lower below ++ put upper above))
+IsJoined below ends begins above None = (lower upper : Values) → AreTerms lower → AreTerms upper → substitute lower ends ≡ substitute upper begins → ⊥
+IsJoined below ends begins above (Some joined) = IsOfJoints below ends begins above joined × HasJoints below ends begins above joined
 
 -- ---- the instances of a pair
 
--- the nodes are what these become with words in place of the variables
+-- the nodes are what these become with terms for the variables
 abbrev pub IsInstance : List Node → List Node → Type 0
-IsInstance nodes instance = (values : Values) × AreWords values × (put values nodes ≡ instance)
+IsInstance nodes instance = (values : Values) × AreTerms values × (substitute values nodes ≡ instance)
 
--- two lists of nodes become the same with words in place of their variables
+-- two lists of nodes become the same with terms for their variables
 pub record SameInstances (nodes others : List Node) : Type 0 where
   pub same : (instance : List Node) → IsInstance nodes instance ↔ IsInstance others instance
 
@@ -138,8 +159,8 @@ pub record Follows (first second both : List Node) : Type 0 where
   pub count : ℕ
   pub args : List Node
   pub upper : List Node
-  pub word : IsWord lower
-  pub words : behind args count ≡ Some []
+  pub term : IsTerm lower
+  pub terms : behind args count ≡ Some []
   pub begins : first ≡ lower ++ node.Class name count ∷ args
   pub ends : second ≡ node.List count ∷ args ++ upper
   pub joins : both ≡ lower ++ upper

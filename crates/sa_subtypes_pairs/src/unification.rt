@@ -1,7 +1,7 @@
-//! Lists of nodes that are made equal by words in place of their variables.
+//! Unification: lists of nodes that are made equal by terms for their variables.
 
 ghost use Rattle.std.specs.Prelude.{◌≡◌, ◌↔◌, IsTrue, ◌≤◌, ◌∷◌, ◌++◌, [], IfOk, IfSome, Some, drop, length, max, option_map, take};
-ghost use Rattle.sa_subtypes_pairs.specs.Words.{Differ, IsBound, IsSolved, IsStep, after, behind, comes, free, is_variable, later, only, put, value_of, variable_in};
+ghost use Rattle.sa_subtypes_pairs.specs.Terms.{Differ, IsBound, IsStep, IsUnified, after, behind, comes, free, is_variable, later, only, substitute, value_of, variable_in};
 
 use crate::pattern::Node;
 use crate::work::Work;
@@ -15,20 +15,20 @@ pub(crate) enum Step {
     Equal,
     /// Nothing: they never are.
     Never,
-    /// The variable has to stand for the word.
+    /// The variable has to stand for the term.
     Bind(u32, Vec<Node>),
 }
 
-/// What the nodes `kept` become where two lists are made equal by words in place of their variables. There is none where
-/// they can't be made equal.
-pub(crate) fn solve(
+/// What the nodes `kept` become under a most general unifier of two lists of nodes. There is none where the lists have no
+/// unifier.
+pub(crate) fn unify(
     alloc: Global,
     work: &mut Work,
     kept: Vec<Node>,
     one: Vec<Node>,
     other: Vec<Node>,
 ) -> Result<Option<Vec<Node>>, NoMemory>
-    ensures { IfOk result (λ solved. IsSolved kept.items one.items other.items (option_map (λ v. v.items) solved)) }
+    ensures { IfOk result (λ unified. IsUnified kept.items one.items other.items (option_map (λ v. v.items) unified)) }
 {
     let mut kept = kept;
     let mut one = one;
@@ -37,10 +37,10 @@ pub(crate) fn solve(
         match next_step(alloc, work, one.as_slice(), other.as_slice())? {
             Step::Equal => return Ok(Some(kept)),
             Step::Never => return Ok(None),
-            Step::Bind(number, word) => {
-                kept = put_one(alloc, work, kept.as_slice(), number, word.as_slice())?;
-                one = put_one(alloc, work, one.as_slice(), number, word.as_slice())?;
-                other = put_one(alloc, work, other.as_slice(), number, word.as_slice())?;
+            Step::Bind(number, term) => {
+                kept = substitute_one(alloc, work, kept.as_slice(), number, term.as_slice())?;
+                one = substitute_one(alloc, work, one.as_slice(), number, term.as_slice())?;
+                other = substitute_one(alloc, work, other.as_slice(), number, term.as_slice())?;
             }
         }
     }
@@ -84,20 +84,20 @@ fn ended(one: &[Node], other: &[Node], at: usize) -> Result<Step, NoMemory>
     }
 }
 
-/// The variable bound to the word at a place, which can't be where the word holds the variable.
+/// The variable bound to the term at a place, which can't be where the term holds the variable.
 #[tactic(auto, using(crate::proofs::Differences::bounds))]
 fn bound(alloc: Global, number: u32, nodes: &[Node], at: usize) -> Result<Step, NoMemory>
     requires { at ≤ length nodes.now }
     ensures { IfOk result (IsBound number (drop at nodes.now)) }
 {
-    let Some(end) = word_end(nodes, at) else {
+    let Some(end) = term_end(nodes, at) else {
         return Err(NoMemory);
     };
-    let word = &nodes[at..end];
-    if has_variable(word, number) {
+    let term = &nodes[at..end];
+    if has_variable(term, number) {
         return Ok(Step::Never);
     }
-    let copy = copied(alloc, word)?;
+    let copy = copied(alloc, term)?;
     Ok(Step::Bind(number, copy))
 }
 
@@ -140,9 +140,9 @@ fn variable_at(nodes: &[Node], at: usize) -> Option<u32>
     }
 }
 
-/// The place behind the word that begins at a place, if it is whole.
+/// The place behind the term that begins at a place, if it is whole.
 #[tactic(auto, using(crate::proofs::Places::places))]
-pub fn word_end(nodes: &[Node], at: usize) -> Option<usize>
+pub fn term_end(nodes: &[Node], at: usize) -> Option<usize>
     requires { at ≤ length nodes.now }
     ensures behind { IfSome result (λ end. behind (drop at nodes.now) 1 ≡ Some (drop end nodes.now)) }
     ensures after { IfSome result (λ end. at ≤ end) }
@@ -184,22 +184,22 @@ fn is_variable(node: &Node, number: u32) -> bool
     }
 }
 
-/// The nodes with a word in place of a variable.
-fn put_one(
+/// The nodes with a term in place of a variable.
+fn substitute_one(
     alloc: Global,
     work: &mut Work,
     nodes: &[Node],
     number: u32,
-    word: &[Node],
+    term: &[Node],
 ) -> Result<Vec<Node>, NoMemory>
-    ensures { IfOk result (λ v. v.items ≡ put (only number word.now) nodes.now) }
+    ensures { IfOk result (λ v. v.items ≡ substitute (only number term.now) nodes.now) }
 {
     let mut out = Vec::new(alloc);
     for node in nodes {
         work.nodes(1)?;
         if is_variable(node, number) {
-            work.nodes(word.len())?;
-            add_all(alloc, &mut out, word)?;
+            work.nodes(term.len())?;
+            add_all(alloc, &mut out, term)?;
         } else {
             out.push(node.copy(alloc)?)?;
         }
@@ -229,7 +229,7 @@ pub(crate) fn add_all(alloc: Global, out: &mut Vec<Node>, nodes: &[Node]) -> Res
 /// The nodes with each variable numbered that much later.
 #[tactic(auto, using(crate::proofs::Places::places))]
 pub(crate) fn shifted(alloc: Global, nodes: &[Node], more: u32) -> Result<Vec<Node>, NoMemory>
-    ensures { IfOk result (λ v. v.items ≡ put (later more) nodes.now) }
+    ensures { IfOk result (λ v. v.items ≡ substitute (later more) nodes.now) }
 {
     let mut out = Vec::new(alloc);
     for node in nodes {
