@@ -14,5 +14,8 @@ pub enum Contract {
         post: Option<Expr>,
     },
     /// What holds of an object of the class whenever a public routine of it ends.
-    Invariant { class: u32, holds: Expr },
+    Invariant {
+        class: u32,
+        holds: Expr,
+    },
 }
