@@ -14,7 +14,7 @@ use sa_core::Core;
 use sa_gen::generate;
 use sa_outside::ReadFiles;
 use sa_prelude::text;
-use sa_read::{Program, ReadFault, classes, read_program};
+use sa_read::{Parsed, Program, ReadFault, parse_program, read_program};
 use sa_tree::{Class, FrontFault, Name, NoMemory, Pos, Refusal, Sources};
 use sa_words::ROOM;
 use sqlite_items::Items;
@@ -199,8 +199,8 @@ fn typed(alloc: Global, texts: &[Items<u8>]) -> Result<Core, Cause>
     ensures made { IfOk result (λ _. IsTakenUpTo texts.now (length texts.now)) }
     ensures fault { IfErr result (Explains texts.now) }
 {
-    let classes = match classes(alloc, texts) {
-        Ok(classes) => classes,
+    let classes = match parse_program(alloc, texts) {
+        Ok(Parsed { classes, .. }) => classes,
         Err(FrontFault::Refused(refusal)) => return Err(refused(refusal, texts)),
         Err(FrontFault::NoMemory) => return Err(Cause::NoMemory),
     };

@@ -15,7 +15,7 @@ use crate::sharing::Sharing;
 use crate::starts::begins_class;
 use sa_lex::{Sign, Token};
 use sa_parse_expr::{Tokens, scan};
-use sa_tree::{Class, FrontFault};
+use sa_tree::{Class, Contract, FrontFault};
 use sqlite_items::Items;
 use std::alloc::Global;
 
@@ -26,7 +26,14 @@ pub enum FileKind {
     Program,
 }
 
-/// The classes that the tokens of a text spell. The text is that of file `file`.
+/// What files declare: classes, and the contracts of these, by their places among them.
+#[derive(Drop)]
+pub struct Parsed {
+    pub classes: Items<Class>,
+    pub contracts: Items<Contract>,
+}
+
+/// The classes that the tokens of a text spell, and their contracts. The text is that of file `file`.
 ///
 /// `Refused` names the first token that is a word which the profile refuses (E08), or at which the level passes 200
 /// (E07); where there is none, the first token with which the tokens up to it begin no file, or the end of the file
@@ -38,7 +45,7 @@ pub fn parse(
     src: &[u8],
     file: u32,
     file_kind: FileKind,
-) -> Result<Items<Class>, FrontFault>
+) -> Result<Parsed, FrontFault>
     requires within { All (IsWithin src.now) tokens.now }
     requires few { length tokens.now < 4294967295 }
     requires short { length src.now < 4294967295 }
@@ -51,7 +58,11 @@ pub fn parse(
         src,
         file,
     };
-    classes(alloc, &tokens, file_kind)
+    let classes = classes(alloc, &tokens, file_kind)?;
+    Ok(Parsed {
+        classes,
+        contracts: Items::new(alloc),
+    })
 }
 
 /// `[class] {";" [class]}`, and the end of the file.

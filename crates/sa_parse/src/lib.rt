@@ -1,4 +1,4 @@
-//! The classes of a file from its tokens.
+//! The classes and the contracts of a file from its tokens.
 #![tactic(auto)]
 
 mod blocks;
@@ -14,4 +14,4 @@ mod signature;
 mod starts;
 mod statement;
 
-pub use file::{FileKind, parse};
+pub use file::{FileKind, Parsed, parse};

@@ -1,4 +1,4 @@
-//! The classes of a program.
+//! The classes and the contracts of a program.
 
 ghost use Rattle.std.specs.Prelude.{◌<◌, [], length, slice_index_or, All, IfOk, IfErr};
 ghost use Rattle.sa_parse.specs.Refusals.{IsRefusal};
@@ -6,17 +6,17 @@ ghost use Rattle.sa_read.specs.Front.{AreTokensOfTexts, IsTakenUpTo, RefusesProg
 
 use crate::tokens::{lex_all, scan_all};
 use sa_lex::Token;
-use sa_parse::{FileKind, parse};
-use sa_tree::{Class, FrontFault};
+use sa_parse::{FileKind, Parsed, parse};
+use sa_tree::FrontFault;
 use sqlite_items::Items;
 use std::alloc::Global;
 
-/// The classes of a program's texts, in order. The first text is the prelude's.
+/// The classes of a program's texts, in order, and the contracts of these. The first text is the prelude's.
 ///
 /// # Errors
 ///
 /// The first refusal, by the tokens of all texts, then by their words and levels, then by the grammar; or `NoMemory`.
-pub fn classes(alloc: Global, texts: &[Items<u8>]) -> Result<Items<Class>, FrontFault>
+pub fn parse_program(alloc: Global, texts: &[Items<u8>]) -> Result<Parsed, FrontFault>
     requires short { All (λ text. length text < 4294967295) texts.now }
     requires few { length texts.now < 4294967295 }
     ensures taken { IfOk result (λ _. IsTakenUpTo texts.now (length texts.now)) }
@@ -27,12 +27,12 @@ pub fn classes(alloc: Global, texts: &[Items<u8>]) -> Result<Items<Class>, Front
     parse_all(alloc, texts, lists.as_slice())
 }
 
-/// The classes that the tokens of each text spell.
+/// What the tokens of each text spell.
 fn parse_all(
     alloc: Global,
     texts: &[Items<u8>],
     lists: &[Items<Token>],
-) -> Result<Items<Class>, FrontFault>
+) -> Result<Parsed, FrontFault>
     requires short { All (λ text. length text < 4294967295) texts.now }
     requires few { length texts.now < 4294967295 }
     requires tokens { AreTokensOfTexts texts.now lists.now (length texts.now) }
@@ -40,19 +40,22 @@ fn parse_all(
     ensures refused { IfErr result (RefusesProgram texts.now) }
 {
     let mut classes = Items::new(alloc);
+    let mut contracts = Items::new(alloc);
     for number in 0..texts.len() {
-        classes.append(parse_text(alloc, texts, lists, number)?)?;
+        let file = parse_text(alloc, texts, lists, number)?;
+        classes.append(file.classes)?;
+        contracts.append(file.contracts)?;
     }
-    Ok(classes)
+    Ok(Parsed { classes, contracts })
 }
 
-/// The classes of the text with this number. The first text alone is the prelude's.
+/// What the text with this number spells. The first text alone is the prelude's.
 fn parse_text(
     alloc: Global,
     texts: &[Items<u8>],
     lists: &[Items<Token>],
     number: usize,
-) -> Result<Items<Class>, FrontFault>
+) -> Result<Parsed, FrontFault>
     requires short { All (λ text. length text < 4294967295) texts.now }
     requires few { length texts.now < 4294967295 }
     requires tokens { AreTokensOfTexts texts.now lists.now (length texts.now) }

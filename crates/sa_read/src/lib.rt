@@ -1,5 +1,5 @@
-//! Reads a program: its files through a store, and their texts to classes, up to the first refusal by the size of the
-//! files, the tokens, their levels and words, and the grammar, in this order.
+//! Reads a program: its files through a store, and their texts to classes and contracts, up to the first refusal by the size
+//! of the files, the tokens, their levels and words, and the grammar, in this order.
 #![tactic(auto)]
 
 mod front;
@@ -7,6 +7,7 @@ mod program;
 mod read;
 mod tokens;
 
-pub use front::classes;
+pub use front::parse_program;
 pub use program::{MOST_BYTES, Program, read_program};
 pub use read::{Read, ReadFault, read_file};
+pub use sa_parse::Parsed;

@@ -14,7 +14,7 @@ mod stmt;
 mod ty;
 
 pub use class::{Access, Change, Class, Feature, Flat, Formal, Include, Kind, Param, Part};
-pub use contract::Contract;
+pub use contract::{Condition, Contract};
 pub use expr::{Expr, Given, Op, Recv};
 pub use fault_kind::FaultKind;
 pub use name::Name;
