@@ -14,7 +14,7 @@ use crate::value::{Index, byte, byte_vector, expect, signed_32, signed_64, unsig
 use sqlite_items::Items;
 use std::alloc::Global;
 use wa_syntax::opcode::{END, GLOBAL_GET, I32_CONST, I64_CONST};
-use wa_syntax::{Elem, GlobalDef, Init, Segment};
+use wa_syntax::{DataSegment, ElemSegment, GlobalDef, Init};
 
 /// An initial value or an offset: one instruction that gives a constant or reads a global, and an end (5.4.6).
 fn initial_value(bytes: &[u8], at: u32) -> Decoded<Init>
@@ -70,15 +70,15 @@ impl Production for OwnGlobal {
 pub struct ElementSegment;
 
 impl Production for ElementSegment {
-    type Value = Elem;
+    type Value = ElemSegment;
 
     ghost format = { elem };
 
-    fn read(alloc: Global, bytes: &[u8], at: u32) -> Decoded<Elem> {
+    fn read(alloc: Global, bytes: &[u8], at: u32) -> Decoded<ElemSegment> {
         let (table, at) = unsigned(bytes, at)?;
         let (offset, at) = initial_value(bytes, at)?;
         let (funcs, end) = vector::<Index>(alloc, bytes, at)?;
-        let elem = Elem {
+        let elem = ElemSegment {
             table,
             offset,
             funcs,
@@ -91,16 +91,16 @@ impl Production for ElementSegment {
 pub struct DataSegment;
 
 impl Production for DataSegment {
-    type Value = Segment;
+    type Value = DataSegment;
 
     ghost format = { segment };
 
-    fn read(alloc: Global, bytes: &[u8], at: u32) -> Decoded<Segment> {
+    fn read(alloc: Global, bytes: &[u8], at: u32) -> Decoded<DataSegment> {
         let (memory, at) = unsigned(bytes, at)?;
         let (offset, at) = initial_value(bytes, at)?;
         let (content, end) = byte_vector(bytes, at)?;
         let bytes = Items::from_slice(alloc, content)?;
-        let segment = Segment {
+        let segment = DataSegment {
             memory,
             offset,
             bytes,
