@@ -1,6 +1,7 @@
 -- What a call reaches, what it hands over and copies back, the run of a body, and what a bound value keeps.
 use Rattle.std.specs.Prelude.{ℕ, ◌+◌, ◌-◌, Bool, true, false, not, ◌&&◌, ◌==◌, nat_le, if◌then◌else◌, List, [], ◌∷◌, ◌++◌, map, length, drop, replicate, filter_map, Option, Some, None, is_some, option_map}
 use Rattle.std.specs.Option.{option_map_or}
+use Rattle.sa_tree.specs.declared.fault_kind.FaultKind.TheVariants as fault_kind
 use Rattle.sa_tree.specs.declared.ty.Mode.{Mode}
 use Rattle.sa_tree.specs.declared.ty.Mode.TheVariants as mode
 use Rattle.sa_core.specs.declared.feature.Target.{Target}
@@ -21,7 +22,7 @@ use Rattle.sa_meaning.specs.Value.{Value, Void, is_nothing, as_bound, unwrapped}
 use Rattle.sa_meaning.specs.Program.{is_immutable, void_of}
 use Rattle.sa_meaning.specs.Sequence.{◌>>=◌, ◌>>◌, pure, stop, or_stuck, at_place, look, stuck}
 use Rattle.sa_meaning.specs.State.{Object}
-use Rattle.sa_meaning.specs.Steps.{object_at, void, too_deep, charge, object_size, add_object}
+use Rattle.sa_meaning.specs.Steps.{object_at, charge, object_size, add_object}
 use Rattle.sa_meaning.specs.Builtin.{builtins, builtin_call}
 use Rattle.sa_meaning.specs.Calls.{dynamic_type, is_raw, interleaved, only_given, single, filled, attribute, set_attribute, shared, set_shared}
 use Rattle.sa_meaning.specs.Instances.{set_anew}
@@ -143,7 +144,7 @@ module _ (p : FlatProgram) (rows : List (List ℕ)) where
     pure (record { callee = Body body; class = ty; self = v; through = None })
 
   abbrev pub dispatched : ℕ → Value → Eval Reached
-  dispatched k v = if is_nothing v then stop (Faulted void) else if_abstract v (implementation k v)
+  dispatched k v = if is_nothing v then stop (Faulted fault_kind.Void) else if_abstract v (implementation k v)
 
   abbrev pub bound_to : ℕ → Eval Reached
   bound_to object = do
@@ -154,7 +155,7 @@ module _ (p : FlatProgram) (rows : List (List ℕ)) where
 
   abbrev pub reached : Callee → ℕ → Value → Eval Reached
   reached (Dispatch k) class v = dispatched k v
-  reached Bound class v = if is_nothing v then stop (Faulted void) else (or_stuck (as_bound v) >>= bound_to)
+  reached Bound class v = if is_nothing v then stop (Faulted fault_kind.Void) else (or_stuck (as_bound v) >>= bound_to)
   reached callee class v = pure (record { callee = callee; class = class; self = v; through = None })
 
 -- ---- the variables of a body
@@ -189,7 +190,7 @@ no_frames b = replicate b.sites None
 -- ---- the run of a body
 
 abbrev pub checked_depth : Activation → Eval (Unit {0})
-checked_depth caller = if nat_le 10000 caller.depth then stop (Faulted too_deep) else pure tt
+checked_depth caller = if nat_le 10000 caller.depth then stop (Faulted fault_kind.TooDeep) else pure tt
 
 -- whether a built-in feature gives a value
 abbrev pub gives_value : BuiltinFeature → Bool

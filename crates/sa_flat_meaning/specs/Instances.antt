@@ -1,5 +1,6 @@
 -- Instances of iters: their frames, starts and resumptions, suspensions and ends.
 use Rattle.std.specs.Prelude.{ℕ, zero, suc, ◌+◌, ◌-◌, Bool, true, false, not, ◌==◌, nat_le, if◌then◌else◌, List, [], ◌∷◌, ◌++◌, length, set, Option, Some, None, is_some}
+use Rattle.sa_tree.specs.declared.fault_kind.FaultKind.TheVariants as fault_kind
 use Rattle.sa_flat.specs.declared.body.FlatBody.{FlatBody}
 use Rattle.sa_flat.specs.declared.call.Callee.{Callee}
 use Rattle.sa_flat.specs.declared.call.Callee.TheVariants.{Body, Dispatch, Bound}
@@ -9,7 +10,6 @@ use Rattle.sa_flat.specs.declared.program.FlatProgram.{FlatProgram}
 use Rattle.sa_meaning.specs.Value.{Value, Truth}
 use Rattle.sa_meaning.specs.Sequence.{resolve, ◌>>=◌, ◌>>◌, pure, stop, or_stuck, at_place, look, change, with_place, stuck}
 use Rattle.sa_meaning.specs.State as language
-use Rattle.sa_meaning.specs.Steps.{frames}
 use Rattle.sa_meaning.specs.Calls.{is_once}
 use Rattle.sa_flat_meaning.specs.Frames.{Frame, Station, Activation, Ending, Suspended, Ended, Raised, Handed, Way, Onward, Leaving, Cause, Faulted}
 use Rattle.sa_flat_meaning.specs.Order.{Eval, count, turn, read, write, put_given, this}
@@ -119,7 +119,7 @@ passed_anew (a ∷ more) = do
 -- ---- runs of instances
 
 abbrev pub checked_live : Eval (Unit {0})
-checked_live = look (λ s. s.world.live) >>= (λ live. if nat_le 10000 live then stop (Faulted frames) else pure tt)
+checked_live = look (λ s. s.world.live) >>= (λ live. if nat_le 10000 live then stop (Faulted fault_kind.Frames) else pure tt)
 
 -- what follows the run of an instance
 abbrev pub after_run : Station → ℕ → Ending × List Value → Eval (Ending × List Value)

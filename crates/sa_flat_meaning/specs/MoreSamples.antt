@@ -2,6 +2,7 @@
 -- their own numbers.
 use Rattle.std.specs.Prelude.{ℕ, false, List, [], ◌∷◌, ◌++◌, map, take, length, Some, None, codes}
 use Rattle.sa_tree.specs.declared.class.Kind.TheVariants as kind
+use Rattle.sa_tree.specs.declared.fault_kind.FaultKind.{FaultKind}
 use Rattle.sa_tree.specs.declared.ty.Mode.TheVariants.{In, Out, Inout, Once}
 use Rattle.sa_core.specs.declared.feature.Target.TheVariants as target
 use Rattle.sa_flat.specs.declared.call.Callee.TheVariants.{Body, Builtin, Get, GetShared, Dispatch, Bound}
@@ -93,7 +94,7 @@ widening_once_first = with_own (layout kind.Reference [] ∷ layout kind.Immutab
 -- ---- faults
 
 -- protect STATEMENT else #OUT + 1; end, where the statement is a fault of a kind
-abbrev pub catching_stop : ℕ → FlatProgram
+abbrev pub catching_stop : FaultKind → FlatProgram
 catching_stop kind = program (body (Some 0) [] 0 (blocks (block [] (Stop kind (fails_to (record leaving { block = 2 })))) (
     block (of_type 203 out_type ∷ int 204 1 ∷ put_int 203 204 ∷ []) (Return None) ∷ [])) ∷ []) [] []
 

@@ -4,6 +4,7 @@ use Rattle.sa_flat.specs.declared.body.FlatBlock.{FlatBlock}
 use Rattle.sa_flat.specs.declared.step.FlatStep.{FlatStep}
 use Rattle.sa_flat.specs.declared.program.FlatProgram.{FlatProgram}
 use Rattle.sa_tree.specs.declared.pos.Pos.{Pos}
+use Rattle.sa_tree.specs.Faults.{fault_number}
 use Rattle.sa_meaning.specs.Value.{Void}
 use Rattle.sa_meaning.specs.Program.{void_of}
 use Rattle.sa_meaning.specs.Sequence.{◌>>=◌, ◌>>◌, pure, at_place, Gives, Stops, Exhausts, Sticks, stuck, last_state}
@@ -101,7 +102,7 @@ abbrev pub end_of : FlatProgram → Outcome Ending → End
 end_of p (Gives (Returned v) s) = whole.Ended s.world.output (status_of (unwrap_or v Void))
 end_of p (Gives (Raised v place kind) s) = stopped s.world.output kind (slice_get p.sites place)
 end_of p (Gives _ s) = whole.Stuck
-end_of p (Stops (Failed kind place) s) = stopped s.world.output kind (slice_get p.sites place)
+end_of p (Stops (Failed kind place) s) = stopped s.world.output (fault_number kind) (slice_get p.sites place)
 end_of p (Stops InputFailed s) = whole.InFault s.world.output
 end_of p (Stops _ s) = whole.Stuck
 end_of p (Exhausts s) = whole.Spent s.world.output

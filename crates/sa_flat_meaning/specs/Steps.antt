@@ -1,6 +1,8 @@
 -- What each step does.
 use Rattle.std.specs.Prelude.{ℕ, Bool, false, ◌&&◌, ◌||◌, ◌==◌, if◌then◌else◌, List, length, set, find, Option, is_some}
 use Rattle.std.specs.Option.{option_map_or}
+use Rattle.sa_tree.specs.declared.fault_kind.FaultKind.TheVariants as fault_kind
+use Rattle.sa_tree.specs.Faults.{fault_number}
 use Rattle.sa_flat.specs.declared.step.FlatConst.{FlatConst}
 use Rattle.sa_flat.specs.declared.step.FlatConst.TheVariants as const
 use Rattle.sa_flat.specs.declared.step.FlatStep.{FlatStep}
@@ -9,7 +11,7 @@ use Rattle.sa_flat.specs.declared.program.FlatProgram.{FlatProgram}
 use Rattle.sa_meaning.specs.Value.{Value, Int, Truth, Char, Text, Wide, is_void, is_nothing, as_int, as_object, unwrapped}
 use Rattle.sa_meaning.specs.Program.{void_of}
 use Rattle.sa_meaning.specs.Sequence.{◌>>=◌, ◌>>◌, pure, stop, or_stuck, at_place, stuck}
-use Rattle.sa_meaning.specs.Steps.{uncaught, void, object_at, set_object}
+use Rattle.sa_meaning.specs.Steps.{object_at, set_object}
 use Rattle.sa_meaning.specs.Builtin.{new_array, place_of, is_place}
 use Rattle.sa_meaning.specs.Calls.{dynamic_type, widened_from, widened_if, is_raw, set_shared}
 use Rattle.sa_meaning.specs.Evaluation.{new_object}
@@ -93,7 +95,7 @@ put_item array ty at value = do
   if o.ty == ty && is_place place (length o.elements) then within (set_object number (record o { elements = set o.elements (place_of place) v })) else stuck
 
 abbrev pub not_void : Value → Eval Way
-not_void v = if is_nothing v then stop (Faulted void) else if_abstract v (pure Onward)
+not_void v = if is_nothing v then stop (Faulted fault_kind.Void) else if_abstract v (pure Onward)
 
 -- From a block and a place in it on, `go` runs a body.
 module _ (p : FlatProgram) (rows : List (List ℕ)) (go : ℕ → ℕ → Eval Ending) where
@@ -124,5 +126,5 @@ module _ (p : FlatProgram) (rows : List (List ℕ)) (go : ℕ → ℕ → Eval E
     v ← read value
     write to.value v
     write_number to.place place
-    write_number to.kind uncaught
+    write_number to.kind (fault_number fault_kind.Uncaught)
     pure Onward

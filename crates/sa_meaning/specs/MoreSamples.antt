@@ -1,12 +1,13 @@
 -- More small typed programs: initialisers, widening in its order, faults that nothing catches, and programs of which no rule
 -- speaks.
-use Rattle.std.specs.Prelude.{ℕ, true, false, [], ◌∷◌, Some, None, codes}
+use Rattle.std.specs.Prelude.{ℕ, true, false, [], ◌∷◌, Some, codes}
+use Rattle.sa_tree.specs.declared.fault_kind.FaultKind.{FaultKind}
 use Rattle.sa_tree.specs.declared.ty.Mode.TheVariants.{In, Out, Once}
 use Rattle.sa_core.specs.declared.feature.CalledCore.TheVariants.{Static, Dispatch}
 use Rattle.sa_core.specs.declared.feature.Target.TheVariants as target
 use Rattle.sa_core.specs.Copy.{arg_list, stmt_list, arm_list}
 use Rattle.sa_core.specs.Tree as tree
-use Rattle.sa_core.specs.Tree.{Stmt, VoidOf, Me, Var, New, Call, IterCall, Variable, Let, Do, Leave, TypeCase, Protect, Yield, Stop, no_else, otherwise}
+use Rattle.sa_core.specs.Tree.{Break, Stmt, VoidOf, Me, Var, New, Call, IterCall, Variable, Let, Do, Leave, TypeCase, Protect, Yield, Stop, no_else, otherwise}
 use Rattle.sa_meaning.specs.Value.{int_type}
 use Rattle.sa_meaning.specs.Program.{Program}
 use Rattle.sa_meaning.specs.Samples.{here, int, with_one, plus, main_type, own_type, ob_type, put, put_int, call, get_shared, loop, class_row, immutable_row, abstract_row, routine, iter, program, text, get_x}
@@ -50,14 +51,14 @@ abbrev pub widens_once_first : Program
 widens_once_first = record (program (abstract_row (ob_type ∷ []) ∷ class_row [] (ob_type ∷ own_type ∷ []) ∷ immutable_row (int_type ∷ int_type ∷ int_type ∷ []) (ob_type ∷ []) ∷ []) (
     routine [] (own_type ∷ 12 ∷ []) (record { owner = 0; called = Dispatch 0; pos = here } ∷ []) (
     Let 0 (New 11 here) ∷ Let 1 (VoidOf 12)
-    ∷ loop (put_int (IterCall 0 (Var 0) (arg_list (tree.Value In (int 7) ∷ tree.Value Once (Var 1) ∷ [])) here) ∷ Leave 0 None ∷ []) ∷ [])
+    ∷ loop (put_int (IterCall 0 (Var 0) (arg_list (tree.Value In (int 7) ∷ tree.Value Once (Var 1) ∷ [])) here) ∷ Leave Break ∷ []) ∷ [])
     ∷ iter (In ∷ Once ∷ []) (ob_type ∷ ob_type ∷ []) [] (Yield (Some (int 1)) ∷ [])
     ∷ [])) { signatures = record { impls = record { ty = 11; target = target.Feature 1 } ∷ []; wide_args = false ∷ false ∷ []; wide = false } ∷ [] }
 
 -- ---- faults
 
 -- protect STATEMENT else #OUT + "c"; end, where the statement is a fault of a kind
-abbrev pub catches_stop : ℕ → Program
+abbrev pub catches_stop : FaultKind → Program
 catches_stop kind = program [] (
     routine [] [] [] (Protect (stmt_list (Stop kind here ∷ [])) (arm_list []) (otherwise (stmt_list (put (text (codes "c")) ∷ []))) ∷ []) ∷ [])
 

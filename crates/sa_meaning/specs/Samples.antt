@@ -1,6 +1,7 @@
 -- Small typed programs, each the tree of the source above it.
 use Rattle.std.specs.Prelude.{ℕ, pos, negsuc, Bool, true, false, List, [], ◌∷◌, ◌++◌, Some, None, codes}
 use Rattle.sa_tree.specs.declared.class.Kind.TheVariants as kind
+use Rattle.sa_tree.specs.declared.fault_kind.FaultKind.TheVariants as fault_kind
 use Rattle.sa_tree.specs.declared.pos.Pos.{Pos}
 use Rattle.sa_tree.specs.declared.ty.Mode.{Mode}
 use Rattle.sa_tree.specs.declared.ty.Mode.TheVariants.{In, Out, Inout, Once}
@@ -9,7 +10,7 @@ use Rattle.sa_core.specs.declared.feature.SiteCore.{SiteCore}
 use Rattle.sa_core.specs.declared.feature.Target.TheVariants as target
 use Rattle.sa_core.specs.Copy.{expr_list, arg_list, stmt_list, test_list, arm_list}
 use Rattle.sa_core.specs.Tree as tree
-use Rattle.sa_core.specs.Tree.{Expr, VoidOf, Me, Var, Exception, IsVoid, New, Call, IterCall, Bind, Or, Arg, Variable, Left, Stmt, Let, Do, If, Loop, Leave, TypeCase, Protect, Return, Yield, Quit, Raise, Stop, no_stmts, no_else, otherwise}
+use Rattle.sa_core.specs.Tree.{Expr, VoidOf, Me, Var, Exception, IsVoid, New, Call, IterCall, Bind, Or, Arg, Variable, Left, Break, While, Stmt, Let, Do, If, Loop, Leave, TypeCase, Protect, Return, Yield, Quit, Raise, Stop, no_stmts, no_else, otherwise}
 use Rattle.sa_meaning.specs.Value.{bool_type, int_type, str_type, fault_type}
 use Rattle.sa_meaning.specs.Program.{TypeRow, Feature, Program}
 
@@ -200,7 +201,7 @@ nested_loops = program [] (
 abbrev pub abandoned : Program
 abandoned = program [] (
     routine [] (int_type ∷ []) (site 2 main_type ∷ []) (
-    loop (Let 0 (IterCall 0 Me (arg_list []) here) ∷ put_int (Var 0) ∷ Leave 1 (Some (is_lt (Var 0) (int 2))) ∷ []) ∷ [])
+    loop (Let 0 (IterCall 0 Me (arg_list []) here) ∷ put_int (Var 0) ∷ Leave (While (is_lt (Var 0) (int 2))) ∷ []) ∷ [])
     ∷ upto
     ∷ iter [] [] (site 1 int_type ∷ []) (loop (Yield (Some (up 0 (int 1) (int 3))) ∷ []) ∷ [])
     ∷ [])
@@ -233,7 +234,7 @@ abbrev pub copies_at_yield : Program
 copies_at_yield = program [] (
     routine [] (int_type ∷ int_type ∷ bool_type ∷ []) (site 1 main_type ∷ []) (
     Let 0 (int 1) ∷ Let 1 (VoidOf int_type)
-    ∷ loop (Let 2 (IterCall 0 Me (arg_list (Variable Inout 0 ∷ Variable Out 1 ∷ [])) here) ∷ put_int (Var 1) ∷ Leave 1 (Some (Var 2)) ∷ [])
+    ∷ loop (Let 2 (IterCall 0 Me (arg_list (Variable Inout 0 ∷ Variable Out 1 ∷ [])) here) ∷ put_int (Var 1) ∷ Leave (While (Var 2)) ∷ [])
     ∷ put_int (Var 0) ∷ [])
     ∷ iter (Inout ∷ Out ∷ []) (int_type ∷ int_type ∷ []) [] (
     loop (when (is_eq (Var 1) (int 0)) (Let 1 (Var 0) ∷ []) ∷ Let 0 (plus (Var 0) (Var 0)) ∷ Yield (Some (is_lt (Var 0) (int 9))) ∷ []) ∷ [])
@@ -267,7 +268,7 @@ bound_anew = program (bound_row [] ∷ []) (
     Let 0 (Bind (Static (target.Feature 1) main_type) Me (arg_list (with_one (int 2))) own_type here)
     ∷ loop (
     Let 1 (IterCall 0 (Var 0) (arg_list []) here)
-    ∷ put_int (Var 1) ∷ put (text (codes " ")) ∷ Leave 1 (Some (is_lt (Var 1) (int 6))) ∷ []) ∷ [])
+    ∷ put_int (Var 1) ∷ put (text (codes " ")) ∷ Leave (While (is_lt (Var 1) (int 6))) ∷ []) ∷ [])
     ∷ iter (In ∷ []) (int_type ∷ int_type ∷ []) [] (
     Let 1 (VoidOf int_type)
     ∷ loop (Let 1 (plus (Var 1) (Var 0)) ∷ Let 0 (int 100) ∷ Yield (Some (Var 1)) ∷ []) ∷ [])
@@ -353,7 +354,7 @@ fault_str = routine [] (int_type ∷ []) [] (
     (expr_list (is_eq (Var 0) (int 1) ∷ []), stmt_list (Return (Some (text (codes "overflow"))) ∷ []))
     ∷ (expr_list (is_eq (Var 0) (int 2) ∷ []), stmt_list (Return (Some (text (codes "division by zero"))) ∷ []))
     ∷ [])) (stmt_list (Return (Some (text (codes "other"))) ∷ []))
-    ∷ Stop 6 here ∷ [])
+    ∷ Stop fault_kind.NoReturn here ∷ [])
 
 -- the program with the feature, as the implementation of the signature `str` of `$STR` by FAULT
 abbrev pub with_str : Program → Program
@@ -424,7 +425,7 @@ dispatches = record (program (abstract_row (ob_type ∷ []) ∷ class_row [] (ob
     ∷ TypeCase 1 (arm_list ((int_type, 2, stmt_list (put_int (Var 2) ∷ [])) ∷ [])) no_else here
     ∷ when (IsVoid (Var 1)) (put (text (codes "void")) ∷ []) ∷ [])
     ∷ routine (In ∷ []) (ob_type ∷ int_type ∷ []) [] (
-    TypeCase 0 (arm_list ((int_type, 1, stmt_list (Return (Some (plus (Var 1) (int 1))) ∷ [])) ∷ [])) no_else here ∷ Stop 6 here ∷ [])
+    TypeCase 0 (arm_list ((int_type, 1, stmt_list (Return (Some (plus (Var 1) (int 1))) ∷ [])) ∷ [])) no_else here ∷ Stop fault_kind.NoReturn here ∷ [])
     ∷ [])) { signatures = record { impls = record { ty = 11; target = target.Feature 1 } ∷ []; wide_args = false ∷ []; wide = true } ∷ [] }
 
 -- abstract class $A is f!(x:INT):$OB; end; class C < $A is create:SAME is return new; end; f!(x:$OB):INT is
@@ -437,7 +438,7 @@ dispatches_iter = record (program (abstract_row (ob_type ∷ []) ∷ class_row [
     ∷ loop (
     Let 2 (IterCall 0 (Var 0) (arg_list (with_one (Var 1))) here)
     ∷ TypeCase 2 (arm_list ((int_type, 3, stmt_list (put_int (Var 3) ∷ Let 1 (Var 3) ∷ [])) ∷ [])) no_else here
-    ∷ Leave 1 (Some (is_lt (Var 1) (int 3))) ∷ []) ∷ [])
+    ∷ Leave (While (is_lt (Var 1) (int 3))) ∷ []) ∷ [])
     ∷ iter (In ∷ []) (ob_type ∷ int_type ∷ []) [] (
     loop (TypeCase 0 (arm_list ((int_type, 1, stmt_list (Yield (Some (plus (Var 1) (int 1))) ∷ [])) ∷ [])) no_else here ∷ []) ∷ [])
     ∷ [])) { signatures = record { impls = record { ty = 11; target = target.Feature 1 } ∷ []; wide_args = false ∷ []; wide = true } ∷ [] }
@@ -472,6 +473,6 @@ reads_line = program [] (
     put (text (codes "q"))
     ∷ loop (
     Let 0 (builtin out_type 27 (VoidOf out_type) [])
-    ∷ when (Or (is_lt (Var 0) (int 0)) (is_eq (Var 0) (int 10))) (Leave 0 None ∷ [])
+    ∷ when (Or (is_lt (Var 0) (int 0)) (is_eq (Var 0) (int 10))) (Leave Break ∷ [])
     ∷ Do (builtin out_type 26 (VoidOf out_type) (with_one (builtin int_type 14 (Var 0) []))) ∷ [])
     ∷ []) ∷ [])
