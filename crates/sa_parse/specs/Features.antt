@@ -14,14 +14,17 @@ use Rattle.sa_tree.specs.declared.class.Part.{Part}
 use Rattle.sa_tree.specs.declared.class.Part.TheVariants as part
 use Rattle.sa_tree.specs.declared.class.Feature.{Feature}
 use Rattle.sa_tree.specs.declared.class.Change.{Change}
+use Rattle.sa_tree.specs.declared.contract.Condition.{Condition}
 use Rattle.sa_parse_expr.specs.Lexemes.{Lexeme, IsWord, IsSign, IsFeature}
 use Rattle.sa_parse_expr.specs.Types.{IsType}
+use Rattle.sa_parse.specs.declared.contract.Clauses.{Clauses}
 use Rattle.sa_parse.specs.declared.member.Declaration.{Declaration}
 use Rattle.sa_parse.specs.declared.member.Declaration.TheVariants as member
 use Rattle.sa_parse.specs.declared.declared.SharedParts.{SharedParts}
 use Rattle.sa_parse.specs.declared.file.FileKind.{FileKind}
-use Rattle.sa_parse.specs.declared.file.FileKind.TheVariants.{Prelude}
+use Rattle.sa_parse.specs.declared.file.FileKind.TheVariants.{Prelude, Program}
 use Rattle.sa_parse.specs.declared.signature.Signature.{Signature}
+use Rattle.sa_parse.specs.Contracts.{IsClauses, IsInvariant, no_clauses}
 use Rattle.sa_parse.specs.Names.{IsLower, IsMoreNames, IsNames, name_of}
 use Rattle.sa_parse.specs.Signatures.{IsSig}
 use Rattle.sa_parse.specs.Statements.{IsAssigned, IsBody, IsValue}
@@ -103,15 +106,31 @@ pub data IsWholeBody : List Lexeme → List Stmt → Type 0 where
 
 -- routine | stub | builtin, behind the word of access. Stubs stand in partial classes alone, and built-in features in the
 -- prelude alone
-pub data IsCalled (class : Enclosing) : Access → List Lexeme → Feature → Type 0 where
-  routine : {access : Access} {ls ms : List Lexeme} {sig : Signature} {body : List Stmt} → IsSig ls sig → IsWholeBody ms body → IsCalled class access (ls ++ ms) (feature_of sig access (part.Routine body))
-  stub : {access : Access} {w : Lexeme} {ls : List Lexeme} {sig : Signature} → class.kind ≡ Partial → IsWord word.Stub w → IsSig ls sig → IsCalled class access (w ∷ ls) (feature_of sig access part.Stub)
-  builtin : {access : Access} {w : Lexeme} {ls : List Lexeme} {sig : Signature} → class.file_kind ≡ Prelude → IsWord word.Builtin w → IsSig ls sig → IsCalled class access (w ∷ ls) (feature_of sig access (part.Builtin class.name sig.name.name))
+pub data IsCalled (class : Enclosing) : Access → List Lexeme → Feature → Clauses → Type 0 where
+  routine : {access : Access} {ls cs ms : List Lexeme} {sig : Signature} {clauses : Clauses} {body : List Stmt} → IsSig ls sig → IsClauses class.file_kind cs clauses → IsWholeBody ms body → IsCalled class access (ls ++ cs ++ ms) (feature_of sig access (part.Routine body)) clauses
+  stub : {access : Access} {w : Lexeme} {ls : List Lexeme} {sig : Signature} → class.kind ≡ Partial → IsWord word.Stub w → IsSig ls sig → IsCalled class access (w ∷ ls) (feature_of sig access part.Stub) no_clauses
+  builtin : {access : Access} {w : Lexeme} {ls : List Lexeme} {sig : Signature} → class.file_kind ≡ Prelude → IsWord word.Builtin w → IsSig ls sig → IsCalled class access (w ∷ ls) (feature_of sig access (part.Builtin class.name sig.name.name)) no_clauses
 
--- member = ["private"] (routine | stub | builtin | const | include) | ["private" | "readonly"] (attr | shared)
+-- member = ["private"] (routine | stub | builtin | const | include) | ["private" | "readonly"] (attr | shared) | invariant.
+-- The prelude has no invariants
 pub data IsMember (class : Enclosing) : List Lexeme → Declaration → Type 0 where
-  called : {ls ms : List Lexeme} {access : Access} {feature : Feature} → IsPrivate ls access → IsCalled class access ms feature → IsMember class (ls ++ ms) (member.Features (feature ∷ []))
-  declared : {ls ms : List Lexeme} {access : Access} {features : List Feature} → IsAccess ls access → IsDeclared access ms features → IsMember class (ls ++ ms) (member.Features features)
-  constants : {ls ms : List Lexeme} {access : Access} {features : List Feature} → IsPrivate ls access → IsConstants access ms features → IsMember class (ls ++ ms) (member.Features features)
+  called : {ls ms : List Lexeme} {access : Access} {feature : Feature} {clauses : Clauses} → IsPrivate ls access → IsCalled class access ms feature clauses → IsMember class (ls ++ ms) (member.Called feature clauses)
+  declared : {ls ms : List Lexeme} {access : Access} {features : List Feature} → IsAccess ls access → IsDeclared access ms features → IsMember class (ls ++ ms) (member.Variables features)
+  constants : {ls ms : List Lexeme} {access : Access} {features : List Feature} → IsPrivate ls access → IsConstants access ms features → IsMember class (ls ++ ms) (member.Variables features)
   include : {w : Lexeme} {ls ms : List Lexeme} {t : Ty} {changes : List Change} → IsWord word.Include w → IsType ls t → IsOptionalChanges ms changes → IsMember class (w ∷ ls ++ ms) (member.Include (record { ty = t; private = false; changes = changes }))
   private_include : {p w : Lexeme} {ls ms : List Lexeme} {t : Ty} {changes : List Change} → IsWord word.Private p → IsWord word.Include w → IsType ls t → IsOptionalChanges ms changes → IsMember class (p ∷ w ∷ ls ++ ms) (member.Include (record { ty = t; private = true; changes = changes }))
+  invariant : {ls : List Lexeme} {holds : Condition} → class.file_kind ≡ Program → IsInvariant ls holds → IsMember class ls (member.Invariant holds)
+
+-- ---- what members give
+
+-- the features of a member
+abbrev pub features_of : Declaration → List Feature
+features_of (member.Variables features) = features
+features_of (member.Called feature clauses) = feature ∷ []
+features_of (member.Include include) = []
+features_of (member.Invariant holds) = []
+
+-- those of a member that may be left out
+abbrev pub features_in : Option Declaration → List Feature
+features_in None = []
+features_in (Some m) = features_of m

@@ -13,6 +13,7 @@ use Rattle.sa_tree.specs.declared.stmt.CaseArm.{CaseArm}
 use Rattle.sa_tree.specs.declared.stmt.TypeArm.{TypeArm}
 use Rattle.sa_tree.specs.declared.stmt.Stmt.{Stmt}
 use Rattle.sa_tree.specs.declared.stmt.Stmt.TheVariants as tree
+use Rattle.sa_parse_expr.specs.declared.grammar.Scope.TheVariants.{Plain}
 use Rattle.sa_parse_expr.specs.Lexemes.{Lexeme, IsWord, IsSign}
 use Rattle.sa_parse_expr.specs.Types.{IsType}
 use Rattle.sa_parse_expr.specs.Expressions.{IsArg}
@@ -24,7 +25,7 @@ use Rattle.sa_parse.specs.Names.{IsLower, IsNames, name_of}
 
 -- expr, outside of any array literal: it is what may be given as an argument without a mode
 abbrev pub IsValue : List Lexeme → Expr → Type 0
-IsValue ls e = IsArg ls (Value In e)
+IsValue ls e = IsArg Plain ls (Value In e)
 
 -- expr {"," expr}
 pub data IsValues : List Lexeme → List Expr → Type 0 where

@@ -4,6 +4,7 @@
 mod blocks;
 mod body;
 mod class;
+mod contract;
 mod declared;
 mod file;
 mod include;

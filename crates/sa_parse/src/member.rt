@@ -1,20 +1,24 @@
-//! The members of a class, which are its features and includes: one function for each alternative of their grammar.
+//! The members of a class, which are its features, its includes and its invariant: one function for each alternative of their
+//! grammar.
 //!
 //! ```text
-//! member = ["private"] sig whole_body
+//! member = ["private"] sig clauses whole_body
 //!        | ["private"] "stub" sig                    in partial classes alone
 //!        | ["private"] "builtin" sig                 in the prelude alone
 //!        | ["private" | "readonly"] attr
 //!        | ["private" | "readonly"] shared
 //!        | ["private"] const
 //!        | ["private"] include
+//!        | invariant                                 in the program alone, and once in a class
 //! whole_body = "is" stmts "end"
 //! ```
 
-ghost use Rattle.std.specs.Prelude.{IfErr, IfOk};
+ghost use Rattle.std.specs.Prelude.{◌+◌, ◌≤◌, IfErr, IfOk, length};
+ghost use Rattle.sa_parse.specs.Features.{features_of};
 ghost use Rattle.sa_parse_expr.specs.Places.{IsBehind, IsUnexpected};
 
 use crate::body::read_body;
+use crate::contract::{Clauses, clauses, invariant};
 use crate::declared::{attr, constants, shared};
 use crate::file::FileKind;
 use crate::include::include;
@@ -22,23 +26,30 @@ use crate::sharing::Sharing;
 use crate::signature::{Signature, sig};
 use sa_lex::{TokenKind, Word};
 use sa_parse_expr::Tokens;
-use sa_tree::{Access, Body, Feature, FrontFault, Include, Kind, Name, Part, Shared};
+use sa_tree::{Access, Body, Condition, Feature, FrontFault, Include, Kind, Name, Part, Shared};
 use sqlite_items::Items;
 use std::alloc::Global;
 
 /// The class that members stand in.
 #[derive(Clone, Copy)]
 pub(crate) struct ClassContext<'a> {
+    /// Its place among the classes.
+    pub(crate) place: u32,
     pub(crate) name: &'a Name,
     pub(crate) kind: Kind,
     pub(crate) file_kind: FileKind,
 }
 
-/// What a member of the grammar gives: an include, or a feature of the tree for each of its names.
+/// What a member of the grammar gives.
 #[derive(Drop)]
 pub(crate) enum Declaration {
-    Features(Items<Feature>),
+    /// A feature of the tree for each of its names.
+    Variables(Items<Feature>),
+    /// A feature with a signature, and its clauses.
+    Called(Feature, Clauses),
     Include(Include),
+    /// What holds of the class.
+    Invariant(Condition),
 }
 
 /// The feature of a signature.
@@ -60,6 +71,7 @@ pub(crate) fn member(
     sharing: &mut Sharing,
     from: u32,
 ) -> Result<(Declaration, u32), FrontFault>
+    ensures count { IfOk result (λ read. from + length (features_of read.0) ≤ read.1) }
     ensures next { IfOk result (λ read. IsBehind tokens.now.list.now from read.1) }
     ensures refused { IfErr result (IsUnexpected tokens.now.file) }
 {
@@ -69,7 +81,11 @@ pub(crate) fn member(
         }
         Some(TokenKind::Word(Word::Readonly)) => {
             let (features, next) = variables(alloc, tokens, sharing, Access::ReadOnly, from + 1)?;
-            Ok((Declaration::Features(features), next))
+            Ok((Declaration::Variables(features), next))
+        }
+        Some(TokenKind::Word(Word::Invariant)) => {
+            let (holds, next) = invariant(alloc, tokens, from + 1)?;
+            Ok((Declaration::Invariant(holds), next))
         }
         _ => after_access(alloc, tokens, class, sharing, Access::Public, from),
     }
@@ -84,6 +100,7 @@ fn after_access(
     access: Access,
     from: u32,
 ) -> Result<(Declaration, u32), FrontFault>
+    ensures count { IfOk result (λ read. from + length (features_of read.0) ≤ read.1) }
     ensures next { IfOk result (λ read. IsBehind tokens.now.list.now from read.1) }
     ensures refused { IfErr result (IsUnexpected tokens.now.file) }
 {
@@ -94,18 +111,13 @@ fn after_access(
         }
         Some(TokenKind::Word(Word::Attr | Word::Shared)) => {
             let (features, next) = variables(alloc, tokens, sharing, access, from)?;
-            Ok((Declaration::Features(features), next))
+            Ok((Declaration::Variables(features), next))
         }
         Some(TokenKind::Word(Word::Const)) => {
             let (features, next) = constants(alloc, tokens, sharing, access, from + 1)?;
-            Ok((Declaration::Features(features), next))
+            Ok((Declaration::Variables(features), next))
         }
-        _ => {
-            let (feature, next) = called(alloc, tokens, class, sharing, access, from)?;
-            let mut features = Items::new(alloc);
-            features.push(feature)?;
-            Ok((Declaration::Features(features), next))
-        }
+        _ => called(alloc, tokens, class, sharing, access, from),
     }
 }
 
@@ -117,6 +129,7 @@ fn variables(
     access: Access,
     from: u32,
 ) -> Result<(Items<Feature>, u32), FrontFault>
+    ensures count { IfOk result (λ read. from + length read.0 ≤ read.1) }
     ensures next { IfOk result (λ read. IsBehind tokens.now.list.now from read.1) }
     ensures refused { IfErr result (IsUnexpected tokens.now.file) }
 {
@@ -127,7 +140,7 @@ fn variables(
     }
 }
 
-/// `sig whole_body | "stub" sig | "builtin" sig`
+/// `sig clauses whole_body | "stub" sig | "builtin" sig`
 fn called(
     alloc: Global,
     tokens: &Tokens<'_>,
@@ -135,19 +148,22 @@ fn called(
     sharing: &mut Sharing,
     access: Access,
     from: u32,
-) -> Result<(Feature, u32), FrontFault>
+) -> Result<(Declaration, u32), FrontFault>
+    ensures count { IfOk result (λ read. from + length (features_of read.0) ≤ read.1) }
     ensures next { IfOk result (λ read. IsBehind tokens.now.list.now from read.1) }
     ensures refused { IfErr result (IsUnexpected tokens.now.file) }
 {
     match tokens.kind(from) {
         Some(TokenKind::Word(Word::Stub)) if class.kind == Kind::Partial => {
             let (sig, next) = sig(alloc, tokens, sharing, from + 1)?;
-            Ok((of_sig(sig, access, Part::Stub), next))
+            let stub = of_sig(sig, access, Part::Stub);
+            Ok((Declaration::Called(stub, Clauses::none()), next))
         }
         Some(TokenKind::Word(Word::Builtin)) if class.file_kind == FileKind::Prelude => {
-            builtin(alloc, tokens, class, sharing, access, from + 1)
+            let (builtin, next) = builtin(alloc, tokens, class, sharing, access, from + 1)?;
+            Ok((Declaration::Called(builtin, Clauses::none()), next))
         }
-        _ => routine(alloc, tokens, sharing, access, from),
+        _ => routine(alloc, tokens, class, sharing, access, from),
     }
 }
 
@@ -169,20 +185,24 @@ fn builtin(
     Ok((of_sig(sig, access, Part::Builtin(of, name)), next))
 }
 
-/// `sig whole_body`
+/// `sig clauses whole_body`
 fn routine(
     alloc: Global,
     tokens: &Tokens<'_>,
+    class: ClassContext<'_>,
     sharing: &mut Sharing,
     access: Access,
     from: u32,
-) -> Result<(Feature, u32), FrontFault>
+) -> Result<(Declaration, u32), FrontFault>
+    ensures count { IfOk result (λ read. from + length (features_of read.0) ≤ read.1) }
     ensures next { IfOk result (λ read. IsBehind tokens.now.list.now from read.1) }
     ensures refused { IfErr result (IsUnexpected tokens.now.file) }
 {
     let (sig, next) = sig(alloc, tokens, sharing, from)?;
+    let (clauses, next) = clauses(alloc, tokens, class.file_kind, next)?;
     let (body, next) = whole_body(alloc, tokens, next)?;
-    Ok((of_sig(sig, access, Part::Routine(body)), next))
+    let routine = of_sig(sig, access, Part::Routine(body));
+    Ok((Declaration::Called(routine, clauses), next))
 }
 
 /// `"is" stmts "end"`

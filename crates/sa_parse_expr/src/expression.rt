@@ -1,10 +1,10 @@
-//! Expressions.
+//! Expressions, and the conditions of contracts.
 
 ghost use Rattle.std.specs.Prelude.{◌<◌, All, IfErr, IfOk, length};
 ghost use Rattle.sa_lex.specs.Token.{IsWithin};
 ghost use Rattle.sa_parse_expr.specs.Places.{IsBehind, IsUnexpected};
 
-use crate::grammar::{Around, Form, read_form};
+use crate::grammar::{Around, Form, Scope, read_form};
 use crate::tokens::Tokens;
 use sa_lex::Token;
 use sa_tree::{Expr, FrontFault};
@@ -17,7 +17,22 @@ pub fn read_expr(alloc: Global, tokens: &Tokens<'_>, from: u32) -> Result<(Expr,
     ensures next { IfOk result (λ read. IsBehind tokens.now.list.now from read.1) }
     ensures refused { IfErr result (IsUnexpected tokens.now.file) }
 {
-    read_form(alloc, tokens, Form::Expr(Around::Open), from)
+    read_condition(alloc, tokens, Scope::Plain, from)
+}
+
+/// The condition of this scope that begins at a place among a file's tokens, and the place behind it: the longest expression.
+///
+/// E06 stands at the first token with which the tokens from the place on begin no such condition, or at the end of the file.
+pub fn read_condition(
+    alloc: Global,
+    tokens: &Tokens<'_>,
+    scope: Scope,
+    from: u32,
+) -> Result<(Expr, u32), FrontFault>
+    ensures next { IfOk result (λ read. IsBehind tokens.now.list.now from read.1) }
+    ensures refused { IfErr result (IsUnexpected tokens.now.file) }
+{
+    read_form(alloc, tokens, scope, Form::Expr(Around::Open), from)
 }
 
 /// `read_expr` over the tokens `tokens` of the text `src`, which is that of file `file`.
@@ -40,4 +55,27 @@ pub fn expr(
         file,
     };
     read_expr(alloc, &tokens, from)
+}
+
+/// `read_condition` over the tokens `tokens` of the text `src`, which is that of file `file`.
+pub fn condition(
+    alloc: Global,
+    tokens: &[Token],
+    src: &[u8],
+    file: u32,
+    scope: Scope,
+    from: u32,
+) -> Result<(Expr, u32), FrontFault>
+    requires within { All (IsWithin src.now) tokens.now }
+    requires few { length tokens.now < 4294967295 }
+    requires short { length src.now < 4294967295 }
+    ensures next { IfOk result (λ read. IsBehind tokens.now from read.1) }
+    ensures refused { IfErr result (IsUnexpected file) }
+{
+    let tokens = Tokens {
+        list: tokens,
+        src,
+        file,
+    };
+    read_condition(alloc, &tokens, scope, from)
 }

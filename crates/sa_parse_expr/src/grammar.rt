@@ -9,6 +9,15 @@ use crate::tokens::Tokens;
 use sa_tree::{Expr, FrontFault};
 use std::alloc::Global;
 
+/// Whether `result` and `initial` may stand in an expression.
+#[derive(Clone, Copy, Debug, PartialEq, Eq)]
+pub enum Scope {
+    /// They may not: in statements, in a `pre`, in an invariant and inside an `initial`.
+    Plain,
+    /// They may: in a `post`.
+    PostClause,
+}
+
 /// What an expression is directly inside of.
 #[derive(Clone, Copy, Debug, PartialEq, Eq)]
 pub(crate) enum Around {
@@ -27,32 +36,42 @@ pub(crate) enum Form {
     Post,
 }
 
-/// The productions of an expression that begins at `from` or behind.
+/// The productions of an expression of this scope that begins at `from` or behind.
 #[derive(Clone, Copy)]
 pub(crate) struct Grammar<'a, F> {
     pub alloc: Global,
     pub tokens: Tokens<'a>,
+    pub scope: Scope,
     pub from: u32,
     /// Reads a form at a place behind `from`.
     pub nested: F,
 }
 
-impl<F: Fn(Global, &Tokens<'_>, Form, u32) -> Result<(Expr, u32), FrontFault>> Grammar<'_, F> {
-    /// A nested form.
-    pub(crate) fn inner(&self, form: Form, from: u32) -> Result<(Expr, u32), FrontFault>
+impl<F: Fn(Global, &Tokens<'_>, Scope, Form, u32) -> Result<(Expr, u32), FrontFault>> Grammar<
+    '_,
+    F,
+> {
+    /// A nested form of this scope.
+    pub(crate) fn inner(
+        &self,
+        scope: Scope,
+        form: Form,
+        from: u32,
+    ) -> Result<(Expr, u32), FrontFault>
         requires nested { Nests self.now.from (F.pre self.now.nested) (F.post self.now.nested) }
         requires from { self.now.from < from }
         ensures next { IfOk result (λ read. IsBehind self.now.tokens.list.now from read.1) }
         ensures refused { IfErr result (IsUnexpected self.now.tokens.file) }
     {
-        (self.nested)(self.alloc, &self.tokens, form, from)
+        (self.nested)(self.alloc, &self.tokens, scope, form, from)
     }
 }
 
-/// The expression of this form that begins at a place, and the place behind it.
+/// The expression of this scope and form that begins at a place, and the place behind it.
 pub(crate) fn read_form(
     alloc: Global,
     tokens: &Tokens<'_>,
+    scope: Scope,
     form: Form,
     from: u32,
 ) -> Result<(Expr, u32), FrontFault>
@@ -62,6 +81,7 @@ pub(crate) fn read_form(
     let grammar = Grammar {
         alloc,
         tokens: *tokens,
+        scope,
         from,
         nested: read_form,
     };

@@ -11,7 +11,8 @@ mod starts;
 mod tokens;
 mod types;
 
-pub use expression::{expr, read_expr};
+pub use expression::{condition, expr, read_condition, read_expr};
+pub use grammar::Scope;
 pub use levels::scan;
 pub use starts::begins_expression;
 pub use tokens::Tokens;

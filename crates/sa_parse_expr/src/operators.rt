@@ -17,7 +17,7 @@ ghost use Rattle.std.specs.Prelude.{◌<◌, ◌≤◌, IfErr, IfOk, OnSome, len
 ghost use Rattle.sa_parse_expr.specs.Nests.{Nests};
 ghost use Rattle.sa_parse_expr.specs.Places.{IsBehind, IsUnexpected};
 
-use crate::grammar::{Around, Form, Grammar};
+use crate::grammar::{Around, Form, Grammar, Scope};
 use crate::tokens::Tokens;
 use sa_lex::{Sign, TokenKind, Word};
 use sa_tree::{Expr, FrontFault, Op, Pos};
@@ -116,7 +116,10 @@ fn prefix(tokens: &Tokens<'_>, at: u32) -> Option<Op>
     }
 }
 
-impl<F: Fn(Global, &Tokens<'_>, Form, u32) -> Result<(Expr, u32), FrontFault>> Grammar<'_, F> {
+impl<F: Fn(Global, &Tokens<'_>, Scope, Form, u32) -> Result<(Expr, u32), FrontFault>> Grammar<
+    '_,
+    F,
+> {
     /// `logical`
     pub(crate) fn expr(&self, around: Around, from: u32) -> Result<(Expr, u32), FrontFault>
         requires nested { Nests self.now.from (F.pre self.now.nested) (F.post self.now.nested) }

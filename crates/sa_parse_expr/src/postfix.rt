@@ -15,7 +15,7 @@ ghost use Rattle.std.specs.Prelude.{◌<◌, ◌≤◌, IfErr, IfOk, length};
 ghost use Rattle.sa_parse_expr.specs.Nests.{Nests};
 ghost use Rattle.sa_parse_expr.specs.Places.{IsBehind, IsFrom, IsUnexpected};
 
-use crate::grammar::{Around, Form, Grammar};
+use crate::grammar::{Around, Form, Grammar, Scope};
 use crate::tokens::Tokens;
 use crate::types::read_type;
 use sa_lex::{Sign, TokenKind, Word};
@@ -23,7 +23,10 @@ use sa_tree::{Expr, FrontFault, Given, Mode, Recv};
 use sqlite_items::{Boxed, Items};
 use std::alloc::Global;
 
-impl<F: Fn(Global, &Tokens<'_>, Form, u32) -> Result<(Expr, u32), FrontFault>> Grammar<'_, F> {
+impl<F: Fn(Global, &Tokens<'_>, Scope, Form, u32) -> Result<(Expr, u32), FrontFault>> Grammar<
+    '_,
+    F,
+> {
     /// `first {"." F [args] | "[" exprs "]"}`
     pub(crate) fn post(&self, around: Around, from: u32) -> Result<(Expr, u32), FrontFault>
         requires nested { Nests self.now.from (F.pre self.now.nested) (F.post self.now.nested) }
@@ -111,7 +114,7 @@ impl<F: Fn(Global, &Tokens<'_>, Form, u32) -> Result<(Expr, u32), FrontFault>> G
             Some(TokenKind::Word(Word::Inout)) => (Mode::Inout, from + 1),
             _ => (Mode::In, from),
         };
-        let (value, next) = self.inner(Form::Expr(Around::Open), next)?;
+        let (value, next) = self.inner(self.scope, Form::Expr(Around::Open), next)?;
         Ok((Given::Value(mode, value), next))
     }
 
@@ -134,11 +137,11 @@ impl<F: Fn(Global, &Tokens<'_>, Form, u32) -> Result<(Expr, u32), FrontFault>> G
         ensures next { IfOk result (λ read. IsBehind self.now.tokens.list.now from read.1) }
         ensures refused { IfErr result (IsUnexpected self.now.tokens.file) }
     {
-        let (first, mut next) = self.inner(Form::Expr(around), from)?;
+        let (first, mut next) = self.inner(self.scope, Form::Expr(around), from)?;
         let mut exprs = Vec::new(self.alloc);
         exprs.push(first)?;
         'more: while self.tokens.is_sign(next, Sign::Comma) {
-            let (one, end) = self.inner(Form::Expr(around), next + 1)?;
+            let (one, end) = self.inner(self.scope, Form::Expr(around), next + 1)?;
             exprs.push(one)?;
             next = end;
         }

@@ -4,24 +4,28 @@
 //! first = number | char | text {text} | "true" | "false" | "self" | "exception" | "(" expr ")"
 //!       | "void" ["(" expr ")"] | "new" ["(" expr ")"] | F [args] | type "::" F [args]
 //!       | "#" [type] [args] | "|" exprs "|" | "bind" "(" post ")" | "[" exprs "]"
+//!       | "result" | "initial" "(" expr ")"         in a `post` alone, and not inside an `initial`
 //! ```
 //!
-//! A call stands at its name, and every other form at its first token. Parentheses leave no trace in the tree.
+//! `result` and `initial(e)` are calls of these names. A call stands at its name, and every other form at its first token. Parentheses leave no trace in the tree.
 
 ghost use Rattle.std.specs.Prelude.{◌<◌, ◌≤◌, IfErr, IfOk, length};
 ghost use Rattle.sa_parse_expr.specs.Nests.{Nests};
 ghost use Rattle.sa_parse_expr.specs.Places.{IsBehind, IsFrom, IsUnexpected};
 
-use crate::grammar::{Around, Form, Grammar};
+use crate::grammar::{Around, Form, Grammar, Scope};
 use crate::starts::begins_type;
 use crate::tokens::Tokens;
 use crate::types::read_type;
 use sa_lex::{Sign, TokenKind, Word};
-use sa_tree::{Expr, FrontFault, Name, Recv, Ty};
-use sqlite_items::Boxed;
+use sa_tree::{Expr, FrontFault, Given, Mode, Name, Recv, Ty};
+use sqlite_items::{Boxed, Items};
 use std::alloc::{AllocError, Global};
 
-impl<F: Fn(Global, &Tokens<'_>, Form, u32) -> Result<(Expr, u32), FrontFault>> Grammar<'_, F> {
+impl<F: Fn(Global, &Tokens<'_>, Scope, Form, u32) -> Result<(Expr, u32), FrontFault>> Grammar<
+    '_,
+    F,
+> {
     /// A form that is no operator, call on an expression or index of one.
     pub(crate) fn first(&self, around: Around, from: u32) -> Result<(Expr, u32), FrontFault>
         requires nested { Nests self.now.from (F.pre self.now.nested) (F.post self.now.nested) }
@@ -63,6 +67,8 @@ impl<F: Fn(Global, &Tokens<'_>, Form, u32) -> Result<(Expr, u32), FrontFault>> G
             Word::New => self.new(from),
             Word::Bind => self.bind(from),
             Word::Same | Word::Rout | Word::Iter => self.class_call(from),
+            Word::Result if self.scope == Scope::PostClause => self.result_word(from),
+            Word::Initial if self.scope == Scope::PostClause => self.initial(from),
             _ => Err(self.tokens.unexpected(from)),
         }
     }
@@ -76,7 +82,7 @@ impl<F: Fn(Global, &Tokens<'_>, Form, u32) -> Result<(Expr, u32), FrontFault>> G
         ensures refused { IfErr result (IsUnexpected self.now.tokens.file) }
     {
         match sign {
-            Sign::LeftParen => self.parenthesised(from),
+            Sign::LeftParen => self.parenthesised(self.scope, from),
             Sign::Hash => self.create(from),
             Sign::LeftBracket => {
                 let (places, next) = self.index(from)?;
@@ -87,15 +93,15 @@ impl<F: Fn(Global, &Tokens<'_>, Form, u32) -> Result<(Expr, u32), FrontFault>> G
         }
     }
 
-    /// `"(" expr ")"`
-    fn parenthesised(&self, from: u32) -> Result<(Expr, u32), FrontFault>
+    /// `"(" expr ")"`, with an expression of this scope.
+    fn parenthesised(&self, scope: Scope, from: u32) -> Result<(Expr, u32), FrontFault>
         requires nested { Nests self.now.from (F.pre self.now.nested) (F.post self.now.nested) }
         requires from { self.now.from ≤ from }
         ensures next { IfOk result (λ read. IsBehind self.now.tokens.list.now from read.1) }
         ensures refused { IfErr result (IsUnexpected self.now.tokens.file) }
     {
         let next = self.tokens.after_sign(from, Sign::LeftParen)?;
-        let (inner, next) = self.inner(Form::Expr(Around::Open), next)?;
+        let (inner, next) = self.inner(scope, Form::Expr(Around::Open), next)?;
         Ok((inner, self.tokens.after_sign(next, Sign::RightParen)?))
     }
 
@@ -111,7 +117,7 @@ impl<F: Fn(Global, &Tokens<'_>, Form, u32) -> Result<(Expr, u32), FrontFault>> G
         if !self.tokens.is_sign(from + 1, Sign::LeftParen) {
             return Ok((Expr::Void(pos), from + 1));
         }
-        let (of, next) = self.parenthesised(from + 1)?;
+        let (of, next) = self.parenthesised(self.scope, from + 1)?;
         Ok((Expr::IsVoid(Boxed::new(self.alloc, of)?, pos), next))
     }
 
@@ -127,7 +133,7 @@ impl<F: Fn(Global, &Tokens<'_>, Form, u32) -> Result<(Expr, u32), FrontFault>> G
         if !self.tokens.is_sign(from + 1, Sign::LeftParen) {
             return Ok((Expr::New(None, pos), from + 1));
         }
-        let (count, next) = self.parenthesised(from + 1)?;
+        let (count, next) = self.parenthesised(self.scope, from + 1)?;
         Ok((Expr::New(Some(Boxed::new(self.alloc, count)?), pos), next))
     }
 
@@ -178,10 +184,38 @@ impl<F: Fn(Global, &Tokens<'_>, Form, u32) -> Result<(Expr, u32), FrontFault>> G
         ensures refused { IfErr result (IsUnexpected self.now.tokens.file) }
     {
         let next = self.tokens.after_sign(from + 1, Sign::LeftParen)?;
-        let (head, next) = self.inner(Form::Post, next)?;
+        let (head, next) = self.inner(self.scope, Form::Post, next)?;
         let next = self.tokens.after_sign(next, Sign::RightParen)?;
         let head = Boxed::new(self.alloc, head)?;
         Ok((Expr::Bind(head, self.tokens.pos(from)), next))
+    }
+
+    /// `"result"`
+    fn result_word(&self, from: u32) -> Result<(Expr, u32), FrontFault>
+        requires { from < length self.now.tokens.list.now }
+        ensures next { IfOk result (λ read. IsBehind self.now.tokens.list.now from read.1) }
+        ensures refused { IfErr result (IsUnexpected self.now.tokens.file) }
+    {
+        let name = self.tokens.name(self.alloc, from)?;
+        let given = Items::new(self.alloc);
+        let pos = self.tokens.pos(from);
+        Ok((Expr::Call(Recv::Implied, name, given, pos), from + 1))
+    }
+
+    /// `"initial" "(" expr ")"`
+    fn initial(&self, from: u32) -> Result<(Expr, u32), FrontFault>
+        requires nested { Nests self.now.from (F.pre self.now.nested) (F.post self.now.nested) }
+        requires from { self.now.from ≤ from }
+        requires within { from < length self.now.tokens.list.now }
+        ensures next { IfOk result (λ read. IsBehind self.now.tokens.list.now from read.1) }
+        ensures refused { IfErr result (IsUnexpected self.now.tokens.file) }
+    {
+        let (old, next) = self.parenthesised(Scope::Plain, from + 1)?;
+        let mut given = Items::new(self.alloc);
+        given.push(Given::Value(Mode::In, old))?;
+        let name = self.tokens.name(self.alloc, from)?;
+        let pos = self.tokens.pos(from);
+        Ok((Expr::Call(Recv::Implied, name, given, pos), next))
     }
 }
 

@@ -84,15 +84,22 @@ impl Tokens<'_> {
         }
     }
 
-    /// The bytes of the token, and no bytes at the end of the file. It fails only where memory runs out.
+    /// The bytes of the token, and no bytes at the end of the file.
     #[tactic(auto, unfolding(crate::specs::Places::bytes_at))]
+    pub fn bytes(&self, at: u32) -> &[u8]
+        ensures { result.now ≡ bytes_at self.now.src.now self.now.list.now at }
+    {
+        match self.list.get(at as usize) {
+            Some(token) => slice_of(self.src, token),
+            None => &[],
+        }
+    }
+
+    /// The bytes of the token as a name. It fails only where memory runs out.
     pub fn name(&self, alloc: Global, at: u32) -> Result<Name, AllocError>
         ensures { IfOk result (λ name. name ≡ bytes_at self.now.src.now self.now.list.now at) }
     {
-        match self.list.get(at as usize) {
-            Some(token) => Name::from_slice(alloc, slice_of(self.src, token)),
-            None => Name::from_slice(alloc, &[]),
-        }
+        Name::from_slice(alloc, self.bytes(at))
     }
 
     /// E06 at the token, or at the end of the file.

@@ -81,7 +81,7 @@ fn shown_file(alloc: Global, src: &[u8]) -> Result<String, FrontFault> {
     if tokens.len() >= LONGEST {
         return Err(FrontFault::NoMemory);
     }
-    let parsed = sa_parse::parse(alloc, tokens.as_slice(), src, 1, FileKind::Program)?;
+    let parsed = sa_parse::parse(alloc, tokens.as_slice(), src, 1, FileKind::Program, 0)?;
     let mut out = String::new(alloc);
     for one in parsed.classes.as_slice() {
         class::class(&mut out, one)?;

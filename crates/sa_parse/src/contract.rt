@@ -1,0 +1,133 @@
+//! What is to hold: the clauses of routines, and the invariants of classes. One function for each production of their grammar.
+//!
+//! ```text
+//! clauses   = [pre] [post]                                         of which the prelude has none
+//! pre       = "pre" expr
+//! post      = "post" expr
+//! invariant = "invariant" ":" "BOOL" "is" "return" expr closing
+//! closing   = [";"] "end"
+//! ```
+//!
+//! `result` and `initial` may stand in the expression of a `post` alone.
+
+ghost use Rattle.std.specs.Prelude.{◌≤◌, IfErr, IfOk, length};
+ghost use Rattle.sa_parse_expr.specs.Places.{IsBehind, IsFrom, IsUnexpected};
+
+use crate::file::FileKind;
+use crate::names::after_bool;
+use sa_lex::{Sign, Word};
+use sa_parse_expr::{Scope, Tokens, read_condition};
+use sa_tree::{Condition, Contract, FrontFault};
+use std::alloc::Global;
+
+/// The clauses of a routine.
+#[derive(Drop)]
+pub(crate) struct Clauses {
+    pub(crate) pre: Option<Condition>,
+    pub(crate) post: Option<Condition>,
+}
+
+impl Clauses {
+    /// Those of a feature for which none is written.
+    pub(crate) fn none() -> Clauses {
+        Clauses {
+            pre: None,
+            post: None,
+        }
+    }
+
+    /// The contract that they are of this feature of this class, if one of them is written.
+    pub(crate) fn of(self, class: u32, feature: u32) -> Option<Contract> {
+        if self.pre.is_none() && self.post.is_none() {
+            return None;
+        }
+        let Clauses { pre, post } = self;
+        Some(Contract::Clauses {
+            class,
+            feature,
+            pre,
+            post,
+        })
+    }
+}
+
+/// `[pre] [post]`
+pub(crate) fn clauses(
+    alloc: Global,
+    tokens: &Tokens<'_>,
+    file_kind: FileKind,
+    from: u32,
+) -> Result<(Clauses, u32), FrontFault>
+    requires { from ≤ length tokens.now.list.now }
+    ensures next { IfOk result (λ read. IsFrom tokens.now.list.now from read.1) }
+    ensures refused { IfErr result (IsUnexpected tokens.now.file) }
+{
+    if file_kind == FileKind::Prelude {
+        return Ok((Clauses::none(), from));
+    }
+    let (pre, next) = clause(alloc, tokens, Word::Pre, Scope::Plain, from)?;
+    let (post, next) = clause(alloc, tokens, Word::Post, Scope::PostClause, next)?;
+    Ok((Clauses { pre, post }, next))
+}
+
+/// `[WORD expr]`
+fn clause(
+    alloc: Global,
+    tokens: &Tokens<'_>,
+    word: Word,
+    scope: Scope,
+    from: u32,
+) -> Result<(Option<Condition>, u32), FrontFault>
+    requires { from ≤ length tokens.now.list.now }
+    ensures next { IfOk result (λ read. IsFrom tokens.now.list.now from read.1) }
+    ensures refused { IfErr result (IsUnexpected tokens.now.file) }
+{
+    if !tokens.is_word(from, word) {
+        return Ok((None, from));
+    }
+    let (condition, next) = condition(alloc, tokens, scope, from + 1)?;
+    Ok((Some(condition), next))
+}
+
+/// `expr`, which stands at its first token.
+fn condition(
+    alloc: Global,
+    tokens: &Tokens<'_>,
+    scope: Scope,
+    from: u32,
+) -> Result<(Condition, u32), FrontFault>
+    ensures next { IfOk result (λ read. IsBehind tokens.now.list.now from read.1) }
+    ensures refused { IfErr result (IsUnexpected tokens.now.file) }
+{
+    let (test, next) = read_condition(alloc, tokens, scope, from)?;
+    let pos = tokens.pos(from);
+    Ok((Condition { test, pos }, next))
+}
+
+/// `":" "BOOL" "is" "return" expr closing`, behind `invariant`.
+pub(crate) fn invariant(
+    alloc: Global,
+    tokens: &Tokens<'_>,
+    from: u32,
+) -> Result<(Condition, u32), FrontFault>
+    ensures next { IfOk result (λ read. IsBehind tokens.now.list.now from read.1) }
+    ensures refused { IfErr result (IsUnexpected tokens.now.file) }
+{
+    let next = tokens.after_sign(from, Sign::Colon)?;
+    let next = after_bool(tokens, next)?;
+    let next = tokens.after_word(next, Word::Is)?;
+    let next = tokens.after_word(next, Word::Return)?;
+    let (holds, next) = condition(alloc, tokens, Scope::Plain, next)?;
+    Ok((holds, after_closing(tokens, next)?))
+}
+
+/// The place behind `[";"] "end"`.
+fn after_closing(tokens: &Tokens<'_>, from: u32) -> Result<u32, FrontFault>
+    ensures next { IfOk result (IsBehind tokens.now.list.now from) }
+    ensures refused { IfErr result (IsUnexpected tokens.now.file) }
+{
+    if tokens.is_sign(from, Sign::Semicolon) {
+        return tokens.after_word(from + 1, Word::End);
+    }
+    tokens.after_word(from, Word::End)
+}
