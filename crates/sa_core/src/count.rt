@@ -115,10 +115,10 @@ fn count_option_expr(count: u32, expr: &Option<ExprCore>) -> u32
     }
 }
 
-fn count_exit(count: u32, exit: &LoopExit) -> u32
-    ensures { result ≡ capped (count + exit_nodes (exit_of exit.now)) }
+fn count_exit(count: u32, left: &LoopExit) -> u32
+    ensures { result ≡ capped (count + exit_nodes (exit_of left.now)) }
 {
-    match exit {
+    match left {
         LoopExit::Break => count,
         LoopExit::While(test) | LoopExit::Until(test) => count_expr(count, test),
     }
@@ -139,7 +139,7 @@ fn count_stmt(count: u32, stmt: &StmtCore) -> u32
             count_stmts(count, other.as_slice())
         }
         StmtCore::Loop(_, body) => count_stmts(count, body.as_slice()),
-        StmtCore::Leave(exit) => count_exit(count, exit),
+        StmtCore::Leave(left) => count_exit(count, left),
         StmtCore::Return(value) | StmtCore::Yield(value) => count_option_expr(count, value),
         StmtCore::TypeCase(_, arms, other, _) => {
             let count = count_arms(count, arms.as_slice());

@@ -138,10 +138,10 @@ fn add_option_expr(found: &mut Items<Pos>, expr: &Option<ExprCore>) -> Result<()
 }
 
 #[tactic(auto, using(crate::proofs::PositionLists::parts))]
-fn add_exit(found: &mut Items<Pos>, exit: &LoopExit) -> Result<(), NoMemory>
-    ensures { OnOk result (found.new ≡ found.old ++ exit_positions (exit_of exit.now)) }
+fn add_exit(found: &mut Items<Pos>, left: &LoopExit) -> Result<(), NoMemory>
+    ensures { OnOk result (found.new ≡ found.old ++ exit_positions (exit_of left.now)) }
 {
-    match exit {
+    match left {
         LoopExit::Break => Ok(()),
         LoopExit::While(test) | LoopExit::Until(test) => add_expr(found, test),
     }
@@ -159,7 +159,7 @@ fn add_stmt(found: &mut Items<Pos>, stmt: &StmtCore) -> Result<(), NoMemory>
             add_stmts(found, other.as_slice())
         }
         StmtCore::Loop(_, body) => add_stmts(found, body.as_slice()),
-        StmtCore::Leave(exit) => add_exit(found, exit),
+        StmtCore::Leave(left) => add_exit(found, left),
         StmtCore::Return(value) | StmtCore::Yield(value) => add_option_expr(found, value),
         StmtCore::TypeCase(_, arms, other, pos) => {
             add_pos(found, *pos)?;
