@@ -13,7 +13,6 @@ use Rattle.sa_drive.specs.Runs.{Ran, RanBuilt}
 use Rattle.sa_drive.specs.Seen.{Failed, IsKept, Outside, Part}
 use Rattle.sa_drive.specs.declared.cause.Cause.{Cause}
 use Rattle.sa_drive.specs.declared.cause.Cause.TheVariants as cause
-use Rattle.sa_drive.specs.declared.exec.TheConstants.{MOST_MODULE_BYTES}
 use Rattle.sa_drive.specs.declared.outcome.Outcome.{Outcome}
 
 -- there is no module of the outcome
@@ -44,16 +43,20 @@ IsChecked store out names outcome =
     (GivesNone store names outcome × IsKept out)
     ⊎ (IsTakenProgram store.before names outcome.sources × HasNoModule outcome × IsPrinted out (codes "accepted\n") outcome.cause)
 
+-- how many bytes a module has at most: 64 MiB
+abbrev pub most_module_bytes : ℕ
+most_module_bytes = 67108864
+
 -- why no module was read from its file
 abbrev pub IsUnread : Part Files → List ℕ → Cause → Type 0
 IsUnread store file cause.StoreFault = Failed store ⊎ Lacks store.before file
-IsUnread store file cause.Malformed = (bytes : List ℕ) × HasLonger store.before file MOST_MODULE_BYTES bytes
+IsUnread store file cause.Malformed = (bytes : List ℕ) × HasLonger store.before file most_module_bytes bytes
 IsUnread store file cause.NoMemory = ⊤
 IsUnread store file _ = ⊥
 
 -- these are the bytes of the module in the file
 abbrev pub IsModuleIn : Part Files → List ℕ → List ℕ → Type 0
-IsModuleIn store file bytes = HasFile store.before file bytes × (length bytes ≤ MOST_MODULE_BYTES)
+IsModuleIn store file bytes = HasFile store.before file bytes × (length bytes ≤ most_module_bytes)
 
 -- the cause that is told is the module's
 abbrev pub IsSame : (of_module : Cause) → (told : Cause) → Type 0
