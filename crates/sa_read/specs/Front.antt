@@ -1,4 +1,4 @@
--- Why the texts of a program give no classes.
+-- Why the texts of a program give no classes and contracts.
 use Rattle.std.specs.Prelude.{◌≡◌, ◌⊎◌, ⊤, ℕ, ◌<◌, List, [], length, slice_index_or}
 use Rattle.sa_lex.specs.declared.token.Token.{Token}
 use Rattle.sa_lex.specs.Tokens.{AreTokensOf, IsFaultOf}
