@@ -7,16 +7,16 @@ ghost use Rattle.sa_drive.specs.Built.{IsTried};
 ghost use Rattle.sa_drive.specs.Files.{ComesOfFiles, ComesOfGenerated, Explains, ExplainsProgram, IsPlaceIn, IsTakenGenerated, IsTakenProgram, generated_sources};
 ghost use Rattle.sa_drive.specs.Lines.{IsPlaced};
 
+use crate::accepted::accepted;
 use crate::cause::Cause;
 use crate::module::{Built, module_of};
-use sa_check::check;
 use sa_core::Core;
 use sa_gen::generate;
 use sa_outside::ReadFiles;
 use sa_prelude::text;
-use sa_read::{Parsed, Program, ReadFault, parse_program, read_program};
-use sa_tree::{Class, FrontFault, Name, NoMemory, Pos, Refusal, Sources};
-use sa_words::ROOM;
+use sa_read::{Program, ReadFault, parse_program, read_program};
+use sa_tree::{FrontFault, Name, NoMemory, Pos, Refusal, Sources};
+use sa_words::{Contracts, ROOM};
 use sqlite_items::Items;
 use std::alloc::Global;
 
@@ -35,14 +35,19 @@ pub struct Compiled {
 }
 
 /// Reads the files of a program and checks it.
-pub fn check_files<S: ReadFiles>(alloc: Global, store: &mut S, files: &[&str]) -> Checked
+pub fn check_files<S: ReadFiles>(
+    alloc: Global,
+    store: &mut S,
+    files: &[&str],
+    contracts: Contracts,
+) -> Checked
     ensures core { MatchResult result.core (λ _. IsTakenProgram (S.files store.old) (map (λ file. file.now) files.now) result.sources) (ComesOfFiles (S.files store.old) (Rose (S.faults store.old) (S.faults store.new)) (map (λ file. file.now) files.now) result.sources) }
     ensures placed { IfErr result.core (IsPlaced result.sources) }
     ensures files { S.files store.new ≡ S.files store.old }
     ensures count { S.faults store.old ≤ S.faults store.new }
 {
     match read_program(alloc, store, files) {
-        Ok(program) => check_program(alloc, program),
+        Ok(program) => check_program(alloc, program, contracts),
         Err(fault) => Checked {
             sources: no_sources(alloc),
             core: Err(unread(fault)),
@@ -55,6 +60,7 @@ pub fn compile_files<S: ReadFiles>(
     alloc: Global,
     store: &mut S,
     files: &[&str],
+    contracts: Contracts,
     room: u32,
 ) -> Compiled
     ensures module { MatchResult result.«module» (λ _. IsTakenProgram (S.files store.old) (map (λ file. file.now) files.now) result.sources) (ComesOfFiles (S.files store.old) (Rose (S.faults store.old) (S.faults store.new)) (map (λ file. file.now) files.now) result.sources) }
@@ -63,7 +69,7 @@ pub fn compile_files<S: ReadFiles>(
     ensures files { S.files store.new ≡ S.files store.old }
     ensures count { S.faults store.old ≤ S.faults store.new }
 {
-    let checked = check_files(alloc, store, files);
+    let checked = check_files(alloc, store, files, contracts);
     compile_checked(alloc, checked, room)
 }
 
@@ -115,7 +121,10 @@ fn check_generated(alloc: Global, classes: u32) -> Checked
     ensures placed { IfErr result.core (IsPlaced result.sources) }
 {
     match generated_sources(alloc, classes) {
-        Ok(sources) => check_program(alloc, Program { sources, cut: None }),
+        Ok(sources) => {
+            let program = Program { sources, cut: None };
+            check_program(alloc, program, Contracts::Dropped)
+        }
         Err(NoMemory) => Checked {
             sources: no_sources(alloc),
             core: Err(Cause::NoMemory),
@@ -124,7 +133,7 @@ fn check_generated(alloc: Global, classes: u32) -> Checked
 }
 
 /// Checks a program, unless its files are too large.
-fn check_program(alloc: Global, program: Program) -> Checked
+fn check_program(alloc: Global, program: Program, contracts: Contracts) -> Checked
     requires short { All (λ text. length text < 4294967295) program.sources.texts }
     requires few { length program.sources.texts ≤ 65536 }
     requires placed { IfSome program.cut (λ refusal. refusal.pos.file < length program.sources.texts) }
@@ -135,7 +144,7 @@ fn check_program(alloc: Global, program: Program) -> Checked
 {
     let Program { sources, cut } = program;
     match cut {
-        None => check_texts(alloc, sources),
+        None => check_texts(alloc, sources, contracts),
         Some(refusal) => Checked {
             sources,
             core: Err(Cause::Refused(refusal)),
@@ -181,39 +190,34 @@ pub fn unread(fault: ReadFault) -> Cause
 }
 
 /// The typed tree of a program of these texts, with the texts.
-fn check_texts(alloc: Global, sources: Sources) -> Checked
+fn check_texts(alloc: Global, sources: Sources, contracts: Contracts) -> Checked
     requires short { All (λ text. length text < 4294967295) sources.texts }
     requires few { length sources.texts < 4294967295 }
     ensures same { result.sources ≡ sources }
     ensures made { IfOk result.core (λ _. IsTakenUpTo sources.texts (length sources.texts)) }
     ensures fault { IfErr result.core (Explains sources.texts) }
 {
-    let core = typed(alloc, sources.texts.as_slice());
+    let core = typed(alloc, sources.texts.as_slice(), contracts);
     Checked { sources, core }
 }
 
 /// The typed tree of a program of these texts, or the cause why there is none.
-fn typed(alloc: Global, texts: &[Items<u8>]) -> Result<Core, Cause>
+fn typed(alloc: Global, texts: &[Items<u8>], contracts: Contracts) -> Result<Core, Cause>
     requires short { All (λ text. length text < 4294967295) texts.now }
     requires few { length texts.now < 4294967295 }
     ensures made { IfOk result (λ _. IsTakenUpTo texts.now (length texts.now)) }
     ensures fault { IfErr result (Explains texts.now) }
 {
-    let classes = match parse_program(alloc, texts) {
-        Ok(Parsed { classes, .. }) => classes,
+    let declared = match parse_program(alloc, texts) {
+        Ok(declared) => declared,
         Err(FrontFault::Refused(refusal)) => return Err(refused(refusal, texts)),
         Err(FrontFault::NoMemory) => return Err(Cause::NoMemory),
     };
-    match accepted(alloc, classes) {
+    match accepted(alloc, declared, contracts) {
         Ok(core) => Ok(core),
         Err(FrontFault::Refused(refusal)) => Err(refused(refusal, texts)),
         Err(FrontFault::NoMemory) => Err(Cause::NoMemory),
     }
-}
-
-/// The typed program of these classes, of which nothing is kept.
-fn accepted(alloc: Global, classes: Items<Class>) -> Result<Core, FrontFault> {
-    check(alloc, classes.as_slice())
 }
 
 /// The cause of the refusal of these texts. A refusal at no place in them, which no phase gives, is answered as out of memory.

@@ -45,6 +45,7 @@ pub fn run<'a, S: ReadFiles, I: Source, O: Sink>(
         alloc,
         store,
         line.files.as_slice(),
+        line.contracts,
         line.room,
     );
     match module {

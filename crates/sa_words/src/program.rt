@@ -58,7 +58,7 @@ fn classes<'a>(alloc: Global) -> Arg<'a>
     Arg::new(alloc, "classes").required(true)
 }
 
-/// `run [--fuel N] [--room KIB] [--stats] FILE..`
+/// `run [--fuel N] [--room KIB] [--stats] [--contracts] FILE..`
 fn run<'a>(alloc: Global) -> Result<Command<'a>, AllocError>
     ensures { IfOk result (λ c. (app_of c ≡ line.run) × ((out-Command c).has_globals ≡ false)) }
 {
@@ -66,24 +66,28 @@ fn run<'a>(alloc: Global) -> Result<Command<'a>, AllocError>
         .arg(option(alloc, "fuel"))?
         .arg(option(alloc, "room"))?
         .arg(flag(alloc, "stats"))?
+        .arg(flag(alloc, "contracts"))?
         .arg(files(alloc))
 }
 
-/// `build [--room KIB] -o OUT FILE..`
+/// `build [--room KIB] [--contracts] -o OUT FILE..`
 fn build<'a>(alloc: Global) -> Result<Command<'a>, AllocError>
     ensures { IfOk result (λ c. (app_of c ≡ line.build) × ((out-Command c).has_globals ≡ false)) }
 {
     Command::new(alloc, "build")
         .arg(option(alloc, "room"))?
+        .arg(flag(alloc, "contracts"))?
         .arg(out(alloc))?
         .arg(files(alloc))
 }
 
-/// `check FILE..`
+/// `check [--contracts] FILE..`
 fn check<'a>(alloc: Global) -> Result<Command<'a>, AllocError>
     ensures { IfOk result (λ c. (app_of c ≡ line.check) × ((out-Command c).has_globals ≡ false)) }
 {
-    Command::new(alloc, "check").arg(files(alloc))
+    Command::new(alloc, "check")
+        .arg(flag(alloc, "contracts"))?
+        .arg(files(alloc))
 }
 
 /// `exec [--fuel N] [--stats] MODULE`
