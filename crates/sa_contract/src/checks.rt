@@ -80,7 +80,7 @@ impl<'a> InFeature<'a> {
     fn condition_of(&self, otherwise: &[StmtCore]) -> Option<Pos> {
         match otherwise {
             [StmtCore::Stop(kind, pos)] => {
-                let is_condition = *kind == FaultKind::Assert.number() && self.has_condition(*pos);
+                let is_condition = *kind == FaultKind::Assert && self.has_condition(*pos);
                 is_condition.then_some(*pos)
             }
             _ => None,
@@ -122,7 +122,7 @@ fn in_statement(woven: InFeature<'_>, s: &StmtCore) -> Result<(), Refusal> {
             }
         }
         StmtCore::Do(_)
-        | StmtCore::Leave(_, _)
+        | StmtCore::Leave(_)
         | StmtCore::Return(_)
         | StmtCore::Yield(_)
         | StmtCore::Quit

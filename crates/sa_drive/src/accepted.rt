@@ -9,7 +9,7 @@ use sa_words::Contracts;
 use sqlite_items::Items;
 use std::alloc::Global;
 
-/// The typed program of what its files declare.
+/// The typed program of what these texts declare.
 ///
 /// # Errors
 ///
@@ -18,15 +18,16 @@ use std::alloc::Global;
 pub(crate) fn accepted(
     alloc: Global,
     declared: Parsed,
+    texts: &[Items<u8>],
     contracts: Contracts,
 ) -> Result<Core, FrontFault> {
-    let core = check(alloc, declared.classes.as_slice())?;
+    let core = check(alloc, declared.classes.as_slice(), texts)?;
     match contracts {
         Contracts::Dropped => Ok(core),
         Contracts::Checked => {
             drop(core);
             let Parsed { classes, contracts } = declared;
-            with_checks(alloc, classes, contracts.as_slice())
+            with_checks(alloc, classes, contracts.as_slice(), texts)
         }
     }
 }
@@ -36,9 +37,10 @@ fn with_checks(
     alloc: Global,
     classes: Items<Class>,
     contracts: &[Contract],
+    texts: &[Items<u8>],
 ) -> Result<Core, FrontFault> {
     let Woven { classes, checks } = weave(alloc, classes, contracts)?;
-    let core = check(alloc, classes.as_slice())?;
+    let core = check(alloc, classes.as_slice(), texts)?;
     checks.check_quiet(&core)?;
     Ok(core)
 }

@@ -91,23 +91,18 @@ fn compile_checked(alloc: Global, checked: Checked, room: u32) -> Compiled
     ensures fault { IfErr result.«module» (λ cause. (checked.core ≡ Err cause) ⊎ (cause ≡ Cause.NoMemory)) }
 {
     let Checked { sources, core } = checked;
-    let module = made(alloc, core, sources.texts.as_slice(), room);
+    let module = made(alloc, core, room);
     Compiled { sources, module }
 }
 
-/// The module of the typed tree of these texts, or the cause why there is none.
-fn made(
-    alloc: Global,
-    core: Result<Core, Cause>,
-    texts: &[Items<u8>],
-    room: u32,
-) -> Result<Built, Cause>
+/// The module of a typed tree, or the cause why there is none.
+fn made(alloc: Global, core: Result<Core, Cause>, room: u32) -> Result<Built, Cause>
     ensures built { IfOk result IsTried }
     ensures made { IfOk result (λ _. IfErr core (λ _. ⊥)) }
     ensures fault { IfErr result (λ cause. (core ≡ Err cause) ⊎ (cause ≡ Cause.NoMemory)) }
 {
     match core {
-        Ok(core) => match module_of(alloc, core, texts, room) {
+        Ok(core) => match module_of(alloc, core, room) {
             Ok(built) => Ok(built),
             Err(NoMemory) => Err(Cause::NoMemory),
         },
@@ -213,7 +208,7 @@ fn typed(alloc: Global, texts: &[Items<u8>], contracts: Contracts) -> Result<Cor
         Err(FrontFault::Refused(refusal)) => return Err(refused(refusal, texts)),
         Err(FrontFault::NoMemory) => return Err(Cause::NoMemory),
     };
-    match accepted(alloc, declared, contracts) {
+    match accepted(alloc, declared, texts, contracts) {
         Ok(core) => Ok(core),
         Err(FrontFault::Refused(refusal)) => Err(refused(refusal, texts)),
         Err(FrontFault::NoMemory) => Err(Cause::NoMemory),
