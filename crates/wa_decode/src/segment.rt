@@ -67,9 +67,9 @@ impl Production for OwnGlobal {
 }
 
 /// A segment of a table (5.5.12).
-pub struct ElementSegment;
+pub struct OwnElemSegment;
 
-impl Production for ElementSegment {
+impl Production for OwnElemSegment {
     type Value = ElemSegment;
 
     ghost format = { elem };
@@ -88,9 +88,9 @@ impl Production for ElementSegment {
 }
 
 /// A segment of a memory (5.5.14).
-pub struct DataSegment;
+pub struct OwnDataSegment;
 
-impl Production for DataSegment {
+impl Production for OwnDataSegment {
     type Value = DataSegment;
 
     ghost format = { segment };

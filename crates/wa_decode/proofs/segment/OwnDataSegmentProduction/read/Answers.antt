@@ -2,7 +2,7 @@ use Rattle.wa_syntax.specs.BinaryInstructions.{init}
 use Rattle.wa_syntax.specs.Formats.{vec, byte}
 use Rattle.wa_decode.proofs.ModuleParts.{segment-ok, segment-err}
 use Rattle.wa_decode.proofs.Reading.{pair, pair-ok, pair-err, pair-none, read, unread, returned}
-use Rattle.wa_decode.proofs.segment.DataSegmentProduction.read.Goals as goal
+use Rattle.wa_decode.proofs.segment.OwnDataSegmentProduction.read.Goals as goal
 
 pub returns-in_err-memory-clause-reads : goal.returns-in_err-memory-clause-reads
 returns-in_err-memory-clause-reads c =

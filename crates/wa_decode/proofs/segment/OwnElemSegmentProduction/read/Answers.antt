@@ -2,7 +2,7 @@ use Rattle.wa_syntax.specs.BinaryInstructions.{init}
 use Rattle.wa_syntax.specs.Formats.{vec, u32}
 use Rattle.wa_decode.proofs.ModuleParts.{elem-ok, elem-err}
 use Rattle.wa_decode.proofs.Reading.{pair, pair-ok, pair-err, pair-none, returned}
-use Rattle.wa_decode.proofs.segment.ElementSegmentProduction.read.Goals as goal
+use Rattle.wa_decode.proofs.segment.OwnElemSegmentProduction.read.Goals as goal
 
 pub returns-in_err-table-clause-reads : goal.returns-in_err-table-clause-reads
 returns-in_err-table-clause-reads c = returned _ c.from_residual.ensures.1 (elem-err (pair-none (pair init (vec u32)) c.in_err-table.ensures.reads))
