@@ -85,23 +85,18 @@ fn compile_checked(alloc: Global, checked: Checked, room: u32) -> Compiled
     ensures fault { IfErr result.«module» (λ cause. (checked.core ≡ Err cause) ⊎ (cause ≡ Cause.NoMemory)) }
 {
     let Checked { sources, core } = checked;
-    let module = made(alloc, core, sources.texts.as_slice(), room);
+    let module = made(alloc, core, room);
     Compiled { sources, module }
 }
 
-/// The module of the typed tree of these texts, or the cause why there is none.
-fn made(
-    alloc: Global,
-    core: Result<Core, Cause>,
-    texts: &[Items<u8>],
-    room: u32,
-) -> Result<Built, Cause>
+/// The module of a typed tree, or the cause why there is none.
+fn made(alloc: Global, core: Result<Core, Cause>, room: u32) -> Result<Built, Cause>
     ensures built { IfOk result IsTried }
     ensures made { IfOk result (λ _. IfErr core (λ _. ⊥)) }
     ensures fault { IfErr result (λ cause. (core ≡ Err cause) ⊎ (cause ≡ Cause.NoMemory)) }
 {
     match core {
-        Ok(core) => match module_of(alloc, core, texts, room) {
+        Ok(core) => match module_of(alloc, core, room) {
             Ok(built) => Ok(built),
             Err(NoMemory) => Err(Cause::NoMemory),
         },
@@ -204,16 +199,16 @@ fn typed(alloc: Global, texts: &[Items<u8>]) -> Result<Core, Cause>
         Err(FrontFault::Refused(refusal)) => return Err(refused(refusal, texts)),
         Err(FrontFault::NoMemory) => return Err(Cause::NoMemory),
     };
-    match accepted(alloc, classes) {
+    match accepted(alloc, classes, texts) {
         Ok(core) => Ok(core),
         Err(FrontFault::Refused(refusal)) => Err(refused(refusal, texts)),
         Err(FrontFault::NoMemory) => Err(Cause::NoMemory),
     }
 }
 
-/// The typed program of these classes, of which nothing is kept.
-fn accepted(alloc: Global, classes: Items<Class>) -> Result<Core, FrontFault> {
-    check(alloc, classes.as_slice())
+/// The typed program of the classes of these texts, of which nothing is kept.
+fn accepted(alloc: Global, classes: Items<Class>, texts: &[Items<u8>]) -> Result<Core, FrontFault> {
+    check(alloc, classes.as_slice(), texts)
 }
 
 /// The cause of the refusal of these texts. A refusal at no place in them, which no phase gives, is answered as out of memory.

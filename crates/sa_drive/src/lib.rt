@@ -6,7 +6,6 @@ mod cause;
 mod check;
 mod compile;
 mod exec;
-mod line_numbers;
 mod lines;
 mod module;
 mod outcome;

@@ -118,7 +118,7 @@ abbrev pub site : ℕ → ℕ → SiteCore
 site k ty = record { owner = 0; called = Static (target.Feature k) ty; pos = here }
 
 abbrev pub program : List TypeRow → List Feature → Program
-program types features = record { types = base_types ++ types; features = features; signatures = []; shareds = []; main = 0; places = here ∷ []; lines = 1 ∷ []; faults_raise = true }
+program types features = record { types = base_types ++ types; features = features; signatures = []; shareds = []; main = 0; feeds = []; faults_raise = true }
 
 -- ---- features of the prelude
 

@@ -59,8 +59,8 @@ fn add_tree(alloc: Global, writer: &mut Writer, program: &Program) -> Result<(),
     }
     let texts = program.sources.texts.as_slice();
     let classes = classes(alloc, texts)?;
-    let core = check(alloc, classes.as_slice())?;
-    writer.program(&core, texts)?;
+    let core = check(alloc, classes.as_slice(), texts)?;
+    writer.program(&core)?;
     Ok(())
 }
 
