@@ -13,8 +13,7 @@ use sa_check::check;
 use sa_core::Core;
 use sa_gen::generate;
 use sa_outside::ReadFiles;
-use sa_prelude::text;
-use sa_read::{Program, ReadFault, classes, read_program};
+use sa_read::{Program, ReadFault, classes, prelude, read_program};
 use sa_tree::{Class, FrontFault, Name, NoMemory, Pos, Refusal, Sources};
 use sa_words::ROOM;
 use sqlite_items::Items;
@@ -147,13 +146,10 @@ fn generated_sources(alloc: Global, classes: u32) -> Result<Sources, NoMemory>
         Ok(generated) if generated.len() < u32::MAX as usize => generated,
         _ => return Err(NoMemory),
     };
-    let mut names = Items::new(alloc);
-    names.push(Name::from_slice(alloc, b"prelude")?)?;
-    names.push(Name::from_slice(alloc, b"generated")?)?;
-    let mut texts = Items::new(alloc);
-    texts.push(Items::from_slice(alloc, text())?)?;
-    texts.push(Items::from_vec(generated))?;
-    Ok(Sources { names, texts })
+    let mut sources = prelude(alloc)?;
+    sources.names.push(Name::from_slice(alloc, b"generated")?)?;
+    sources.texts.push(Items::from_vec(generated))?;
+    Ok(sources)
 }
 
 /// The texts of a call that has read none.

@@ -8,5 +8,5 @@ mod read;
 mod tokens;
 
 pub use front::classes;
-pub use program::{MOST_BYTES, Program, read_program};
+pub use program::{MOST_BYTES, Program, prelude, read_program};
 pub use read::{Read, ReadFault, read_file};
