@@ -37,7 +37,7 @@ IsBuilt store name names outcome =
     GivesNone store names outcome
     ⊎ (IsTakenProgram store.before names outcome.sources × SpellsRunnable outcome.«module».items × IsWritten store name outcome.«module».items outcome.cause)
 
--- it was told that the program in these files is accepted, or it isn't
+-- out took that the program in these files is accepted, or it isn't
 abbrev pub IsChecked : Part Files → Part (List ℕ) → List (List ℕ) → Outcome → Type 0
 IsChecked store out names outcome =
     (GivesNone store names outcome × IsKept out)
@@ -58,7 +58,7 @@ IsUnread store file _ = ⊥
 abbrev pub IsModuleIn : Part Files → List ℕ → List ℕ → Type 0
 IsModuleIn store file bytes = HasFile store.before file bytes × (length bytes ≤ most_module_bytes)
 
--- the cause that is told is the module's
+-- the cause that is reported is the module's
 abbrev pub IsSame : (of_module : Cause) → (told : Cause) → Type 0
 IsSame of_module told = told ≡ of_module
 
@@ -87,7 +87,7 @@ pub record TellsRun (out : Part (List ℕ)) (classes : ℕ) (ran : Outcome) (out
   pub ended : ran.cause ≡ cause.Done → IsPrinted out (selftest_line classes (length output) ran.done) outcome.cause
   pub other : ran.cause ≢ cause.Done → (outcome.cause ≡ ran.cause) × IsKept out
 
--- the generated program was run with the greatest fuel, apart from the input and out of the call, and told of
+-- the generated program was run with the greatest fuel, apart from the input and out of the call, and reported
 pub record IsRunApart (out : Part (List ℕ)) (classes : ℕ) (outcome : Outcome) : Type 0 where
   pub taken : IsTakenGenerated classes outcome.sources
   pub ran : Outcome
@@ -119,7 +119,7 @@ pub record DoesNothing (outside : Outside) (outcome : Outcome) (ends : Cause) : 
   pub input : IsKept outside.input
   pub out : IsKept outside.out
 
--- what the words ask for was done: the usage is told where they are no command, and only there, unless memory ran out
+-- what the words ask for was done: the usage is the answer where they are no command, and only there, unless memory ran out
 abbrev pub Obeys : Outside → Option Line → Outcome → Type 0
 Obeys outside None outcome = DoesNothing outside outcome cause.Usage ⊎ DoesNothing outside outcome cause.NoMemory
 Obeys outside (Some line) outcome = DoesNothing outside outcome cause.NoMemory ⊎ Does outside line outcome
@@ -135,7 +135,7 @@ asks_stats (Some (Run fuel room stats contracts names)) = stats
 asks_stats (Some (Exec fuel stats file)) = stats
 asks_stats _ = false
 
--- the steps of a run that ended so may be told
+-- the steps of a run that ended so may be shown
 abbrev pub has_steps : Cause → Bool
 has_steps cause.Done = true
 has_steps (cause.Fault kind pos) = true
@@ -143,7 +143,7 @@ has_steps (cause.Stopped code site) = true
 has_steps (cause.Spent steps) = true
 has_steps _ = false
 
--- the lines of the outcome name the file of `exec`, and tell the steps exactly where they are asked for and may be told
+-- the lines of the outcome name the file of `exec`, and show the steps exactly where they are asked for and may be shown
 pub record IsTellable (line : Option Line) (outcome : Outcome) : Type 0 where
   pub file : outcome.cause ≢ cause.NoMemory → outcome.file.now ≡ module_file line
   pub steps : is_some outcome.steps ≡ (asks_stats line && has_steps outcome.cause)

@@ -1,5 +1,5 @@
 -- The lines on err.
-use Rattle.std.specs.Prelude.{ℕ, ◌+◌, ◌<◌, ⊤, List, [], ◌++◌, ◌==◌, length, take, count_by, codes, decimal, slice_get, unwrap_or}
+use Rattle.std.specs.Prelude.{ℕ, ◌+◌, ◌<◌, ⊤, List, [], ◌++◌, ◌==◌, length, take, count_by, codes, decimal, slice_get, slice_index_or, unwrap_or}
 use Rattle.sa_tree.specs.declared.pos.Pos.{Pos}
 use Rattle.sa_tree.specs.declared.pos.Sources.{Sources}
 use Rattle.sa_tree.specs.Sources.{text_of}
@@ -50,9 +50,13 @@ line_of_cause sources file TooDeep = about_file file (codes "too deep")
 line_of_cause sources file (NotListing line) = listing_line file line
 line_of_cause sources file NoMemory = codes "out of memory\n"
 
+-- the position is in one of these texts, whose lines can be counted
+abbrev pub IsInText : List (List ℕ) → Pos → Type 0
+IsInText texts pos = (pos.file < length texts) × (length (slice_index_or texts pos.file []) < 4_294_967_295)
+
 -- the position is in one of the texts
 abbrev pub IsInside : Sources → Pos → Type 0
-IsInside sources pos = (pos.file < length sources.texts) × (length (text_of sources pos.file) < 4_294_967_295)
+IsInside sources pos = IsInText sources.texts pos
 
 -- the cause names a position in one of the texts, or none
 abbrev pub IsPlaced : Sources → Cause → Type 0
@@ -64,7 +68,7 @@ IsPlaced sources _ = ⊤
 abbrev pub statistics : ℕ → ℕ → List ℕ
 statistics steps bytes = codes "steps " ++ decimal steps ++ codes ", bytes " ++ decimal bytes ++ codes "\n"
 
--- the line of the statistics, where the steps are told
+-- the line of the statistics, where the steps are shown
 abbrev pub told_statistics : Option ℕ → ℕ → List ℕ
 told_statistics None bytes = []
 told_statistics (Some steps) bytes = statistics steps bytes

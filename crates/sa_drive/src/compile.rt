@@ -1,21 +1,21 @@
 //! A program's typed tree and its module, from its files.
 
-ghost use Rattle.std.specs.Prelude.{◌≡◌, ◌≤◌, ◌<◌, ◌⊎◌, All, length, map, Err, None, IfErr, IfOk, IfSome, IsTrue, MatchResult};
+ghost use Rattle.std.specs.Prelude.{◌≡◌, ◌≤◌, ◌<◌, ◌⊎◌, All, length, map, Err, None, IfErr, IfOk, IfSome, MatchResult};
 ghost use Rattle.sa_outside.specs.Faults.{Rose};
 ghost use Rattle.sa_read.specs.Front.{IsRefusalOf, IsTakenUpTo};
 ghost use Rattle.sa_drive.specs.Built.{IsTried};
-ghost use Rattle.sa_drive.specs.Files.{ComesOfFiles, ComesOfGenerated, Explains, ExplainsProgram, IsPlaceIn, IsTakenGenerated, IsTakenProgram, generated_sources};
+ghost use Rattle.sa_drive.specs.Files.{ComesOfFiles, ComesOfGenerated, Explains, ExplainsProgram, IsTakenGenerated, IsTakenProgram, generated_sources};
 ghost use Rattle.sa_drive.specs.Lines.{IsPlaced};
 
 use crate::accepted::accepted;
 use crate::cause::Cause;
 use crate::module::{Built, module_of};
+use crate::place::is_place_in;
 use sa_core::Core;
 use sa_gen::generate;
 use sa_outside::ReadFiles;
-use sa_prelude::text;
-use sa_read::{Program, ReadFault, parse_program, read_program};
-use sa_tree::{FrontFault, Name, NoMemory, Pos, Refusal, Sources};
+use sa_read::{Program, ReadFault, parse_program, prelude, read_program};
+use sa_tree::{FrontFault, Name, NoMemory, Refusal, Sources};
 use sa_words::{Contracts, ROOM};
 use sqlite_items::Items;
 use std::alloc::Global;
@@ -41,7 +41,10 @@ pub fn check_files<S: ReadFiles>(
     files: &[&str],
     contracts: Contracts,
 ) -> Checked
-    ensures core { MatchResult result.core (λ _. IsTakenProgram (S.files store.old) (map (λ file. file.now) files.now) result.sources) (ComesOfFiles (S.files store.old) (Rose (S.faults store.old) (S.faults store.new)) (map (λ file. file.now) files.now) result.sources) }
+    ensures core { MatchResult result.core
+        (λ _. IsTakenProgram (S.files store.old) (map (λ file. file.now) files.now) result.sources)
+        (ComesOfFiles (S.files store.old) (Rose (S.faults store.old) (S.faults store.new))
+        (map (λ file. file.now) files.now) result.sources) }
     ensures placed { IfErr result.core (IsPlaced result.sources) }
     ensures files { S.files store.new ≡ S.files store.old }
     ensures count { S.faults store.old ≤ S.faults store.new }
@@ -63,7 +66,10 @@ pub fn compile_files<S: ReadFiles>(
     contracts: Contracts,
     room: u32,
 ) -> Compiled
-    ensures module { MatchResult result.«module» (λ _. IsTakenProgram (S.files store.old) (map (λ file. file.now) files.now) result.sources) (ComesOfFiles (S.files store.old) (Rose (S.faults store.old) (S.faults store.new)) (map (λ file. file.now) files.now) result.sources) }
+    ensures module { MatchResult result.«module»
+        (λ _. IsTakenProgram (S.files store.old) (map (λ file. file.now) files.now) result.sources)
+        (ComesOfFiles (S.files store.old) (Rose (S.faults store.old) (S.faults store.new))
+        (map (λ file. file.now) files.now) result.sources) }
     ensures built { IfOk result.«module» IsTried }
     ensures placed { IfErr result.«module» (IsPlaced result.sources) }
     ensures files { S.files store.new ≡ S.files store.old }
@@ -156,13 +162,10 @@ fn generated_sources(alloc: Global, classes: u32) -> Result<Sources, NoMemory>
         Ok(generated) if generated.len() < u32::MAX as usize => generated,
         _ => return Err(NoMemory),
     };
-    let mut names = Items::new(alloc);
-    names.push(Name::from_slice(alloc, b"prelude")?)?;
-    names.push(Name::from_slice(alloc, b"generated")?)?;
-    let mut texts = Items::new(alloc);
-    texts.push(Items::from_slice(alloc, text())?)?;
-    texts.push(Items::from_vec(generated))?;
-    Ok(Sources { names, texts })
+    let mut sources = prelude(alloc)?;
+    sources.names.push(Name::from_slice(alloc, b"generated")?)?;
+    sources.texts.push(Items::from_vec(generated))?;
+    Ok(sources)
 }
 
 /// The texts of a call that has read none.
@@ -220,18 +223,8 @@ fn refused(refusal: Refusal, texts: &[Items<u8>]) -> Cause
     requires { IsRefusalOf texts.now refusal ⊎ IsTakenUpTo texts.now (length texts.now) }
     ensures { Explains texts.now result }
 {
-    if is_in(texts, refusal.pos) {
+    if is_place_in(texts, refusal.pos) {
         return Cause::Refused(refusal);
     }
     Cause::NoMemory
-}
-
-/// Whether a place is in one of these texts, or at its end.
-fn is_in(texts: &[Items<u8>], pos: Pos) -> bool
-    ensures { IsTrue result → IsPlaceIn texts.now pos }
-{
-    match texts.get(pos.file as usize) {
-        Some(text) => pos.at as usize <= text.len(),
-        None => false,
-    }
 }

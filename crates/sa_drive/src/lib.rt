@@ -10,6 +10,7 @@ mod exec;
 mod lines;
 mod module;
 mod outcome;
+mod place;
 mod print;
 mod report;
 mod run;

@@ -9,7 +9,7 @@ use itoa::Buffer;
 use sa_tree::{Pos, Sources, line_of};
 use std::alloc::{AllocError, Global};
 
-/// The lines of an outcome: that of its cause, and that of the statistics where they are told.
+/// The lines of an outcome: that of its cause, and that of the statistics where they are asked for.
 pub fn lines(alloc: Global, outcome: &Outcome<'_>) -> Result<Vec<u8>, AllocError>
     requires { IsPlaced outcome.now.sources outcome.now.cause }
     ensures { IfOk result (λ lines. lines.items ≡ lines_of outcome.now outcome.now.cause) }

@@ -34,7 +34,7 @@ pub fn sather<S: WriteFiles, I: Source, O: Sink, E: Sink>(
     out: &mut O,
     err: &mut E,
 ) -> Exit
-    // What the words ask for was done with an outcome, by the definition of each command. The exit has its cause, or want of memory,
+    // What the words ask for was done with an outcome, by the definition of each command. The exit has its cause, or out of memory,
     // its status and its module, and err took its lines.
     ensures answer { (outcome : Outcomes) ×
         Obeys (outside (part S.files S.faults store.old store.new) (part I.input I.faults input.old input.new)
