@@ -27,8 +27,12 @@ module_file = record (new_rule (codes "module")) { required = true }
 abbrev pub classes : Rule
 classes = record (new_rule (codes "classes")) { required = true }
 
+-- the options of a command that runs a module
+abbrev pub running : App → App
+running app = with_rule (with_rule app (option (codes "fuel"))) (flag (codes "stats"))
+
 abbrev pub run : App
-run = with_rule (with_rule (with_rule (with_rule (with_rule (new_app (codes "run")) (option (codes "fuel"))) (option (codes "room"))) (flag (codes "stats"))) (flag (codes "contracts"))) files
+run = with_rule (with_rule (with_rule (running (new_app (codes "run"))) (option (codes "room"))) (flag (codes "contracts"))) files
 
 abbrev pub build : App
 build = with_rule (with_rule (with_rule (with_rule (new_app (codes "build")) (option (codes "room"))) (flag (codes "contracts"))) out) files
@@ -37,7 +41,7 @@ abbrev pub check : App
 check = with_rule (with_rule (new_app (codes "check")) (flag (codes "contracts"))) files
 
 abbrev pub exec : App
-exec = with_rule (with_rule (with_rule (new_app (codes "exec")) (option (codes "fuel"))) (flag (codes "stats"))) module_file
+exec = with_rule (running (new_app (codes "exec"))) module_file
 
 abbrev pub gen : App
 gen = with_rule (new_app (codes "gen")) classes

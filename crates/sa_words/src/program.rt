@@ -58,14 +58,22 @@ fn classes<'a>(alloc: Global) -> Arg<'a>
     Arg::new(alloc, "classes").required(true)
 }
 
-/// `run [--fuel N] [--room KIB] [--stats] [--contracts] FILE..`
+/// The options of a command that runs a module: `[--fuel N] [--stats]`
+fn running<'a>(alloc: Global, command: Command<'a>) -> Result<Command<'a>, AllocError>
+    requires own { (out-Command command).has_globals ≡ false }
+    ensures { IfOk result (λ c. (app_of c ≡ line.running (app_of command)) × ((out-Command c).has_globals ≡ false)) }
+{
+    command
+        .arg(option(alloc, "fuel"))?
+        .arg(flag(alloc, "stats"))
+}
+
+/// `run [--fuel N] [--stats] [--room KIB] [--contracts] FILE..`
 fn run<'a>(alloc: Global) -> Result<Command<'a>, AllocError>
     ensures { IfOk result (λ c. (app_of c ≡ line.run) × ((out-Command c).has_globals ≡ false)) }
 {
-    Command::new(alloc, "run")
-        .arg(option(alloc, "fuel"))?
+    running(alloc, Command::new(alloc, "run"))?
         .arg(option(alloc, "room"))?
-        .arg(flag(alloc, "stats"))?
         .arg(flag(alloc, "contracts"))?
         .arg(files(alloc))
 }
@@ -94,10 +102,7 @@ fn check<'a>(alloc: Global) -> Result<Command<'a>, AllocError>
 fn exec<'a>(alloc: Global) -> Result<Command<'a>, AllocError>
     ensures { IfOk result (λ c. (app_of c ≡ line.exec) × ((out-Command c).has_globals ≡ false)) }
 {
-    Command::new(alloc, "exec")
-        .arg(option(alloc, "fuel"))?
-        .arg(flag(alloc, "stats"))?
-        .arg(module_file(alloc))
+    running(alloc, Command::new(alloc, "exec"))?.arg(module_file(alloc))
 }
 
 /// `gen N`
