@@ -47,8 +47,15 @@ fn statement(
     budget: &mut Budget,
 ) -> Result<Stmt, NoMemory> {
     match s {
-        Stmt::Return(value, pos) => giving(alloc, Giving::Return, value, *pos, kept, budget),
-        Stmt::Yield(value, pos) => giving(alloc, Giving::Yield, value, *pos, kept, budget),
+        Stmt::Return(value, pos) => checked_giving(
+            alloc,
+            Giving::Return,
+            value,
+            *pos,
+            kept,
+            budget,
+        ),
+        Stmt::Yield(value, pos) => checked_giving(alloc, Giving::Yield, value, *pos, kept, budget),
         Stmt::If(list, rest, pos) => {
             let list = arms(alloc, list.as_slice(), kept, budget)?;
             let rest = check_leaving(alloc, rest.as_slice(), kept, budget)?;
@@ -178,7 +185,7 @@ fn type_arm(
 
 /// What stands for a `return` or a `yield` where something is kept: an `if` whose test is true. Its statements declare `result`
 /// with the value, if there is one, check what is kept, and give `result` back.
-fn giving(
+fn checked_giving(
     alloc: Global,
     giving: Giving,
     value: &Option<Expr>,
