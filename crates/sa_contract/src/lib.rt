@@ -10,9 +10,9 @@ mod copy;
 mod initials;
 mod quietness;
 mod statements;
-mod weave;
+mod weaving;
 
 pub use budget::MOST_FORMS;
 pub use checks::Checks;
 pub use quietness::quiet;
-pub use weave::{Woven, weave};
+pub use weaving::{Woven, weave};
