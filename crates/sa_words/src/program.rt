@@ -61,7 +61,7 @@ fn classes<'a>(alloc: Global) -> Arg<'a>
 /// The options of a command that runs a module: `[--fuel N] [--stats]`
 fn running<'a>(alloc: Global, command: Command<'a>) -> Result<Command<'a>, AllocError>
     requires own { (out-Command command).has_globals ≡ false }
-    ensures { IfOk result (λ c. (app_of c ≡ line.running (app_of command)) × ((out-Command c).has_globals ≡ false)) }
+    ensures { IfOk result (λ c. (app_of c ≡ line.running (app_of command.entry)) × ((out-Command c).has_globals ≡ false)) }
 {
     command
         .arg(option(alloc, "fuel"))?
