@@ -24,7 +24,7 @@ use Rattle.sa_parse.specs.declared.declared.SharedParts.{SharedParts}
 use Rattle.sa_parse.specs.declared.file.FileKind.{FileKind}
 use Rattle.sa_parse.specs.declared.file.FileKind.TheVariants.{Prelude, Program}
 use Rattle.sa_parse.specs.declared.signature.Signature.{Signature}
-use Rattle.sa_parse.specs.Contracts.{IsClauses, IsInvariant, no_clauses}
+use Rattle.sa_parse.specs.Conditions.{IsClauses, IsInvariant, no_clauses}
 use Rattle.sa_parse.specs.Names.{IsLower, IsMoreNames, IsNames, name_of}
 use Rattle.sa_parse.specs.Signatures.{IsSig}
 use Rattle.sa_parse.specs.Statements.{IsAssigned, IsBody, IsValue}
