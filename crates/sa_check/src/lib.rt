@@ -2,6 +2,7 @@
 #![tactic(auto)]
 
 mod above;
+mod feeds;
 mod limits;
 mod sigs;
 mod types;

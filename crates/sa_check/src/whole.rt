@@ -1,6 +1,7 @@
 //! A program from its classes to its typed tree.
 
 use crate::above::class_types_above;
+use crate::feeds::line_feeds;
 use crate::sigs::sig_cores;
 use crate::types::type_infos;
 use crate::typing::{Typing, typed_bodies};
@@ -10,25 +11,29 @@ use sa_check_program::Program;
 use sa_core::{Core, SigCore, TypeInfo};
 use sa_include::flatten;
 use sa_subtypes::Edges;
-use sa_tree::{Class, FrontFault};
+use sa_tree::{Class, FrontFault, NoMemory};
 use sqlite_items::Items;
 use std::alloc::Global;
 
-/// The typed tree of a program, whose classes begin with the prelude's. The lines of its positions are left empty.
+/// The typed tree of a program, whose classes begin with the prelude's and are those of these texts.
 ///
 /// # Errors
 ///
 /// The first refusal: by the rules on classes and their includes, on supertypes, on `main`, on the needed types, on
 /// conformance, on constants, and on the bodies of the needed types, in this order; `NoMemory`.
-pub fn check(alloc: Global, classes: &[Class]) -> Result<Core, FrontFault> {
+pub fn check(alloc: Global, classes: &[Class], texts: &[Items<u8>]) -> Result<Core, FrontFault> {
     let flat = flatten(alloc, classes)?;
     let edges = Edges::make(alloc, &flat)?;
     let program = Program::needed(alloc, &flat, &edges)?;
-    checked_program(alloc, &program)
+    checked_program(alloc, &program, texts)
 }
 
 /// The typed tree of a program whose needed types stand.
-fn checked_program(alloc: Global, program: &Program<'_>) -> Result<Core, FrontFault> {
+fn checked_program(
+    alloc: Global,
+    program: &Program<'_>,
+    texts: &[Items<u8>],
+) -> Result<Core, FrontFault> {
     let signatures = Signatures::make(alloc, program)?;
     let implementations = check_conformance(alloc, program, &signatures)?;
     let consts = ConstTable::make(alloc, program)?;
@@ -38,6 +43,7 @@ fn checked_program(alloc: Global, program: &Program<'_>) -> Result<Core, FrontFa
         &signatures,
         &consts,
         implementations.as_slice(),
+        texts,
     )
 }
 
@@ -48,12 +54,13 @@ fn typed_program<'a>(
     signatures: &'a Signatures,
     consts: &'a ConstTable,
     implementations: &[Items<Implementation>],
+    texts: &[Items<u8>],
 ) -> Result<Core, FrontFault> {
     let above = class_types_above(alloc, program)?;
     let typing = typed_bodies(alloc, program, signatures, consts, above.as_slice())?;
     let types = type_infos(alloc, program, &typing.built.bound, above)?;
     let sigs = sig_cores(alloc, program, signatures, implementations)?;
-    Ok(whole(alloc, program, types, sigs, typing))
+    Ok(whole(alloc, program, types, sigs, typing, texts)?)
 }
 
 /// The parts of a typed program put together.
@@ -63,13 +70,15 @@ fn whole(
     types: Items<TypeInfo>,
     sigs: Items<SigCore>,
     typing: Typing,
-) -> Core {
-    Core {
+    texts: &[Items<u8>],
+) -> Result<Core, NoMemory> {
+    let feeds = line_feeds(alloc, texts)?;
+    Ok(Core {
         types,
         features: typing.features,
         sigs,
         shareds: typing.shareds,
         main: program.main(),
-        lines: Items::new(alloc),
-    }
+        feeds,
+    })
 }

@@ -2,7 +2,7 @@
 
 use crate::constant::constant;
 use crate::iter::{innermost_loop, is_iter_name, iter_call};
-use crate::leaving::LoopExit;
+use crate::leaving::LeavingCall;
 use crate::passing::{PassedArgs, passed, seen_arguments};
 use crate::receiver::Receiver;
 use crate::synthesised::{Synthesised, SynthesisedArg, only_argument};
@@ -61,7 +61,7 @@ pub fn call_form(
     expected: Expected,
 ) -> Result<Typed, FrontFault> {
     let pos = head.pos;
-    if LoopExit::of_call(head.on, head.name).is_some() {
+    if LeavingCall::of_call(head.on, head.name).is_some() {
         innermost_loop(context.place, pos)?;
         return Err(Rule::NoFeatureFits.at(pos).into());
     }

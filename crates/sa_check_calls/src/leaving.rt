@@ -5,42 +5,33 @@ use crate::iter::innermost_loop;
 use crate::synthesised::SynthesisedArg;
 use sa_check_choice::{Built, Context, Expected, View};
 use sa_check_program::BOOL;
-use sa_core::{ExprCore, StmtCore};
+use sa_core::{ExprCore, LoopExit, StmtCore};
 use sa_tree::{FrontFault, Name, Pos, Recv, Rule};
 
-/// What leaves the innermost loop.
+/// A call that leaves the innermost loop.
 #[derive(Clone, Copy, Debug, PartialEq, Eq)]
-pub enum LoopExit {
+pub enum LeavingCall {
     Break,
     While,
     Until,
 }
 
-impl LoopExit {
-    /// What a call does that is made on nothing that is written, by its name, if it leaves a loop.
-    pub fn of_name(name: &Name) -> Option<LoopExit> {
+impl LeavingCall {
+    /// The one of this name, where the call is made on nothing that is written.
+    pub fn of_name(name: &Name) -> Option<LeavingCall> {
         match name.as_slice() {
-            b"break!" => Some(LoopExit::Break),
-            b"while!" => Some(LoopExit::While),
-            b"until!" => Some(LoopExit::Until),
+            b"break!" => Some(LeavingCall::Break),
+            b"while!" => Some(LeavingCall::While),
+            b"until!" => Some(LeavingCall::Until),
             _ => None,
         }
     }
 
-    /// What a call does, by what it is made on and its name, if it leaves a loop.
-    pub fn of_call(on: &Recv, name: &Name) -> Option<LoopExit> {
+    /// The one that a call is, by what it is made on and its name.
+    pub fn of_call(on: &Recv, name: &Name) -> Option<LeavingCall> {
         match on {
-            Recv::Implied => LoopExit::of_name(name),
+            Recv::Implied => LeavingCall::of_name(name),
             Recv::Of(_) | Recv::OfClass(_) => None,
-        }
-    }
-
-    /// Its number in the typed tree.
-    fn number(self) -> u8 {
-        match self {
-            LoopExit::Break => 0,
-            LoopExit::While => 1,
-            LoopExit::Until => 2,
         }
     }
 }
@@ -54,35 +45,55 @@ impl LoopExit {
 pub fn leave_form(
     context: Context<'_>,
     built: &Built,
-    exit: LoopExit,
+    call: LeavingCall,
     args: Vec<SynthesisedArg>,
     pos: Pos,
 ) -> Result<StmtCore, FrontFault> {
     innermost_loop(context.place, pos)?;
-    let mut args = args;
-    let only = args.pop();
-    if !args.is_empty() || only.is_none() != (exit == LoopExit::Break) {
-        return Err(Rule::NoFeatureFits.at(pos).into());
-    }
-    match only {
-        None => Ok(StmtCore::Leave(exit.number(), None)),
-        Some(arg) => {
-            let test = test(context.view, built, arg, pos)?;
-            Ok(StmtCore::Leave(exit.number(), Some(test)))
-        }
+    let exit = match call {
+        LeavingCall::Break => break_form(args, pos)?,
+        LeavingCall::While => LoopExit::While(test(context.view, built, args, pos)?),
+        LeavingCall::Until => LoopExit::Until(test(context.view, built, args, pos)?),
+    };
+    Ok(StmtCore::Leave(exit))
+}
+
+/// `break!`: E31 where it has an argument.
+fn break_form(args: Vec<SynthesisedArg>, pos: Pos) -> Result<LoopExit, FrontFault> {
+    if args.is_empty() {
+        Ok(LoopExit::Break)
+    } else {
+        Err(Rule::NoFeatureFits.at(pos).into())
     }
 }
 
-/// The test of `while!` and `until!`: E31 of an argument that the call writes, E33 unless it is a BOOL.
+/// The test of `while!` and `until!`: E31 unless it is the only argument, or where it is one that the call writes; E33 unless
+/// it is a BOOL.
 fn test(
     view: &View<'_>,
     built: &Built,
-    arg: SynthesisedArg,
+    args: Vec<SynthesisedArg>,
     pos: Pos,
 ) -> Result<ExprCore, FrontFault> {
-    let SynthesisedArg::Value(value) = arg else {
+    let SynthesisedArg::Value(value) = only(args, pos)? else {
         return Err(Rule::NoFeatureFits.at(pos).into());
     };
     let value = checked(view, built, value, Expected::Type(BOOL))?;
     value.into_bool(pos)
+}
+
+/// The only argument: E31 where there is none, or more than one.
+fn only(args: Vec<SynthesisedArg>, pos: Pos) -> Result<SynthesisedArg, FrontFault> {
+    let mut args = args;
+    let last = args.pop();
+    match last {
+        Some(arg) => {
+            if args.is_empty() {
+                Ok(arg)
+            } else {
+                Err(Rule::NoFeatureFits.at(pos).into())
+            }
+        }
+        None => Err(Rule::NoFeatureFits.at(pos).into()),
+    }
 }

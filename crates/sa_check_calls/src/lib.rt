@@ -13,7 +13,7 @@ mod synthesised;
 pub use calls::{Call, CallHead, call_form, typed_call};
 pub use checking::checked;
 pub use iter::is_iter_name;
-pub use leaving::{LoopExit, leave_form};
+pub use leaving::{LeavingCall, leave_form};
 pub use passing::{PassedArgs, passed, seen_arguments};
 pub use receiver::Receiver;
 pub use synthesised::{Synthesised, SynthesisedArg, only_argument};

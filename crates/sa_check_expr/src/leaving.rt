@@ -1,7 +1,7 @@
 //! `while!`, `until!` and `break!` as statements.
 
 use crate::children::{GivenTo, arguments};
-use sa_check_calls::{LoopExit, leave_form};
+use sa_check_calls::{LeavingCall, leave_form};
 use sa_check_choice::{Built, Context};
 use sa_core::StmtCore;
 use sa_tree::{Expr, FrontFault};
@@ -20,9 +20,9 @@ pub fn leave(
     let Expr::Call(on, name, args, pos) = e else {
         return Ok(None);
     };
-    let Some(exit) = LoopExit::of_call(on, name) else {
+    let Some(call) = LeavingCall::of_call(on, name) else {
         return Ok(None);
     };
     let args = arguments(context, built, args.as_slice(), GivenTo::Call)?;
-    Ok(Some(leave_form(context, built, exit, args, *pos)?))
+    Ok(Some(leave_form(context, built, call, args, *pos)?))
 }

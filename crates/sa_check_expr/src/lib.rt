@@ -14,8 +14,8 @@ pub use part::parts;
 pub use receiver::operand;
 pub use rows::typed;
 pub use sa_check_calls::{
-    Call, LoopExit, Receiver, Synthesised, SynthesisedArg, is_iter_name, leave_form, only_argument,
-    typed_call,
+    Call, LeavingCall, Receiver, Synthesised, SynthesisedArg, is_iter_name, leave_form,
+    only_argument, typed_call,
 };
 pub use sa_check_choice::{
     Built, Context, Expected, Place, Typed, Variable, View, is_sub, position, variable_named,

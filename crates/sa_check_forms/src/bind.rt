@@ -1,7 +1,7 @@
 //! Binds: a call some of whose arguments are given later.
 
 use sa_check_calls::{
-    Call, LoopExit, PassedArgs, Receiver, SynthesisedArg, is_iter_name, passed, seen_arguments,
+    Call, LeavingCall, PassedArgs, Receiver, SynthesisedArg, is_iter_name, passed, seen_arguments,
 };
 use sa_check_choice::{
     Built, Candidate, Context, Place, Typed, View, bound_candidate, described_choice, description,
@@ -51,7 +51,7 @@ fn bindable_name<'e>(place: &Place, head: &'e Expr) -> Option<&'e [u8]> {
     };
     let word = name.as_slice();
     if variable_named(place, head).is_some()
-        || LoopExit::of_call(on, name).is_some()
+        || LeavingCall::of_call(on, name).is_some()
         || matches!(word, b"call" | b"call!")
     {
         return None;

@@ -4,7 +4,7 @@ use crate::draft::Draft;
 use crate::leave::leave_assigned;
 use crate::value::fitting;
 use sa_check_expr::{
-    Built, Call, Context, Expected, LoopExit, Receiver, SynthesisedArg, Variable, View, operand,
+    Built, Call, Context, Expected, LeavingCall, Receiver, SynthesisedArg, Variable, View, operand,
     position, synthesised, typed, typed_call, variable_named, written,
 };
 use sa_core::StmtCore;
@@ -92,8 +92,8 @@ fn assign_implied(
     if let Some(variable) = draft.seen(name) {
         return assign_variable(view, draft, built, variable, value, pos);
     }
-    if let Some(exit) = LoopExit::of_name(name) {
-        return leave_assigned(view, draft, built, exit, value, pos);
+    if let Some(call) = LeavingCall::of_name(name) {
+        return leave_assigned(view, draft, built, call, value, pos);
     }
     assign_feature(view, draft, built, Receiver::Own, None, assigned)
 }

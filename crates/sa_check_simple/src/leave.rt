@@ -3,7 +3,7 @@
 use crate::draft::{Draft, FeatureKind};
 use crate::value::{entry, test, untyped_value};
 use sa_check_expr::{
-    Built, Expected, LoopExit, View, leave, leave_form, only_argument, parts, position,
+    Built, Expected, LeavingCall, View, leave, leave_form, only_argument, parts, position,
     synthesised, typed, widened,
 };
 use sa_check_program::OB;
@@ -60,7 +60,7 @@ fn asserted(alloc: Global, test: ExprCore, pos: Pos) -> Result<StmtCore, FrontFa
     let mut entries = Items::new(alloc);
     entries.push(entry(alloc, test, Items::new(alloc))?)?;
     let mut rest = Items::new(alloc);
-    rest.push(StmtCore::Stop(FaultKind::Assert.number(), pos))?;
+    rest.push(StmtCore::Stop(FaultKind::Assert, pos))?;
     Ok(StmtCore::If(entries, rest))
 }
 
@@ -100,11 +100,11 @@ pub(crate) fn leave_assigned(
     view: &View<'_>,
     draft: &Draft,
     built: &mut Built,
-    exit: LoopExit,
+    call: LeavingCall,
     value: &Expr,
     pos: Pos,
 ) -> Result<StmtCore, FrontFault> {
     let value = synthesised(view.at(&draft.place), built, value)?;
     let args = only_argument(view.alloc, value)?;
-    leave_form(view.at(&draft.place), built, exit, args, pos)
+    leave_form(view.at(&draft.place), built, call, args, pos)
 }

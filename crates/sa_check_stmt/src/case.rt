@@ -113,7 +113,7 @@ fn otherwise(
         return Ok(rest);
     }
     let mut stop = Items::new(alloc);
-    stop.push(StmtCore::Stop(FaultKind::NoBranch.number(), pos))?;
+    stop.push(StmtCore::Stop(FaultKind::NoBranch, pos))?;
     Ok(stop)
 }
 

@@ -47,7 +47,7 @@ fn whole_body(
 ) -> Result<Items<StmtCore>, FrontFault> {
     let mut body = statements(view, draft, built, body_of(f))?;
     if draft.result.is_some() && draft.kind == FeatureKind::Routine {
-        body.push(StmtCore::Stop(FaultKind::NoReturn.number(), f.name.pos))?;
+        body.push(StmtCore::Stop(FaultKind::NoReturn, f.name.pos))?;
     }
     Ok(body)
 }

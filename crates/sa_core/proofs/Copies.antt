@@ -1,5 +1,6 @@
 -- The trees of `src/` as the definitions see them, at each variant.
 use Rattle.std.proofs.Common.{◌≡◌, ℕ, ℤ, Bool, List, Option, None, Some, sym, ap, ◌∙◌}
+use Rattle.sa_tree.specs.declared.fault_kind.FaultKind.{FaultKind}
 use Rattle.sa_tree.specs.declared.pos.Pos.{Pos}
 use Rattle.sa_tree.specs.declared.ty.Mode.{Mode}
 use Rattle.sa_core.specs.declared.feature.CalledCore.{CalledCore}
@@ -11,6 +12,7 @@ use Rattle.sa_core.specs.declared.expr.ArgCore.TheVariants as a
 use Rattle.sa_core.specs.declared.expr.ExprCore.{ExprCore}
 use Rattle.sa_core.specs.declared.expr.ExprCore.TheVariants as e
 use Rattle.sa_core.specs.declared.stmt.ArmCore.{ArmCore}
+use Rattle.sa_core.specs.declared.stmt.LoopExit.{LoopExit}
 use Rattle.sa_core.specs.declared.stmt.StmtCore.{StmtCore}
 use Rattle.sa_core.specs.declared.stmt.StmtCore.TheOpen.{StmtCore-F}
 use Rattle.sa_core.specs.declared.stmt.StmtCore.TheFolds.{fold-roll-StmtCore, fold_out-TestCore, fold_out-ArmCore}
@@ -18,7 +20,7 @@ use Rattle.sa_core.specs.declared.stmt.StmtCore.TheVariants as s
 use Rattle.sa_core.specs.declared.stmt.TestCore.{TestCore}
 use Rattle.sa_core.specs.Tree.{Expr, Int, Truth, Char, Text, VoidOf, Me, Var, Exception, IsVoid, New, NewArray, Elements, Call, IterCall, Bind, Swapped, And, Or, Widen, Exprs, Arg, Value, Variable, Left}
 use Rattle.sa_core.specs.Tree.{Stmt, Let, Do, If, Loop, Leave, TypeCase, Protect, Return, Yield, Quit, Raise, Stop, Stmts, no_else, otherwise}
-use Rattle.sa_core.specs.Copy.{expr_level, arg_level, expr_of, arg_of, exprs_of, args_of, option_expr_of}
+use Rattle.sa_core.specs.Copy.{expr_level, arg_level, expr_of, arg_of, exprs_of, args_of, option_expr_of, exit_of}
 use Rattle.sa_core.specs.Copy.{stmt_level, test_level, arm_level, stmt_of, test_of, arm_of, block_of, tests_of, arms_of, else_of}
 
 pub expr_of-Int : (value : ℤ) → expr_of (e.Int value) ≡ Int value
@@ -151,10 +153,10 @@ unfolding stmt_of test_of arm_of
 stmt_of-Loop number body =
     ap stmt_of (sym (s.rolls-Loop number body)) ∙ fold-roll-StmtCore Stmt (ℕ × ℕ × Stmts) (Exprs × Stmts) stmt_level arm_level test_level (StmtCore-F.Loop number body)
 
-pub stmt_of-Leave : (kind : ℕ) (test : Option ExprCore) → stmt_of (s.Leave kind test) ≡ Leave kind (option_expr_of test)
+pub stmt_of-Leave : (exit : LoopExit) → stmt_of (s.Leave exit) ≡ Leave (exit_of exit)
 unfolding stmt_of test_of arm_of
-stmt_of-Leave kind test =
-    ap stmt_of (sym (s.rolls-Leave kind test)) ∙ fold-roll-StmtCore Stmt (ℕ × ℕ × Stmts) (Exprs × Stmts) stmt_level arm_level test_level (StmtCore-F.Leave kind test)
+stmt_of-Leave exit =
+    ap stmt_of (sym (s.rolls-Leave exit)) ∙ fold-roll-StmtCore Stmt (ℕ × ℕ × Stmts) (Exprs × Stmts) stmt_level arm_level test_level (StmtCore-F.Leave exit)
 
 pub stmt_of-TypeCase : (var : ℕ) (arms : List ArmCore) (other : Option (List StmtCore)) (pos : Pos) → stmt_of (s.TypeCase var arms other pos) ≡ TypeCase var (arms_of arms) (else_of other) pos
 unfolding stmt_of test_of arm_of
@@ -190,7 +192,7 @@ unfolding stmt_of test_of arm_of
 stmt_of-Raise value pos =
     ap stmt_of (sym (s.rolls-Raise value pos)) ∙ fold-roll-StmtCore Stmt (ℕ × ℕ × Stmts) (Exprs × Stmts) stmt_level arm_level test_level (StmtCore-F.Raise value pos)
 
-pub stmt_of-Stop : (kind : ℕ) (pos : Pos) → stmt_of (s.Stop kind pos) ≡ Stop kind pos
+pub stmt_of-Stop : (kind : FaultKind) (pos : Pos) → stmt_of (s.Stop kind pos) ≡ Stop kind pos
 unfolding stmt_of test_of arm_of
 stmt_of-Stop kind pos =
     ap stmt_of (sym (s.rolls-Stop kind pos)) ∙ fold-roll-StmtCore Stmt (ℕ × ℕ × Stmts) (Exprs × Stmts) stmt_level arm_level test_level (StmtCore-F.Stop kind pos)

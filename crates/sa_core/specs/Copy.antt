@@ -6,12 +6,16 @@ use Rattle.sa_core.specs.declared.expr.ArgCore.TheOpen.{ArgCore-F, ExprCore-F}
 use Rattle.sa_core.specs.declared.expr.ArgCore.TheFolds.{fold-ArgCore, fold-ExprCore}
 use Rattle.sa_core.specs.declared.expr.ExprCore.{ExprCore}
 use Rattle.sa_core.specs.declared.stmt.ArmCore.{ArmCore}
+use Rattle.sa_core.specs.declared.stmt.LoopExit.{LoopExit}
+use Rattle.sa_core.specs.declared.stmt.LoopExit.TheVariants as loop_exit
 use Rattle.sa_core.specs.declared.stmt.StmtCore.{StmtCore}
 use Rattle.sa_core.specs.declared.stmt.StmtCore.TheOpen.{StmtCore-F, TestCore-F, ArmCore-F}
 use Rattle.sa_core.specs.declared.stmt.StmtCore.TheFolds.{fold-StmtCore, fold-TestCore, fold-ArmCore}
 use Rattle.sa_core.specs.declared.stmt.TestCore.{TestCore}
-use Rattle.sa_core.specs.Tree.{Expr, Int, Truth, Char, Text, VoidOf, Me, Var, Exception, IsVoid, New, NewArray, Elements, Call, IterCall, Bind, Swapped, And, Or, Widen, Exprs, no_exprs, expr, Arg, Value, Variable, Left, Args, no_args, arg}
-use Rattle.sa_core.specs.Tree.{Stmt, Let, Do, If, Loop, Leave, TypeCase, Protect, Return, Yield, Quit, Raise, Stop, Stmts, no_stmts, stmt, Tests, no_tests, branch, Arms, no_arms, arm, Else, no_else, otherwise}
+use Rattle.sa_core.specs.Tree.{Expr, Int, Truth, Char, Text, VoidOf, Me, Var, Exception, IsVoid, New, NewArray, Elements, Call, IterCall}
+use Rattle.sa_core.specs.Tree.{Bind, Swapped, And, Or, Widen, Exprs, no_exprs, expr, Arg, Value, Variable, Left, Args, no_args, arg}
+use Rattle.sa_core.specs.Tree.{Exit, Break, While, Until, Stmt, Let, Do, If, Loop, Leave, TypeCase, Protect, Return, Yield, Quit, Raise}
+use Rattle.sa_core.specs.Tree.{Stop, Stmts, no_stmts, stmt, Tests, no_tests, branch, Arms, no_arms, arm, Else, no_else, otherwise}
 
 -- ---- lists of expressions and arguments
 
@@ -68,6 +72,11 @@ args_of list = arg_list (map arg_of list)
 abbrev pub option_expr_of : Option ExprCore → Option Expr
 option_expr_of value = option_map expr_of value
 
+abbrev pub exit_of : LoopExit → Exit
+exit_of loop_exit.Break = Break
+exit_of (loop_exit.While test) = While (expr_of test)
+exit_of (loop_exit.Until test) = Until (expr_of test)
+
 -- ---- lists of statements, tests and branches
 
 abbrev pub stmt_list : List Stmt → Stmts
@@ -93,7 +102,7 @@ stmt_level (StmtCore-F.Let var value) = Let var (expr_of value)
 stmt_level (StmtCore-F.Do value) = Do (expr_of value)
 stmt_level (StmtCore-F.If tests other) = If (test_list tests) (stmt_list other)
 stmt_level (StmtCore-F.Loop number body) = Loop number (stmt_list body)
-stmt_level (StmtCore-F.Leave kind test) = Leave kind (option_expr_of test)
+stmt_level (StmtCore-F.Leave exit) = Leave (exit_of exit)
 stmt_level (StmtCore-F.TypeCase var arms other pos) = TypeCase var (arm_list arms) (else_stmts other) pos
 stmt_level (StmtCore-F.Protect body arms other) = Protect (stmt_list body) (arm_list arms) (else_stmts other)
 stmt_level (StmtCore-F.Return value) = Return (option_expr_of value)

@@ -4,8 +4,10 @@ use Rattle.std.specs.Prelude.{ℕ, ◌+◌, Option, Some, None, min}
 use Rattle.sa_core.specs.declared.feature.FeatureCore.{FeatureCore}
 use Rattle.sa_core.specs.declared.program.SharedCore.{SharedCore}
 use Rattle.sa_core.specs.Copy.{block_of, option_expr_of}
-use Rattle.sa_core.specs.Tree.{Expr, IsVoid, NewArray, Elements, Call, IterCall, Bind, Swapped, And, Or, Widen, Exprs, no_exprs, expr, Arg, Value, Args, no_args, arg}
-use Rattle.sa_core.specs.Tree.{Stmt, Let, Do, If, Loop, Leave, TypeCase, Protect, Return, Yield, Raise, Stmts, no_stmts, stmt, Tests, no_tests, branch, Arms, no_arms, arm, Else, no_else, otherwise}
+use Rattle.sa_core.specs.Tree.{Expr, IsVoid, NewArray, Elements, Call, IterCall, Bind, Swapped, And}
+use Rattle.sa_core.specs.Tree.{Or, Widen, Exprs, no_exprs, expr, Arg, Value, Args, no_args, arg}
+use Rattle.sa_core.specs.Tree.{Exit, Break, While, Until, Stmt, Let, Do, If, Loop, Leave, TypeCase, Protect, Return, Yield, Raise}
+use Rattle.sa_core.specs.Tree.{Stmts, no_stmts, stmt, Tests, no_tests, branch, Arms, no_arms, arm, Else, no_else, otherwise}
 
 abbrev mutual
   pub expr_nodes : Expr → ℕ
@@ -38,13 +40,18 @@ abbrev pub option_expr_nodes : Option Expr → ℕ
 option_expr_nodes None = 0
 option_expr_nodes (Some e) = expr_nodes e
 
+abbrev pub exit_nodes : Exit → ℕ
+exit_nodes Break = 0
+exit_nodes (While test) = expr_nodes test
+exit_nodes (Until test) = expr_nodes test
+
 abbrev mutual
   pub stmt_nodes : Stmt → ℕ
   stmt_nodes (Let var value) = 1 + expr_nodes value
   stmt_nodes (Do value) = 1 + expr_nodes value
   stmt_nodes (If tests other) = 1 + tests_nodes tests + stmts_nodes other
   stmt_nodes (Loop number body) = 1 + stmts_nodes body
-  stmt_nodes (Leave kind test) = 1 + option_expr_nodes test
+  stmt_nodes (Leave exit) = 1 + exit_nodes exit
   stmt_nodes (TypeCase var arms other pos) = 1 + arms_nodes arms + else_nodes other
   stmt_nodes (Protect body arms other) = 1 + stmts_nodes body + arms_nodes arms + else_nodes other
   stmt_nodes (Return value) = 1 + option_expr_nodes value

@@ -6,8 +6,10 @@ use Rattle.sa_core.specs.declared.feature.FeatureCore.{FeatureCore}
 use Rattle.sa_core.specs.declared.program.Core.{Core}
 use Rattle.sa_core.specs.declared.program.SharedCore.{SharedCore}
 use Rattle.sa_core.specs.Copy.{block_of, option_expr_of}
-use Rattle.sa_core.specs.Tree.{Expr, IsVoid, New, NewArray, Elements, Call, IterCall, Bind, Swapped, And, Or, Widen, Exprs, no_exprs, expr, Arg, Value, Args, no_args, arg}
-use Rattle.sa_core.specs.Tree.{Stmt, Let, Do, If, Loop, Leave, TypeCase, Protect, Return, Yield, Raise, Stop, Stmts, no_stmts, stmt, Tests, no_tests, branch, Arms, no_arms, arm, Else, no_else, otherwise}
+use Rattle.sa_core.specs.Tree.{Expr, IsVoid, New, NewArray, Elements, Call, IterCall, Bind, Swapped}
+use Rattle.sa_core.specs.Tree.{And, Or, Widen, Exprs, no_exprs, expr, Arg, Value, Args, no_args, arg}
+use Rattle.sa_core.specs.Tree.{Exit, Break, While, Until, Stmt, Let, Do, If, Loop, Leave, TypeCase, Protect, Return, Yield, Raise}
+use Rattle.sa_core.specs.Tree.{Stop, Stmts, no_stmts, stmt, Tests, no_tests, branch, Arms, no_arms, arm, Else, no_else, otherwise}
 
 abbrev mutual
   pub expr_positions : Expr → List Pos
@@ -40,13 +42,18 @@ abbrev pub option_expr_positions : Option Expr → List Pos
 option_expr_positions None = []
 option_expr_positions (Some e) = expr_positions e
 
+abbrev pub exit_positions : Exit → List Pos
+exit_positions Break = []
+exit_positions (While test) = expr_positions test
+exit_positions (Until test) = expr_positions test
+
 abbrev mutual
   pub stmt_positions : Stmt → List Pos
   stmt_positions (Let var value) = expr_positions value
   stmt_positions (Do value) = expr_positions value
   stmt_positions (If tests other) = tests_positions tests ++ stmts_positions other
   stmt_positions (Loop number body) = stmts_positions body
-  stmt_positions (Leave kind test) = option_expr_positions test
+  stmt_positions (Leave exit) = exit_positions exit
   stmt_positions (TypeCase var arms other pos) = pos ∷ arms_positions arms ++ else_positions other
   stmt_positions (Protect body arms other) = stmts_positions body ++ arms_positions arms ++ else_positions other
   stmt_positions (Return value) = option_expr_positions value

@@ -1,6 +1,7 @@
 -- Typed expressions and statements as the definitions see them: the trees of `src/`, with their lists written out, so that a
 -- definition goes down them by cases.
 use Rattle.std.specs.Prelude.{ℕ, ℤ, Bool, List, Option}
+use Rattle.sa_tree.specs.declared.fault_kind.FaultKind.{FaultKind}
 use Rattle.sa_tree.specs.declared.pos.Pos.{Pos}
 use Rattle.sa_tree.specs.declared.ty.Mode.{Mode}
 use Rattle.sa_core.specs.declared.feature.CalledCore.{CalledCore}
@@ -41,20 +42,25 @@ mutual
     no_args : Args
     arg : Arg → Args → Args
 
+-- what leaves the innermost loop: always, where the test is false, or where it is true
+pub data Exit : Type 0 where
+  Break : Exit
+  While Until : (test : Expr) → Exit
+
 mutual
   pub data Stmt : Type 0 where
     Let : (var : ℕ) → (value : Expr) → Stmt
     Do : (value : Expr) → Stmt
     If : (tests : Tests) → (other : Stmts) → Stmt
     Loop : (number : ℕ) → (body : Stmts) → Stmt
-    Leave : (kind : ℕ) → (test : Option Expr) → Stmt
+    Leave : (exit : Exit) → Stmt
     TypeCase : (var : ℕ) → (arms : Arms) → (other : Else) → (pos : Pos) → Stmt
     Protect : (body : Stmts) → (arms : Arms) → (other : Else) → Stmt
     Return : (value : Option Expr) → Stmt
     Yield : (value : Option Expr) → Stmt
     Quit : Stmt
     Raise : (value : Expr) → (pos : Pos) → Stmt
-    Stop : (kind : ℕ) → (pos : Pos) → Stmt
+    Stop : (kind : FaultKind) → (pos : Pos) → Stmt
 
   pub data Stmts : Type 0 where
     no_stmts : Stmts

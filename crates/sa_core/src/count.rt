@@ -2,13 +2,15 @@
 //! those inside others included. A count that 32 bits don't hold is told as the greatest number that they do.
 
 ghost use Rattle.std.specs.Prelude.{◌≡◌, ◌+◌};
-ghost use Rattle.sa_core.specs.Copy.{arg_of, args_of, arm_of, arms_of, block_of, expr_of, exprs_of, option_expr_of, stmt_of, test_of, tests_of};
-ghost use Rattle.sa_core.specs.Nodes.{arg_nodes, args_nodes, arms_nodes, capped, expr_nodes, exprs_nodes, feature_nodes, option_expr_nodes, shared_nodes, stmt_nodes, stmts_nodes, tests_nodes};
+ghost use Rattle.sa_core.specs.Copy.{arg_of, args_of, arm_of, arms_of, block_of, exit_of, expr_of};
+ghost use Rattle.sa_core.specs.Copy.{exprs_of, option_expr_of, stmt_of, test_of, tests_of};
+ghost use Rattle.sa_core.specs.Nodes.{arg_nodes, args_nodes, arms_nodes, capped, exit_nodes, expr_nodes, exprs_nodes};
+ghost use Rattle.sa_core.specs.Nodes.{feature_nodes, option_expr_nodes, shared_nodes, stmt_nodes, stmts_nodes, tests_nodes};
 
 use crate::expr::{ArgCore, ExprCore};
 use crate::feature::FeatureCore;
 use crate::program::SharedCore;
-use crate::stmt::{ArmCore, StmtCore, TestCore};
+use crate::stmt::{ArmCore, LoopExit, StmtCore, TestCore};
 
 /// The number of nodes of a feature's body, or 4294967295 where there are more.
 pub fn feature_nodes(feature: &FeatureCore) -> u32
@@ -115,6 +117,15 @@ fn count_option_expr(count: u32, expr: &Option<ExprCore>) -> u32
     }
 }
 
+fn count_exit(count: u32, left: &LoopExit) -> u32
+    ensures { result ≡ capped (count + exit_nodes (exit_of left.now)) }
+{
+    match left {
+        LoopExit::Break => count,
+        LoopExit::While(test) | LoopExit::Until(test) => count_expr(count, test),
+    }
+}
+
 #[tactic(auto, using(crate::proofs::Copies::copies))]
 #[cycle(count_stmt)]
 fn count_stmt(count: u32, stmt: &StmtCore) -> u32
@@ -130,9 +141,8 @@ fn count_stmt(count: u32, stmt: &StmtCore) -> u32
             count_stmts(count, other.as_slice())
         }
         StmtCore::Loop(_, body) => count_stmts(count, body.as_slice()),
-        StmtCore::Leave(_, value) | StmtCore::Return(value) | StmtCore::Yield(value) => {
-            count_option_expr(count, value)
-        }
+        StmtCore::Leave(left) => count_exit(count, left),
+        StmtCore::Return(value) | StmtCore::Yield(value) => count_option_expr(count, value),
         StmtCore::TypeCase(_, arms, other, _) => {
             let count = count_arms(count, arms.as_slice());
             match other {

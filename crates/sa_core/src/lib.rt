@@ -14,4 +14,4 @@ pub use expr::{ArgCore, ExprCore};
 pub use feature::{CalledCore, FeatureCore, SiteCore, Target};
 pub use places::positions;
 pub use program::{Core, ImplCore, SharedCore, SigCore, TypeInfo};
-pub use stmt::{ArmCore, StmtCore, TestCore};
+pub use stmt::{ArmCore, LoopExit, StmtCore, TestCore};

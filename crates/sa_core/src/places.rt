@@ -2,13 +2,16 @@
 //! the order of the fields. A fault of the running program is told by its place in this list.
 
 ghost use Rattle.std.specs.Prelude.{◌≡◌, [], ◌∷◌, ◌++◌, flat_map, IfOk, OnOk};
-ghost use Rattle.sa_core.specs.Copy.{arg_of, args_of, arm_of, arms_of, block_of, expr_of, exprs_of, option_expr_of, stmt_of, test_of, tests_of};
-ghost use Rattle.sa_core.specs.PositionList.{arg_positions, args_positions, arms_positions, core_positions, expr_positions, exprs_positions, feature_positions, option_expr_positions, shared_positions, stmt_positions, stmts_positions, tests_positions};
+ghost use Rattle.sa_core.specs.Copy.{arg_of, args_of, arm_of, arms_of, block_of, exit_of, expr_of};
+ghost use Rattle.sa_core.specs.Copy.{exprs_of, option_expr_of, stmt_of, test_of, tests_of};
+ghost use Rattle.sa_core.specs.PositionList.{arg_positions, args_positions, arms_positions, core_positions, exit_positions};
+ghost use Rattle.sa_core.specs.PositionList.{expr_positions, exprs_positions, feature_positions, option_expr_positions};
+ghost use Rattle.sa_core.specs.PositionList.{shared_positions, stmt_positions, stmts_positions, tests_positions};
 
 use crate::expr::{ArgCore, ExprCore};
 use crate::feature::FeatureCore;
 use crate::program::{Core, SharedCore};
-use crate::stmt::{ArmCore, StmtCore, TestCore};
+use crate::stmt::{ArmCore, LoopExit, StmtCore, TestCore};
 use sa_tree::{NoMemory, Pos};
 use sqlite_items::Items;
 use std::alloc::Global;
@@ -138,6 +141,16 @@ fn add_option_expr(found: &mut Items<Pos>, expr: &Option<ExprCore>) -> Result<()
 }
 
 #[tactic(auto, using(crate::proofs::PositionLists::parts))]
+fn add_exit(found: &mut Items<Pos>, left: &LoopExit) -> Result<(), NoMemory>
+    ensures { OnOk result (found.new ≡ found.old ++ exit_positions (exit_of left.now)) }
+{
+    match left {
+        LoopExit::Break => Ok(()),
+        LoopExit::While(test) | LoopExit::Until(test) => add_expr(found, test),
+    }
+}
+
+#[tactic(auto, using(crate::proofs::PositionLists::parts))]
 #[cycle(add_stmt)]
 fn add_stmt(found: &mut Items<Pos>, stmt: &StmtCore) -> Result<(), NoMemory>
     ensures { OnOk result (found.new ≡ found.old ++ stmt_positions (stmt_of stmt.now)) }
@@ -149,9 +162,8 @@ fn add_stmt(found: &mut Items<Pos>, stmt: &StmtCore) -> Result<(), NoMemory>
             add_stmts(found, other.as_slice())
         }
         StmtCore::Loop(_, body) => add_stmts(found, body.as_slice()),
-        StmtCore::Leave(_, value) | StmtCore::Return(value) | StmtCore::Yield(value) => {
-            add_option_expr(found, value)
-        }
+        StmtCore::Leave(left) => add_exit(found, left),
+        StmtCore::Return(value) | StmtCore::Yield(value) => add_option_expr(found, value),
         StmtCore::TypeCase(_, arms, other, pos) => {
             add_pos(found, *pos)?;
             add_arms(found, arms.as_slice())?;

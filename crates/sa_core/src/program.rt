@@ -58,6 +58,7 @@ pub struct Core {
     pub shareds: Items<SharedCore>,
     /// The number of the feature that the program runs.
     pub main: u32,
-    /// The line of each position that the expressions and statements carry, in their order. The checker leaves it empty.
-    pub lines: Items<u32>,
+    /// The places of the line feeds in each text of the program, rising: a position is in the line that as many of them stand
+    /// before.
+    pub feeds: Items<Items<u32>>,
 }

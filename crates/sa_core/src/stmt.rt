@@ -1,7 +1,7 @@
 //! Typed statements.
 
 use crate::expr::ExprCore;
-use sa_tree::Pos;
+use sa_tree::{FaultKind, Pos};
 use sqlite_items::Items;
 
 /// Tests with the statements that are done where one of them is true.
@@ -21,6 +21,17 @@ pub struct ArmCore {
     pub body: Items<StmtCore>,
 }
 
+/// What leaves the innermost loop.
+#[derive(Drop)]
+pub enum LoopExit {
+    /// `break!`, which always leaves it.
+    Break,
+    /// `while!`, where its test is false.
+    While(ExprCore),
+    /// `until!`, where its test is true.
+    Until(ExprCore),
+}
+
 /// A typed statement.
 #[cycle(stmt)]
 #[derive(Drop)]
@@ -31,8 +42,7 @@ pub enum StmtCore {
     If(Items<TestCore>, Items<StmtCore>),
     /// A loop by its number in the feature.
     Loop(u32, Items<StmtCore>),
-    /// Leaves the innermost loop: always (0), where the expression is false (1), or where it is true (2).
-    Leave(u8, Option<ExprCore>),
+    Leave(LoopExit),
     /// Tests the class of a variable's value.
     TypeCase(u32, Items<ArmCore>, Option<Items<StmtCore>>, Pos),
     Protect(Items<StmtCore>, Items<ArmCore>, Option<Items<StmtCore>>),
@@ -40,6 +50,6 @@ pub enum StmtCore {
     Yield(Option<ExprCore>),
     Quit,
     Raise(ExprCore, Pos),
-    /// Stops the program with a fault by its number.
-    Stop(u8, Pos),
+    /// Stops the program with a fault.
+    Stop(FaultKind, Pos),
 }

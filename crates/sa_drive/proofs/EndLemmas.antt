@@ -65,7 +65,7 @@ of_ok Taken Early made value is match = subst (λ made. MatchResult made (λ _. 
 pub of_err : {X : Type 0} (Taken : Type 0) (Early : Cause → Type 0) (made : Result X Cause) (ends : Cause) → made ≡ Err ends → MatchResult made (λ _. Taken) Early → Early ends
 of_err Taken Early made ends is match = subst (λ made. MatchResult made (λ _. Taken) Early) is match
 
--- the files give a module, and these texts are told of
+-- the files give a module, and these are the texts of the report
 pub taken_of : {X : Type 0} (files : Option Files) (failed : Type 0) (names : List (List ℕ)) (made : Result X Cause) (value : X) (sources told : Sources) → made ≡ Ok value → MatchResult made (λ _. IsTakenProgram files names sources) (ComesOfFiles files failed names sources) → told ≡ sources → IsTakenProgram files names told
 taken_of files failed names made value sources told is match same =
     rw same (of_ok (IsTakenProgram files names sources) (ComesOfFiles files failed names sources) made value is match)
@@ -80,7 +80,7 @@ spells_of made built bytes is tried same =
       runnable = it.runnable;
     }
 
--- the files give no module, and this outcome tells of it
+-- the files give no module, and this outcome says why
 pub given_none : {X : Type 0} (store : Part Files) (names : List (List ℕ)) (made : Result X Cause) (sources : Sources) (ends : Cause) (outcome : Outcome) → made ≡ Err ends → MatchResult made (λ _. IsTakenProgram store.before names sources) (ComesOfFiles store.before (Failed store) names sources) → store.after ≡ store.before → outcome.sources ≡ sources → outcome.cause ≡ ends → outcome.«module».items ≡ [] → GivesNone store names outcome
 given_none store names made sources ends outcome is match files same cause bytes = record {
   comes = rw (same, cause) (of_err (IsTakenProgram store.before names sources) (ComesOfFiles store.before (Failed store) names sources) made ends is match);
@@ -98,7 +98,7 @@ ends_earlier a b c _ less end = absurd end
 abbrev part_of : Option Files → Option Files → ℕ → ℕ → Part Files
 part_of before after faults_before faults_after = record { before = before; after = after; faults_before = faults_before; faults_after = faults_after }
 
--- what was written, seen from earlier on, of which this outcome tells
+-- what was written, seen from earlier on, and reported by this outcome
 pub written_earlier : (before middle after : Option Files) (a b c : ℕ) (name bytes told_bytes : List ℕ) (ends told : Cause) → middle ≡ before → a ≤ b → told_bytes ≡ bytes → told ≡ ends → IsWritten (part_of middle after b c) name bytes ends → IsWritten (part_of before after a c) name told_bytes told
 written_earlier before middle after a b c name bytes told_bytes ends told same less same_bytes same_ends written =
     rw (same_ends, same_bytes, ← same) (record {

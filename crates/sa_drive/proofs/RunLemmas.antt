@@ -24,7 +24,7 @@ use Rattle.sa_drive.specs.declared.exec.Ended.{Ended}
 use Rattle.sa_drive.specs.declared.module.Built.{Built}
 use Rattle.sa_drive.specs.declared.outcome.Outcome.{Outcome}
 
--- a part of the outside that tells what it holds and never fails
+-- a part of the outside that says what it holds and never fails
 abbrev pub sure : {T : Type 0} → T → T → Part T
 sure old new = record { before = Some old; after = Some new; faults_before = 0; faults_after = 0 }
 
@@ -86,7 +86,7 @@ shown_built input out IsCause built fuel ended run outcome tried is ran same cau
       shows = shows_of IsCause fuel ended run outcome is cause done steps;
     }
 
--- a run with an input of no bytes and a sink of its own, of texts that are told of
+-- a run with an input of no bytes and a sink of its own, of the texts of a report
 pub apart : (sources told : Sources) (fuel : ℕ) (given left : Input) (had output : List ℕ) (outcome : Outcome) → told ≡ sources → given ≡ record { left = []; ends = 0 } → had ≡ [] → RanBuilt (sure given left) (sure had output) fuel (IsOfModule sources) outcome → RanBuilt (empty_input left) (own_sink output) fuel (IsOfModule told) outcome
 apart sources told fuel given left had output outcome same empty none ran =
     subst (λ texts. RanBuilt (empty_input left) (own_sink output) fuel (IsOfModule texts) outcome) (sym same)

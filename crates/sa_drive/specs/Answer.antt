@@ -1,5 +1,6 @@
 -- What the outcome of each command says of the outside.
-use Rattle.std.specs.Prelude.{codes, ◌≡◌, ◌≢◌, ◌≤◌, ◌^◌, ◌-◌, ◌⊎◌, ◌&&◌, ⊤, ℕ, Bool, true, false, List, [], length, Option, None, Some, is_some}
+use Rattle.std.specs.Prelude.{codes, ◌≡◌, ◌≢◌, ◌≤◌, ◌^◌, ◌-◌, ◌⊎◌, ◌&&◌, ⊤, ℕ, Bool}
+use Rattle.std.specs.Prelude.{true, false, List, [], length, Option, None, Some, is_some}
 use Rattle.sa_gen.specs.Generated.{generated}
 use Rattle.sa_outside.specs.Files.{Files, Lacks}
 use Rattle.sa_outside.specs.Input.{Input}
@@ -13,7 +14,6 @@ use Rattle.sa_drive.specs.Runs.{Ran, RanBuilt}
 use Rattle.sa_drive.specs.Seen.{Failed, IsKept, Outside, Part}
 use Rattle.sa_drive.specs.declared.cause.Cause.{Cause}
 use Rattle.sa_drive.specs.declared.cause.Cause.TheVariants as cause
-use Rattle.sa_drive.specs.declared.exec.TheConstants.{MOST_MODULE_BYTES}
 use Rattle.sa_drive.specs.declared.outcome.Outcome.{Outcome}
 
 -- there is no module of the outcome
@@ -36,26 +36,32 @@ IsRun store input out fuel names outcome =
 abbrev pub IsBuilt : Part Files → List ℕ → List (List ℕ) → Outcome → Type 0
 IsBuilt store name names outcome =
     GivesNone store names outcome
-    ⊎ (IsTakenProgram store.before names outcome.sources × SpellsRunnable outcome.«module».items × IsWritten store name outcome.«module».items outcome.cause)
+    ⊎ (IsTakenProgram store.before names outcome.sources
+    × SpellsRunnable outcome.«module».items
+    × IsWritten store name outcome.«module».items outcome.cause)
 
--- it was told that the program in these files is accepted, or it isn't
+-- out took that the program in these files is accepted, or it isn't
 abbrev pub IsChecked : Part Files → Part (List ℕ) → List (List ℕ) → Outcome → Type 0
 IsChecked store out names outcome =
     (GivesNone store names outcome × IsKept out)
     ⊎ (IsTakenProgram store.before names outcome.sources × HasNoModule outcome × IsPrinted out (codes "accepted\n") outcome.cause)
 
+-- how many bytes a module has at most: 64 MiB
+abbrev pub most_module_bytes : ℕ
+most_module_bytes = 67108864
+
 -- why no module was read from its file
 abbrev pub IsUnread : Part Files → List ℕ → Cause → Type 0
 IsUnread store file cause.StoreFault = Failed store ⊎ Lacks store.before file
-IsUnread store file cause.Malformed = (bytes : List ℕ) × HasLonger store.before file MOST_MODULE_BYTES bytes
+IsUnread store file cause.Malformed = (bytes : List ℕ) × HasLonger store.before file most_module_bytes bytes
 IsUnread store file cause.NoMemory = ⊤
 IsUnread store file _ = ⊥
 
 -- these are the bytes of the module in the file
 abbrev pub IsModuleIn : Part Files → List ℕ → List ℕ → Type 0
-IsModuleIn store file bytes = HasFile store.before file bytes × (length bytes ≤ MOST_MODULE_BYTES)
+IsModuleIn store file bytes = HasFile store.before file bytes × (length bytes ≤ most_module_bytes)
 
--- the cause that is told is the module's
+-- the cause that is reported is the module's
 abbrev pub IsSame : (of_module : Cause) → (told : Cause) → Type 0
 IsSame of_module told = told ≡ of_module
 
@@ -84,7 +90,7 @@ pub record TellsRun (out : Part (List ℕ)) (classes : ℕ) (ran : Outcome) (out
   pub ended : ran.cause ≡ cause.Done → IsPrinted out (selftest_line classes (length output) ran.done) outcome.cause
   pub other : ran.cause ≢ cause.Done → (outcome.cause ≡ ran.cause) × IsKept out
 
--- the generated program was run with the greatest fuel, apart from the input and out of the call, and told of
+-- the generated program was run with the greatest fuel, apart from the input and out of the call, and reported
 pub record IsRunApart (out : Part (List ℕ)) (classes : ℕ) (outcome : Outcome) : Type 0 where
   pub taken : IsTakenGenerated classes outcome.sources
   pub ran : Outcome
@@ -101,9 +107,9 @@ IsTested out classes outcome =
 
 -- the command was done, and this came of it
 abbrev pub Does : Outside → Line → Outcome → Type 0
-Does outside (Run fuel room stats names) outcome = IsRun outside.store outside.input outside.out fuel names outcome
-Does outside (Build room out names) outcome = IsBuilt outside.store out names outcome
-Does outside (Check names) outcome = IsChecked outside.store outside.out names outcome
+Does outside (Run fuel room stats contracts names) outcome = IsRun outside.store outside.input outside.out fuel names outcome
+Does outside (Build room contracts out names) outcome = IsBuilt outside.store out names outcome
+Does outside (Check contracts names) outcome = IsChecked outside.store outside.out names outcome
 Does outside (Exec fuel stats file) outcome = IsExecuted outside.store outside.input outside.out fuel file outcome
 Does outside (Gen classes) outcome = IsGenerated outside.out classes outcome
 Does outside (Selftest classes) outcome = IsTested outside.out classes outcome
@@ -116,7 +122,7 @@ pub record DoesNothing (outside : Outside) (outcome : Outcome) (ends : Cause) : 
   pub input : IsKept outside.input
   pub out : IsKept outside.out
 
--- what the words ask for was done: the usage is told where they are no command, and only there, unless memory ran out
+-- what the words ask for was done: the usage is the answer where they are no command, and only there, unless memory ran out
 abbrev pub Obeys : Outside → Option Line → Outcome → Type 0
 Obeys outside None outcome = DoesNothing outside outcome cause.Usage ⊎ DoesNothing outside outcome cause.NoMemory
 Obeys outside (Some line) outcome = DoesNothing outside outcome cause.NoMemory ⊎ Does outside line outcome
@@ -128,11 +134,11 @@ module_file _ = []
 
 -- the command asks for the statistics
 abbrev pub asks_stats : Option Line → Bool
-asks_stats (Some (Run fuel room stats names)) = stats
+asks_stats (Some (Run fuel room stats contracts names)) = stats
 asks_stats (Some (Exec fuel stats file)) = stats
 asks_stats _ = false
 
--- the steps of a run that ended so may be told
+-- the steps of a run that ended so may be shown
 abbrev pub has_steps : Cause → Bool
 has_steps cause.Done = true
 has_steps (cause.Fault kind pos) = true
@@ -140,14 +146,14 @@ has_steps (cause.Stopped code site) = true
 has_steps (cause.Spent steps) = true
 has_steps _ = false
 
--- the lines of the outcome name the file of `exec`, and tell the steps exactly where they are asked for and may be told
+-- the lines of the outcome name the file of `exec`, and show the steps exactly where they are asked for and may be shown
 pub record IsTellable (line : Option Line) (outcome : Outcome) : Type 0 where
   pub file : outcome.cause ≢ cause.NoMemory → outcome.file.now ≡ module_file line
   pub steps : is_some outcome.steps ≡ (asks_stats line && has_steps outcome.cause)
 
 -- the command runs no module on the input and to out
 abbrev pub RunsNone : Option Line → Type 0
-RunsNone (Some (Run fuel room stats names)) = ⊥
+RunsNone (Some (Run fuel room stats contracts names)) = ⊥
 RunsNone (Some (Exec fuel stats file)) = ⊥
 RunsNone _ = ⊤
 
@@ -160,11 +166,11 @@ ReadsNone _ = ⊥
 
 -- the command writes no file
 abbrev pub WritesNone : Option Line → Type 0
-WritesNone (Some (Build room out names)) = ⊥
+WritesNone (Some (Build room contracts out names)) = ⊥
 WritesNone _ = ⊤
 
 -- the command puts nothing on out
 abbrev pub PrintsNone : Option Line → Type 0
 PrintsNone None = ⊤
-PrintsNone (Some (Build room out names)) = ⊤
+PrintsNone (Some (Build room contracts out names)) = ⊤
 PrintsNone _ = ⊥

@@ -1,5 +1,6 @@
 -- The lines on err.
-use Rattle.std.specs.Prelude.{ℕ, ◌+◌, ◌<◌, ⊤, List, [], ◌++◌, ◌==◌, length, take, count_by, codes, decimal, slice_get, unwrap_or}
+use Rattle.std.specs.Prelude.{ℕ, ◌+◌, ◌<◌, ⊤, List, [], ◌++◌, ◌==◌, length, take, count_by}
+use Rattle.std.specs.Prelude.{codes, decimal, slice_get, slice_index_or, unwrap_or}
 use Rattle.sa_tree.specs.declared.pos.Pos.{Pos}
 use Rattle.sa_tree.specs.declared.pos.Sources.{Sources}
 use Rattle.sa_tree.specs.Sources.{text_of}
@@ -8,7 +9,8 @@ use Rattle.sa_drive.specs.declared.outcome.Outcome.{Outcome}
 use Rattle.sa_tree.specs.Rules.{rule_text}
 use Rattle.sa_tree.specs.Faults.{fault_text}
 use Rattle.sa_drive.specs.declared.cause.Cause.{Cause}
-use Rattle.sa_drive.specs.declared.cause.Cause.TheVariants.{Done, Refused, Fault, Stopped, Spent, StoreFault, InFault, OutFault, Usage, Malformed, Invalid, Unlinked, Segment, Trap, TooDeep, NotListing, NoMemory}
+use Rattle.sa_drive.specs.declared.cause.Cause.TheVariants.{Done, Refused, Fault, Stopped, Spent, StoreFault, InFault, OutFault, Usage}
+use Rattle.sa_drive.specs.declared.cause.Cause.TheVariants.{Malformed, Invalid, Unlinked, Segment, Trap, TooDeep, NotListing, NoMemory}
 
 -- the line of a place, from 1
 abbrev pub line_number : Sources → Pos → ℕ
@@ -50,9 +52,13 @@ line_of_cause sources file TooDeep = about_file file (codes "too deep")
 line_of_cause sources file (NotListing line) = listing_line file line
 line_of_cause sources file NoMemory = codes "out of memory\n"
 
+-- the position is in one of these texts, whose lines can be counted
+abbrev pub IsInText : List (List ℕ) → Pos → Type 0
+IsInText texts pos = (pos.file < length texts) × (length (slice_index_or texts pos.file []) < 4_294_967_295)
+
 -- the position is in one of the texts
 abbrev pub IsInside : Sources → Pos → Type 0
-IsInside sources pos = (pos.file < length sources.texts) × (length (text_of sources pos.file) < 4_294_967_295)
+IsInside sources pos = IsInText sources.texts pos
 
 -- the cause names a position in one of the texts, or none
 abbrev pub IsPlaced : Sources → Cause → Type 0
@@ -64,14 +70,15 @@ IsPlaced sources _ = ⊤
 abbrev pub statistics : ℕ → ℕ → List ℕ
 statistics steps bytes = codes "steps " ++ decimal steps ++ codes ", bytes " ++ decimal bytes ++ codes "\n"
 
--- the line of the statistics, where the steps are told
+-- the line of the statistics, where the steps are shown
 abbrev pub told_statistics : Option ℕ → ℕ → List ℕ
 told_statistics None bytes = []
 told_statistics (Some steps) bytes = statistics steps bytes
 
 -- the lines of an outcome with this cause
 abbrev pub lines_of : Outcome → Cause → List ℕ
-lines_of outcome cause = line_of_cause outcome.sources outcome.file.now cause ++ told_statistics outcome.steps (length outcome.«module».items)
+lines_of outcome cause =
+    line_of_cause outcome.sources outcome.file.now cause ++ told_statistics outcome.steps (length outcome.«module».items)
 
 -- `selftest N: B bytes, status S`, which out takes
 abbrev pub selftest_line : ℕ → ℕ → ℕ → List ℕ

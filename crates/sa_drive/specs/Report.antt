@@ -12,12 +12,12 @@ use Rattle.sa_drive.specs.declared.outcome.Outcome.{Outcome}
 abbrev pub Tells : Part (List ℕ) → List ℕ → Type 0
 Tells err line = Took err.before err.after line ⊎ (Failed err × TookFront err.before err.after line)
 
--- err took a front of the lines of the outcome, or of those of want of memory
+-- err took a front of the lines of the outcome, or of those of out of memory
 abbrev pub TellsPart : Part (List ℕ) → Outcome → Type 0
 TellsPart err outcome =
     TookFront err.before err.after (lines_of outcome outcome.cause) ⊎ TookFront err.before err.after (lines_of outcome cause.NoMemory)
 
--- the exit tells of the outcome: its cause, or want of memory in its place, its status and its module; and err took its lines
+-- the exit has the outcome's cause, or out of memory in its place, its status and its module; and err took its lines
 pub record IsExitOf (outcome : Outcome) (err : Part (List ℕ)) (exit : Exit) : Type 0 where
   pub stands : (exit.cause ≡ cause.NoMemory) ⊎ (exit.cause ≡ outcome.cause)
   pub done : exit.cause ≡ cause.Done → exit.status ≡ outcome.done

@@ -42,7 +42,7 @@ pub record IsRunOfModule (input : Part Input) (out : Part (List ℕ)) (m : Modul
   pub starts : IsRunnable m → IsBeforeRun run.answer → ⊥
 
 -- the outcome is that of the run: its cause is one by this rule for that of the module, and its status and its steps, where they are
--- told, are the run's
+-- shown, are the run's
 pub record Shows (fuel : ℕ) (IsCause : (of_module : Cause) → (told : Cause) → Type 0) (outcome : Outcome) (run : Run) : Type 0 where
   pub cause : IsCause (cause_of fuel run.answer) outcome.cause
   pub done : outcome.done ≡ done_of run.answer
@@ -54,7 +54,8 @@ Ran input out fuel IsCause outcome =
     (run : Run) × IsRunOf input out outcome.«module».items fuel run × Shows fuel IsCause outcome run
 
 -- the bytes of the outcome spell a module that can be run, it was run with this fuel, and the outcome is that of the run
-pub record RanBuilt (input : Part Input) (out : Part (List ℕ)) (fuel : ℕ) (IsCause : (of_module : Cause) → (told : Cause) → Type 0) (outcome : Outcome) : Type 0 where
+pub record RanBuilt (input : Part Input) (out : Part (List ℕ)) (fuel : ℕ)
+    (IsCause : (of_module : Cause) → (told : Cause) → Type 0) (outcome : Outcome) : Type 0 where
   pub built : Module
   pub spelled : SpellsModule outcome.«module».items built
   pub runnable : IsRunnable built

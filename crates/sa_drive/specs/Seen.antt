@@ -4,7 +4,7 @@ use Rattle.sa_outside.specs.Faults.{Rose}
 use Rattle.sa_outside.specs.Files.{Files}
 use Rattle.sa_outside.specs.Input.{Input}
 
--- what a part of the outside held before a call and holds after it, where it tells, and how often it had failed
+-- what a part of the outside held before a call and holds after it, where it says so, and how often it had failed
 pub record Part (T : Type 0) : Type 0 where
   pub before : Option T
   pub after : Option T

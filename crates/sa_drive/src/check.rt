@@ -1,4 +1,4 @@
-//! The command `check`: it is told whether a program is accepted.
+//! The command `check`: whether a program is accepted.
 
 ghost use Rattle.std.specs.Prelude.{◌≡◌, [], None, map};
 ghost use Rattle.sa_outside.specs.Output.{Grew};
@@ -17,7 +17,7 @@ use std::alloc::Global;
 /// What out takes of a program that is accepted.
 const ACCEPTED: &[u8] = b"accepted\n";
 
-/// Tells on out that the program is accepted, or gives the cause why it isn't.
+/// Prints on out that the program is accepted, or gives the cause why it isn't.
 pub fn check<'a, S: ReadFiles, O: Sink>(
     alloc: Global,
     line: &Check<'a>,
@@ -34,7 +34,12 @@ pub fn check<'a, S: ReadFiles, O: Sink>(
     ensures output { Grew (O.output out.old) (O.output out.new) }
     ensures untouched { ComesBeforeOutput result.cause → out.new ≡ out.old }
 {
-    let Checked { sources, core } = check_files(alloc, store, line.files.as_slice());
+    let Checked { sources, core } = check_files(
+        alloc,
+        store,
+        line.files.as_slice(),
+        line.contracts,
+    );
     match core {
         Ok(_core) => Outcome::without_module(alloc, print(ACCEPTED, out), sources),
         Err(cause) => Outcome::without_module(alloc, cause, sources),

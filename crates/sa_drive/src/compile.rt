@@ -1,22 +1,23 @@
 //! A program's typed tree and its module, from its files.
 
-ghost use Rattle.std.specs.Prelude.{◌≡◌, ◌≤◌, ◌<◌, ◌⊎◌, All, length, map, Err, None, IfErr, IfOk, IfSome, IsTrue, MatchResult};
+ghost use Rattle.std.specs.Prelude.{◌≡◌, ◌≤◌, ◌<◌, ◌⊎◌, All, length, map, Err, None, IfErr, IfOk, IfSome, MatchResult};
 ghost use Rattle.sa_outside.specs.Faults.{Rose};
 ghost use Rattle.sa_read.specs.Front.{IsRefusalOf, IsTakenUpTo};
 ghost use Rattle.sa_drive.specs.Built.{IsTried};
-ghost use Rattle.sa_drive.specs.Files.{ComesOfFiles, ComesOfGenerated, Explains, ExplainsProgram, IsPlaceIn, IsTakenGenerated, IsTakenProgram, generated_sources};
+ghost use Rattle.sa_drive.specs.Files.{ComesOfFiles, ComesOfGenerated, Explains, ExplainsProgram};
+ghost use Rattle.sa_drive.specs.Files.{IsTakenGenerated, IsTakenProgram, generated_sources};
 ghost use Rattle.sa_drive.specs.Lines.{IsPlaced};
 
+use crate::accepted::accepted;
 use crate::cause::Cause;
 use crate::module::{Built, module_of};
-use sa_check::check;
+use crate::place::is_place_in;
 use sa_core::Core;
 use sa_gen::generate;
 use sa_outside::ReadFiles;
-use sa_prelude::text;
-use sa_read::{Parsed, Program, ReadFault, parse_program, read_program};
-use sa_tree::{Class, FrontFault, Name, NoMemory, Pos, Refusal, Sources};
-use sa_words::ROOM;
+use sa_read::{Program, ReadFault, parse_program, prelude, read_program};
+use sa_tree::{FrontFault, Name, NoMemory, Refusal, Sources};
+use sa_words::{Contracts, ROOM};
 use sqlite_items::Items;
 use std::alloc::Global;
 
@@ -35,14 +36,22 @@ pub struct Compiled {
 }
 
 /// Reads the files of a program and checks it.
-pub fn check_files<S: ReadFiles>(alloc: Global, store: &mut S, files: &[&str]) -> Checked
-    ensures core { MatchResult result.core (λ _. IsTakenProgram (S.files store.old) (map (λ file. file.now) files.now) result.sources) (ComesOfFiles (S.files store.old) (Rose (S.faults store.old) (S.faults store.new)) (map (λ file. file.now) files.now) result.sources) }
+pub fn check_files<S: ReadFiles>(
+    alloc: Global,
+    store: &mut S,
+    files: &[&str],
+    contracts: Contracts,
+) -> Checked
+    ensures core { MatchResult result.core
+        (λ _. IsTakenProgram (S.files store.old) (map (λ file. file.now) files.now) result.sources)
+        (ComesOfFiles (S.files store.old) (Rose (S.faults store.old) (S.faults store.new))
+        (map (λ file. file.now) files.now) result.sources) }
     ensures placed { IfErr result.core (IsPlaced result.sources) }
     ensures files { S.files store.new ≡ S.files store.old }
     ensures count { S.faults store.old ≤ S.faults store.new }
 {
     match read_program(alloc, store, files) {
-        Ok(program) => check_program(alloc, program),
+        Ok(program) => check_program(alloc, program, contracts),
         Err(fault) => Checked {
             sources: no_sources(alloc),
             core: Err(unread(fault)),
@@ -55,15 +64,19 @@ pub fn compile_files<S: ReadFiles>(
     alloc: Global,
     store: &mut S,
     files: &[&str],
+    contracts: Contracts,
     room: u32,
 ) -> Compiled
-    ensures module { MatchResult result.«module» (λ _. IsTakenProgram (S.files store.old) (map (λ file. file.now) files.now) result.sources) (ComesOfFiles (S.files store.old) (Rose (S.faults store.old) (S.faults store.new)) (map (λ file. file.now) files.now) result.sources) }
+    ensures module { MatchResult result.«module»
+        (λ _. IsTakenProgram (S.files store.old) (map (λ file. file.now) files.now) result.sources)
+        (ComesOfFiles (S.files store.old) (Rose (S.faults store.old) (S.faults store.new))
+        (map (λ file. file.now) files.now) result.sources) }
     ensures built { IfOk result.«module» IsTried }
     ensures placed { IfErr result.«module» (IsPlaced result.sources) }
     ensures files { S.files store.new ≡ S.files store.old }
     ensures count { S.faults store.old ≤ S.faults store.new }
 {
-    let checked = check_files(alloc, store, files);
+    let checked = check_files(alloc, store, files, contracts);
     compile_checked(alloc, checked, room)
 }
 
@@ -85,23 +98,18 @@ fn compile_checked(alloc: Global, checked: Checked, room: u32) -> Compiled
     ensures fault { IfErr result.«module» (λ cause. (checked.core ≡ Err cause) ⊎ (cause ≡ Cause.NoMemory)) }
 {
     let Checked { sources, core } = checked;
-    let module = made(alloc, core, sources.texts.as_slice(), room);
+    let module = made(alloc, core, room);
     Compiled { sources, module }
 }
 
-/// The module of the typed tree of these texts, or the cause why there is none.
-fn made(
-    alloc: Global,
-    core: Result<Core, Cause>,
-    texts: &[Items<u8>],
-    room: u32,
-) -> Result<Built, Cause>
+/// The module of a typed tree, or the cause why there is none.
+fn made(alloc: Global, core: Result<Core, Cause>, room: u32) -> Result<Built, Cause>
     ensures built { IfOk result IsTried }
     ensures made { IfOk result (λ _. IfErr core (λ _. ⊥)) }
     ensures fault { IfErr result (λ cause. (core ≡ Err cause) ⊎ (cause ≡ Cause.NoMemory)) }
 {
     match core {
-        Ok(core) => match module_of(alloc, core, texts, room) {
+        Ok(core) => match module_of(alloc, core, room) {
             Ok(built) => Ok(built),
             Err(NoMemory) => Err(Cause::NoMemory),
         },
@@ -115,7 +123,10 @@ fn check_generated(alloc: Global, classes: u32) -> Checked
     ensures placed { IfErr result.core (IsPlaced result.sources) }
 {
     match generated_sources(alloc, classes) {
-        Ok(sources) => check_program(alloc, Program { sources, cut: None }),
+        Ok(sources) => {
+            let program = Program { sources, cut: None };
+            check_program(alloc, program, Contracts::Dropped)
+        }
         Err(NoMemory) => Checked {
             sources: no_sources(alloc),
             core: Err(Cause::NoMemory),
@@ -124,7 +135,7 @@ fn check_generated(alloc: Global, classes: u32) -> Checked
 }
 
 /// Checks a program, unless its files are too large.
-fn check_program(alloc: Global, program: Program) -> Checked
+fn check_program(alloc: Global, program: Program, contracts: Contracts) -> Checked
     requires short { All (λ text. length text < 4294967295) program.sources.texts }
     requires few { length program.sources.texts ≤ 65536 }
     requires placed { IfSome program.cut (λ refusal. refusal.pos.file < length program.sources.texts) }
@@ -135,7 +146,7 @@ fn check_program(alloc: Global, program: Program) -> Checked
 {
     let Program { sources, cut } = program;
     match cut {
-        None => check_texts(alloc, sources),
+        None => check_texts(alloc, sources, contracts),
         Some(refusal) => Checked {
             sources,
             core: Err(Cause::Refused(refusal)),
@@ -152,13 +163,10 @@ fn generated_sources(alloc: Global, classes: u32) -> Result<Sources, NoMemory>
         Ok(generated) if generated.len() < u32::MAX as usize => generated,
         _ => return Err(NoMemory),
     };
-    let mut names = Items::new(alloc);
-    names.push(Name::from_slice(alloc, b"prelude")?)?;
-    names.push(Name::from_slice(alloc, b"generated")?)?;
-    let mut texts = Items::new(alloc);
-    texts.push(Items::from_slice(alloc, text())?)?;
-    texts.push(Items::from_vec(generated))?;
-    Ok(Sources { names, texts })
+    let mut sources = prelude(alloc)?;
+    sources.names.push(Name::from_slice(alloc, b"generated")?)?;
+    sources.texts.push(Items::from_vec(generated))?;
+    Ok(sources)
 }
 
 /// The texts of a call that has read none.
@@ -181,39 +189,34 @@ pub fn unread(fault: ReadFault) -> Cause
 }
 
 /// The typed tree of a program of these texts, with the texts.
-fn check_texts(alloc: Global, sources: Sources) -> Checked
+fn check_texts(alloc: Global, sources: Sources, contracts: Contracts) -> Checked
     requires short { All (λ text. length text < 4294967295) sources.texts }
     requires few { length sources.texts < 4294967295 }
     ensures same { result.sources ≡ sources }
     ensures made { IfOk result.core (λ _. IsTakenUpTo sources.texts (length sources.texts)) }
     ensures fault { IfErr result.core (Explains sources.texts) }
 {
-    let core = typed(alloc, sources.texts.as_slice());
+    let core = typed(alloc, sources.texts.as_slice(), contracts);
     Checked { sources, core }
 }
 
 /// The typed tree of a program of these texts, or the cause why there is none.
-fn typed(alloc: Global, texts: &[Items<u8>]) -> Result<Core, Cause>
+fn typed(alloc: Global, texts: &[Items<u8>], contracts: Contracts) -> Result<Core, Cause>
     requires short { All (λ text. length text < 4294967295) texts.now }
     requires few { length texts.now < 4294967295 }
     ensures made { IfOk result (λ _. IsTakenUpTo texts.now (length texts.now)) }
     ensures fault { IfErr result (Explains texts.now) }
 {
-    let classes = match parse_program(alloc, texts) {
-        Ok(Parsed { classes, .. }) => classes,
+    let declared = match parse_program(alloc, texts) {
+        Ok(declared) => declared,
         Err(FrontFault::Refused(refusal)) => return Err(refused(refusal, texts)),
         Err(FrontFault::NoMemory) => return Err(Cause::NoMemory),
     };
-    match accepted(alloc, classes) {
+    match accepted(alloc, declared, texts, contracts) {
         Ok(core) => Ok(core),
         Err(FrontFault::Refused(refusal)) => Err(refused(refusal, texts)),
         Err(FrontFault::NoMemory) => Err(Cause::NoMemory),
     }
-}
-
-/// The typed program of these classes, of which nothing is kept.
-fn accepted(alloc: Global, classes: Items<Class>) -> Result<Core, FrontFault> {
-    check(alloc, classes.as_slice())
 }
 
 /// The cause of the refusal of these texts. A refusal at no place in them, which no phase gives, is answered as out of memory.
@@ -221,18 +224,8 @@ fn refused(refusal: Refusal, texts: &[Items<u8>]) -> Cause
     requires { IsRefusalOf texts.now refusal ⊎ IsTakenUpTo texts.now (length texts.now) }
     ensures { Explains texts.now result }
 {
-    if is_in(texts, refusal.pos) {
+    if is_place_in(texts, refusal.pos) {
         return Cause::Refused(refusal);
     }
     Cause::NoMemory
-}
-
-/// Whether a place is in one of these texts, or at its end.
-fn is_in(texts: &[Items<u8>], pos: Pos) -> bool
-    ensures { IsTrue result → IsPlaceIn texts.now pos }
-{
-    match texts.get(pos.file as usize) {
-        Some(text) => pos.at as usize <= text.len(),
-        None => false,
-    }
 }

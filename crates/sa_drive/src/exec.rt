@@ -35,7 +35,7 @@ pub struct Ended {
 }
 
 impl Ended {
-    /// The outcome of a command that ran this module. The steps are told where they are asked for and the module ended
+    /// The outcome of a command that ran this module. It has the steps where they are asked for and the module ended
     /// by itself or at its fuel.
     pub fn outcome<'a>(
         self,
@@ -64,7 +64,7 @@ impl Ended {
     }
 }
 
-/// Whether the steps of a run that ended so may be told.
+/// Whether the steps of a run that ended so may be shown.
 fn has_steps(cause: &Cause) -> bool
     ensures { result ≡ has_steps cause.now }
 {

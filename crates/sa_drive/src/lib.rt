@@ -1,15 +1,16 @@
 //! The top call: from the words of a command line to its exit.
 #![tactic(auto)]
 
+mod accepted;
 mod build;
 mod cause;
 mod check;
 mod compile;
 mod exec;
-mod line_numbers;
 mod lines;
 mod module;
 mod outcome;
+mod place;
 mod print;
 mod report;
 mod run;

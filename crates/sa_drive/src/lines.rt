@@ -1,7 +1,8 @@
 //! The lines on err.
 
 ghost use Rattle.std.specs.Prelude.{◌≡◌, ◌++◌, ◌∷◌, [], ◌<◌, ◌^◌, codes, map, decimal, length, slice_get, unwrap_or, IfOk, OnOk};
-ghost use Rattle.sa_drive.specs.Lines.{about_place, about_file, stop_line, listing_line, line_of_cause, lines_of, statistics, IsPlaced, IsInside};
+ghost use Rattle.sa_drive.specs.Lines.{about_place, about_file, stop_line, listing_line};
+ghost use Rattle.sa_drive.specs.Lines.{line_of_cause, lines_of, statistics, IsPlaced, IsInside};
 
 use crate::cause::Cause;
 use crate::outcome::Outcome;
@@ -9,7 +10,7 @@ use itoa::Buffer;
 use sa_tree::{Pos, Sources, line_of};
 use std::alloc::{AllocError, Global};
 
-/// The lines of an outcome: that of its cause, and that of the statistics where they are told.
+/// The lines of an outcome: that of its cause, and that of the statistics where they are asked for.
 pub fn lines(alloc: Global, outcome: &Outcome<'_>) -> Result<Vec<u8>, AllocError>
     requires { IsPlaced outcome.now.sources outcome.now.cause }
     ensures { IfOk result (λ lines. lines.items ≡ lines_of outcome.now outcome.now.cause) }

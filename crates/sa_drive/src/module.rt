@@ -3,7 +3,6 @@
 ghost use Rattle.std.specs.Prelude.{◌<◌, length, IfOk};
 ghost use Rattle.sa_drive.specs.Built.{IsTried};
 
-use crate::line_numbers::line_numbers;
 use sa_core::{Core, positions};
 use sa_dispatch::rows;
 use sa_emit::emit;
@@ -23,19 +22,12 @@ pub struct Built {
     pub sites: Items<Pos>,
 }
 
-/// The module of a typed program of these texts, with so many KiB of room for its objects. Fails where memory runs out, also
-/// where a module of WebAssembly can't be as large as this one, or can't be run.
-pub fn module_of(
-    alloc: Global,
-    core: Core,
-    texts: &[Items<u8>],
-    room: u32,
-) -> Result<Built, NoMemory>
+/// The module of a typed program, with so many KiB of room for its objects. Fails where memory runs out, also where a module of
+/// WebAssembly can't be as large as this one, or can't be run.
+pub fn module_of(alloc: Global, core: Core, room: u32) -> Result<Built, NoMemory>
     ensures { IfOk result IsTried }
 {
     let positions = positions(alloc, &core)?;
-    let lines = line_numbers(alloc, texts, positions.as_slice())?;
-    let core = Core { lines, ..core };
     let flat = lower(alloc, &core, positions)?;
     let rows = rows(alloc, &core)?;
     drop(core);

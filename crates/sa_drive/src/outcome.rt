@@ -6,7 +6,7 @@ use crate::cause::Cause;
 use sa_tree::Sources;
 use std::alloc::Global;
 
-/// How a command ended, and what is told of it.
+/// How a command ended, and what is reported of it.
 #[derive(Drop)]
 pub struct Outcome<'a> {
     pub cause: Cause,
@@ -18,7 +18,7 @@ pub struct Outcome<'a> {
     pub file: &'a str,
     /// The bytes of the module that was encoded or read.
     pub module: Vec<u8>,
-    /// How many steps the machine made, where they are to be told.
+    /// How many steps the machine made, where they are to be shown.
     pub steps: Option<u64>,
 }
 

@@ -12,7 +12,7 @@ use crate::outcome::Outcome;
 use sa_outside::{Outage, Sink};
 use std::alloc::{AllocError, Global};
 
-/// Puts the lines of an outcome on err, and gives the cause that stands then: want of memory in its place where the lines
+/// Puts the lines of an outcome on err, and gives the cause that stands then: out of memory in its place where the lines
 /// can't be made or err has no memory. Where err fails the cause stands.
 pub fn report<E: Sink>(alloc: Global, outcome: &Outcome<'_>, err: &mut E) -> Cause
     requires { IsPlaced outcome.now.sources outcome.now.cause }
@@ -26,7 +26,7 @@ pub fn report<E: Sink>(alloc: Global, outcome: &Outcome<'_>, err: &mut E) -> Cau
     }
 }
 
-/// Puts the line on err, and gives the cause, or want of memory where err has none.
+/// Puts the line on err, and gives the cause, or out of memory where err has no memory.
 fn tell<E: Sink>(line: &[u8], cause: Cause, err: &mut E) -> Cause
     ensures stands { (result ≡ Cause.NoMemory) ⊎ (result ≡ cause) }
     ensures told { result ≢ Cause.NoMemory → Tells (part E.output E.faults err.old err.new) line.now }

@@ -1,6 +1,6 @@
 //! The command `run`: a program is compiled, and its module is run.
 
-ghost use Rattle.std.specs.Prelude.{◌≡◌, ◌&&◌, [], is_some, map, IsTrue};
+ghost use Rattle.std.specs.Prelude.{◌≡◌, ◌&&◌, [], is_some, map};
 ghost use Rattle.sa_outside.specs.Output.{Grew};
 ghost use Rattle.sa_tree.specs.declared.pos.Sources.{Sources as Places};
 ghost use Rattle.wa_run.specs.declared.module_run.Run.{Run as Runs};
@@ -8,7 +8,7 @@ ghost use Rattle.wa_syntax.specs.ValidModule.{IsValid};
 ghost use Rattle.sa_drive.specs.Answer.{IsRun, has_steps};
 ghost use Rattle.sa_drive.specs.Built.{IsTried};
 ghost use Rattle.sa_drive.specs.Ends.{ComesBeforeOutput, IsOfModule};
-ghost use Rattle.sa_drive.specs.Lines.{IsInside, IsPlaced};
+ghost use Rattle.sa_drive.specs.Lines.{IsPlaced};
 ghost use Rattle.sa_drive.specs.Runs.{IsRunOfModule, RanBuilt, ended_of};
 ghost use Rattle.sa_drive.specs.Seen.{part};
 
@@ -17,6 +17,7 @@ use crate::compile::{Compiled, compile_files};
 use crate::exec::{Ended, cause_of, done_of};
 use crate::module::Built;
 use crate::outcome::Outcome;
+use crate::place::is_place_in;
 use sa_outside::{ReadFiles, Sink, Source};
 use sa_tree::{FaultKind, Pos, Sources};
 use sa_words::Run;
@@ -45,6 +46,7 @@ pub fn run<'a, S: ReadFiles, I: Source, O: Sink>(
         alloc,
         store,
         line.files.as_slice(),
+        line.contracts,
         line.room,
     );
     match module {
@@ -107,7 +109,7 @@ fn run_valid<I: Source, O: Sink>(
 }
 
 /// The cause of a program whose module ended with this one: where the module stopped, the fault at the position whose number
-/// it told.
+/// it gave.
 fn at_place(cause: Cause, sites: &[Pos], sources: &Sources) -> Cause
     ensures of_module { IsOfModule sources.now cause result }
     ensures placed { IsPlaced sources.now cause → IsPlaced sources.now result }
@@ -119,7 +121,7 @@ fn at_place(cause: Cause, sites: &[Pos], sources: &Sources) -> Cause
     }
 }
 
-/// The fault of this kind at the position with this number. A stop that tells no kind of a fault or no position of the
+/// The fault of this kind at the position with this number. A stop that names no kind of a fault or no position of the
 /// program, which no module of a program makes, stays as it is.
 fn fault_at(code: u32, site: u32, sites: &[Pos], sources: &Sources) -> Cause
     ensures of_module { IsOfModule sources.now (Cause.Stopped code site) result }
@@ -130,17 +132,7 @@ fn fault_at(code: u32, site: u32, sites: &[Pos], sources: &Sources) -> Cause
         return Cause::Stopped(code, site);
     };
     match sites.get(site as usize) {
-        Some(pos) if is_inside(sources, *pos) => Cause::Fault(kind, *pos),
+        Some(pos) if is_place_in(sources.texts.as_slice(), *pos) => Cause::Fault(kind, *pos),
         _ => Cause::Stopped(code, site),
-    }
-}
-
-/// Whether a position is in one of the texts.
-fn is_inside(sources: &Sources, pos: Pos) -> bool
-    ensures { IsTrue result → IsInside sources.now pos }
-{
-    match sources.texts.get(pos.file as usize) {
-        Some(text) => text.len() < u32::MAX as usize,
-        None => false,
     }
 }

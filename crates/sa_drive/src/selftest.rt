@@ -1,4 +1,4 @@
-//! The command `selftest`: a generated program is compiled and run, and it is told what came of it.
+//! The command `selftest`: a generated program is compiled and run, and what came of it is printed.
 
 ghost use Rattle.std.specs.Prelude.{◌≡◌, [], IfOk, false, is_some};
 ghost use Rattle.sa_outside.specs.Output.{Grew};
@@ -21,7 +21,7 @@ use sa_tree::Sources;
 use std::alloc::{AllocError, Global};
 
 /// Compiles and runs the generated program of so many classes. Where it ends, the number of bytes that it put out and its
-/// status are told on out; what it put out isn't.
+/// status are printed on out; what it put out isn't.
 pub fn selftest<'a, O: Sink>(alloc: Global, classes: u32, out: &mut O) -> Outcome<'a>
     ensures does { IsTested (part O.output O.faults out.old out.new) classes result }
     ensures placed { IsPlaced result.sources result.cause }
@@ -38,7 +38,7 @@ pub fn selftest<'a, O: Sink>(alloc: Global, classes: u32, out: &mut O) -> Outcom
     }
 }
 
-/// Runs the module of the generated program with an empty input and an output of its own, and tells on out what came of it.
+/// Runs the module of the generated program with an empty input and an output of its own, and prints on out what came of it.
 fn run_apart<'a, O: Sink>(
     alloc: Global,
     classes: u32,

@@ -3,7 +3,8 @@
 ghost use Rattle.std.specs.Prelude.{◌≡◌, ◌≢◌, ◌&&◌, [], None, Some, is_some, map, string_bytes};
 ghost use Rattle.sa_outside.specs.Output.{Grew};
 ghost use Rattle.sa_words.specs.Line.{line_in, line_of};
-ghost use Rattle.sa_drive.specs.Answer.{Does, IsTellable, Obeys, PrintsNone, ReadsNone, RunsNone, WritesNone, asks_stats, has_steps, module_file};
+ghost use Rattle.sa_drive.specs.Answer.{Does, IsTellable, Obeys, PrintsNone, ReadsNone};
+ghost use Rattle.sa_drive.specs.Answer.{RunsNone, WritesNone, asks_stats, has_steps, module_file};
 ghost use Rattle.sa_drive.specs.Ends.{ComesBeforeOutput};
 ghost use Rattle.sa_drive.specs.Lines.{IsPlaced};
 ghost use Rattle.sa_drive.specs.Report.{IsExitOf};
@@ -34,7 +35,7 @@ pub fn sather<S: WriteFiles, I: Source, O: Sink, E: Sink>(
     out: &mut O,
     err: &mut E,
 ) -> Exit
-    // What the words ask for was done with an outcome, by the definition of each command. The exit has its cause, or want of memory,
+    // What the words ask for was done with an outcome, by the definition of each command. The exit has its cause, or out of memory,
     // its status and its module, and err took its lines.
     ensures answer { (outcome : Outcomes) ×
         Obeys (outside (part S.files S.faults store.old store.new) (part I.input I.faults input.old input.new)

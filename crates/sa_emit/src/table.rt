@@ -7,7 +7,7 @@ use sa_emit_value::{Program, function_of, held};
 use sqlite_items::Items;
 use std::alloc::Global;
 use std::mem;
-use wa_syntax::{Elem, Init, Limits, NoMemory};
+use wa_syntax::{ElemSegment, Init, Limits, NoMemory};
 
 /// The table. Each module has one, since the runtime calls bound values through it.
 pub(crate) fn tables(alloc: Global, places: &Places) -> Result<Items<Limits>, NoMemory> {
@@ -22,7 +22,7 @@ pub(crate) fn tables(alloc: Global, places: &Places) -> Result<Items<Limits>, No
 /// The segments so far, and the functions of neighbouring places that aren't in one yet.
 #[derive(Drop)]
 struct Filled {
-    elems: Items<Elem>,
+    elems: Items<ElemSegment>,
     first: u32,
     funcs: Items<u32>,
 }
@@ -32,7 +32,7 @@ pub(crate) fn elements(
     alloc: Global,
     program: Program<'_>,
     places: &Places,
-) -> Result<Items<Elem>, NoMemory> {
+) -> Result<Items<ElemSegment>, NoMemory> {
     let mut filled = Filled {
         elems: Items::new(alloc),
         first: 0,
@@ -94,7 +94,7 @@ impl Filled {
             return Ok(());
         }
         let funcs = mem::replace(&mut self.funcs, Items::new(alloc));
-        self.elems.push(Elem {
+        self.elems.push(ElemSegment {
             table: 0,
             offset: Init::Const32(self.first),
             funcs,

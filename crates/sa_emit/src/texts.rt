@@ -6,7 +6,7 @@ use sa_runtime::layout::{STR, TEXT, header};
 use sa_tree::Name;
 use sqlite_items::Items;
 use std::alloc::Global;
-use wa_syntax::{Init, NoMemory, Segment};
+use wa_syntax::{DataSegment, Init, NoMemory};
 
 /// The bytes of a word.
 const WORD: usize = 8;
@@ -16,10 +16,10 @@ pub(crate) fn segments(
     alloc: Global,
     flat: &FlatProgram,
     texts_at: u32,
-) -> Result<Items<Segment>, NoMemory> {
+) -> Result<Items<DataSegment>, NoMemory> {
     let mut segments = Items::new(alloc);
     if !flat.texts.is_empty() {
-        segments.push(Segment {
+        segments.push(DataSegment {
             memory: 0,
             offset: Init::Const32(texts_at),
             bytes: texts(alloc, flat.texts.as_slice())?,

@@ -27,7 +27,9 @@ pub fn add_leaving(
         FlatExit::Raise { value, place, kind } => {
             add_raise_out(code, around, *value, *place, *kind)
         }
-        FlatExit::Stop { kind, fail } => add_fail(code, around, Op::I32(u32::from(*kind)), fail),
+        FlatExit::Stop { kind, fail } => {
+            add_fail(code, around, Op::I32(u32::from(kind.number())), fail)
+        }
         FlatExit::Suspend { value, resume } => add_suspend(code, around, *value, *resume),
         FlatExit::Jump(_) => Err(stays()),
         FlatExit::Branch { .. } => Err(stays()),

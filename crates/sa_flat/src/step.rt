@@ -1,6 +1,7 @@
 //! Steps and exits.
 
 use crate::call::{CallPlan, Fail, FlatArg, Raised};
+use sa_tree::FaultKind;
 use sqlite_items::Items;
 
 /// A constant.
@@ -139,7 +140,7 @@ pub enum FlatStep {
     Release {
         sites: Items<u32>,
     },
-    /// Sets the variables of a raise by the statement `raise` (kind 8) at a place.
+    /// Sets the variables of a raise by the statement `raise` at a place.
     Raising {
         value: u32,
         place: u32,
@@ -175,9 +176,9 @@ pub enum FlatExit {
         place: u32,
         kind: u32,
     },
-    /// A fault of this kind.
+    /// A fault.
     Stop {
-        kind: u8,
+        kind: FaultKind,
         fail: Fail,
     },
 }

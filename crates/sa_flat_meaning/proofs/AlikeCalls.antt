@@ -1,5 +1,6 @@
 -- What goes through calls is alike where what runs bodies is.
 use Rattle.std.proofs.Common.{ℕ, Bool, true, false, List, [], ◌∷◌, Option, Some, None, refl}
+use Rattle.sa_tree.specs.declared.fault_kind.FaultKind.{FaultKind}
 use Rattle.sa_tree.specs.declared.ty.Mode.{Mode}
 use Rattle.sa_tree.specs.declared.ty.Mode.TheVariants as mode
 use Rattle.sa_flat.specs.declared.body.FlatBody.{FlatBody}
@@ -53,11 +54,11 @@ steady_leave body a = steady_change _ (λ s. refl)
 pub steady_raised : {level : ℕ} (to : Raised) (v : Value) (place kind : ℕ) → Steady level (raised to v place kind)
 steady_raised to v place kind = alike_before (steady_write _ _) (alike_before (steady_write _ _) (alike_before (steady_write _ _) (steady_pure _)))
 
-steady_fault_here : {level : ℕ} (fail : Fail) (kind : ℕ) → Steady level (fault_here fail kind)
+steady_fault_here : {level : ℕ} (fail : Fail) (kind : FaultKind) → Steady level (fault_here fail kind)
 steady_fault_here fail kind = alike_then (steady_look _) (λ room. alike_if _ (alike_before (steady_within _) (alike_then (steady_within _) (λ number. steady_raised _ _ _ _))) (steady_stop _))
 
 module _ (p : FlatProgram) where
-  pub steady_fault : {level : ℕ} (fail : Fail) (kind : ℕ) → Steady level (fault p fail kind)
+  pub steady_fault : {level : ℕ} (fail : Fail) (kind : FaultKind) → Steady level (fault p fail kind)
   steady_fault fail kind = alike_then steady_this (λ here. alike_if _ (steady_pure _) (steady_fault_here fail kind))
 
   steady_faulted : {level : ℕ} (fail : Fail) (c : Cause) → Steady level (faulted p fail c)

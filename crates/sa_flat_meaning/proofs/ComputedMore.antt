@@ -2,6 +2,7 @@
 use Rattle.std.proofs.Common.{◌≡◌, ◌-◌, [], ◌∷◌, Some, None, refl}
 use Rattle.std.specs.Prelude.{take, codes}
 use Rattle.std.specs.Fmt.{digits}
+use Rattle.sa_tree.specs.declared.fault_kind.FaultKind.TheVariants as fault_kind
 use Rattle.sa_core.specs.declared.feature.Target.TheVariants as target
 use Rattle.sa_flat.specs.declared.program.FlatProgram.{FlatProgram}
 use Rattle.sa_meaning.specs.Value.{Void, Ref}
@@ -86,11 +87,11 @@ once_first_room = refl
 
 -- ---- faults
 
-catches_no_branch : end (sample.catching_stop 5) ≡ Ended (codes "1") 0
+catches_no_branch : end (sample.catching_stop fault_kind.NoBranch) ≡ Ended (codes "1") 0
 unfolding outcome resolve or_stuck within digits
 catches_no_branch = refl
 
-passes_no_room : end (sample.catching_stop 9) ≡ Stopped [] 9 here
+passes_no_room : end (sample.catching_stop fault_kind.NoRoom) ≡ Stopped [] 9 here
 unfolding outcome resolve or_stuck within digits
 passes_no_room = refl
 

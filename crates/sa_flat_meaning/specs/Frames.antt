@@ -1,5 +1,6 @@
 -- What a running flat program has at each moment, and how a body, a step and a run of steps end.
 use Rattle.std.specs.Prelude.{ℕ, List, Option}
+use Rattle.sa_tree.specs.declared.fault_kind.FaultKind.{FaultKind}
 use Rattle.sa_flat.specs.declared.call.Callee.{Callee}
 use Rattle.sa_meaning.specs.Value.{Value}
 use Rattle.sa_meaning.specs.Sequence.{Out}
@@ -65,10 +66,10 @@ pub data Ending : Type 0 where
   Returned : Option Value → Ending
   Suspended : Option Value → (frame : ℕ) → Ending
   Ended : Ending
-  -- the place is that of a position in the program's positions
+  -- the place of a position in the program's positions, and the number of a fault's kind
   Raised : (exception : Value) → (place kind : ℕ) → Ending
   -- a fault that is one of the step that entered the body
-  Handed : (kind : ℕ) → Ending
+  Handed : (kind : FaultKind) → Ending
 
 -- ---- where a step or an exit leads
 
@@ -82,9 +83,9 @@ pub data Way : Type 0 where
 
 pub data Cause : Type 0 where
   -- a fault of the step, for which no object is made yet
-  Faulted : (kind : ℕ) → Cause
+  Faulted : (kind : FaultKind) → Cause
   -- a fault that stops the program
-  Failed : (kind place : ℕ) → Cause
+  Failed : (kind : FaultKind) → (place : ℕ) → Cause
   InputFailed : Cause
 
 abbrev pub Outcome : Type 0 → Type 0

@@ -1,5 +1,7 @@
 -- That the numbers in steps and exits name something, and that lines and kinds of faults are such.
 use Rattle.std.specs.Prelude.{◌≡◌, ℕ, ◌+◌, ◌-◌, ◌<◌, ◌≤◌, List, length, slice_get, All, Some, IfSome}
+use Rattle.sa_tree.specs.declared.fault_kind.FaultKind.{FaultKind}
+use Rattle.sa_tree.specs.declared.fault_kind.FaultKind.TheVariants as fault_kind
 use Rattle.sa_flat.specs.declared.body.FlatBlock.{FlatBlock}
 use Rattle.sa_flat.specs.declared.body.FlatBody.{FlatBody}
 use Rattle.sa_flat.specs.declared.call.Callee.{Callee}
@@ -15,8 +17,9 @@ use Rattle.sa_flat.specs.declared.step.FlatConst.TheVariants as const
 use Rattle.sa_flat.specs.declared.step.FlatExit.{FlatExit}
 use Rattle.sa_flat.specs.declared.step.FlatExit.TheVariants.{Jump, Branch, Return, Suspend, Quit, Raise, Stop}
 use Rattle.sa_flat.specs.declared.step.FlatStep.{FlatStep}
-use Rattle.sa_flat.specs.declared.step.FlatStep.TheVariants.{Const, Move, Me, IsVoid, Turn, New, NewArray, PutItem, Widen, WidenFor, Unwrap, TypeIs, NotVoid, InitShared, Call, Bind, HasEntry, Start, Resume, HasFrame, Enter, Release, Raising}
-use Rattle.sa_meaning.specs.Steps.{no_branch, assertion}
+use Rattle.sa_flat.specs.declared.step.FlatStep.TheVariants.{Const, Move, Me, IsVoid, Turn, New, NewArray, PutItem, Widen}
+use Rattle.sa_flat.specs.declared.step.FlatStep.TheVariants.{WidenFor, Unwrap, TypeIs, NotVoid, InitShared, Call, Bind}
+use Rattle.sa_flat.specs.declared.step.FlatStep.TheVariants.{HasEntry, Start, Resume, HasFrame, Enter, Release, Raising}
 use Rattle.sa_meaning.specs.Builtin.{builtins}
 use Rattle.sa_flat_meaning.specs.Calls.{width}
 
@@ -73,6 +76,15 @@ module _ (b : FlatBody) where
   abbrev pub IsArgument : FlatArg → Type 0
   IsArgument a = IfSome a.var IsVariable
 
+-- ---- faults
+
+-- no branch fits, no value is returned, or what is asserted is false
+abbrev pub IsOfStatement : FaultKind → Type 0
+IsOfStatement fault_kind.NoBranch = Unit {0}
+IsOfStatement fault_kind.NoReturn = Unit {0}
+IsOfStatement fault_kind.Assert = Unit {0}
+IsOfStatement _ = ⊥
+
 -- ---- steps and exits
 
 module _ (p : FlatProgram) (rows : List (List ℕ)) (b : FlatBody) where
@@ -97,7 +109,8 @@ module _ (p : FlatProgram) (rows : List (List ℕ)) (b : FlatBody) where
   IsStep (NewArray to ty count fail) = IsVariable b to × IsType p ty × IsVariable b count × IsFail fail
   IsStep (PutItem array ty at value) = IsVariable b array × IsType p ty × IsVariable b at × IsVariable b value
   IsStep (Widen to from ty fail) = IsVariable b to × IsVariable b from × IsType p ty × IsFail fail
-  IsStep (WidenFor to from ty recv types fail) = IsVariable b to × IsVariable b from × IsType p ty × IsVariable b recv × All (IsType p) types × IsFail fail
+  IsStep (WidenFor to from ty recv types fail) =
+      IsVariable b to × IsVariable b from × IsType p ty × IsVariable b recv × All (IsType p) types × IsFail fail
   IsStep (Unwrap to from ty) = IsVariable b to × IsVariable b from × IsType p ty
   IsStep (TypeIs to from ty) = IsVariable b to × IsVariable b from × IsType p ty
   IsStep (NotVoid from fail) = IsVariable b from × IsFail fail
@@ -108,7 +121,8 @@ module _ (p : FlatProgram) (rows : List (List ℕ)) (b : FlatBody) where
   IsStep (Start site plan quit) = IsSite b site × IsPlan plan × IsVariable b quit
   IsStep (Resume site plan quit) = IsSite b site × IsPlan plan × IsVariable b quit
   IsStep (HasFrame to) = IsVariable b to
-  IsStep (Enter body recv args value quit) = CanEnter p body × IsVariable b recv × All (IsArgument b) args × IfSome value (IsVariable b) × IsVariable b quit
+  IsStep (Enter body recv args value quit) =
+      CanEnter p body × IsVariable b recv × All (IsArgument b) args × IfSome value (IsVariable b) × IsVariable b quit
   IsStep (Release sites) = All (IsSite b) sites
   IsStep (Raising value place to) = IsVariable b value × IsPlace p place × IsRaised b to
 
@@ -119,7 +133,7 @@ module _ (p : FlatProgram) (rows : List (List ℕ)) (b : FlatBody) where
   IsExit (Suspend value resume) = IfSome value (IsVariable b) × IfSome resume (IsBlock b)
   IsExit Quit = Unit {0}
   IsExit (Raise value place kind) = IsVariable b value × IsVariable b place × IsVariable b kind
-  IsExit (Stop kind fail) = (no_branch ≤ kind) × (kind ≤ assertion) × IsFail fail
+  IsExit (Stop kind fail) = IsOfStatement kind × IsFail fail
 
   abbrev pub IsWellBlock : FlatBlock → Type 0
   IsWellBlock block = All IsStep block.steps × IsExit block.exit

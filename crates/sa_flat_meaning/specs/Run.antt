@@ -4,13 +4,15 @@ use Rattle.sa_flat.specs.declared.body.FlatBlock.{FlatBlock}
 use Rattle.sa_flat.specs.declared.step.FlatStep.{FlatStep}
 use Rattle.sa_flat.specs.declared.program.FlatProgram.{FlatProgram}
 use Rattle.sa_tree.specs.declared.pos.Pos.{Pos}
+use Rattle.sa_tree.specs.Faults.{fault_number}
 use Rattle.sa_meaning.specs.Value.{Void}
 use Rattle.sa_meaning.specs.Program.{void_of}
 use Rattle.sa_meaning.specs.Sequence.{◌>>=◌, ◌>>◌, pure, at_place, Gives, Stops, Exhausts, Sticks, stuck, last_state}
 use Rattle.sa_meaning.specs.State as language
 use Rattle.sa_meaning.specs.Run as whole
 use Rattle.sa_meaning.specs.Run.{End, status_of}
-use Rattle.sa_flat_meaning.specs.Frames.{Activation, State, Ending, Returned, Raised, Way, Onward, To, Leaving, Failed, InputFailed, Outcome}
+use Rattle.sa_flat_meaning.specs.Frames.{Activation, State, Ending, Returned, Raised, Way}
+use Rattle.sa_flat_meaning.specs.Frames.{Onward, To, Leaving, Failed, InputFailed, Outcome}
 use Rattle.sa_flat_meaning.specs.Order.{Eval, count, types_of, this}
 use Rattle.sa_flat_meaning.specs.Calls.{first_variables, run_body, routine}
 use Rattle.sa_flat_meaning.specs.Steps.{step}
@@ -101,7 +103,7 @@ abbrev pub end_of : FlatProgram → Outcome Ending → End
 end_of p (Gives (Returned v) s) = whole.Ended s.world.output (status_of (unwrap_or v Void))
 end_of p (Gives (Raised v place kind) s) = stopped s.world.output kind (slice_get p.sites place)
 end_of p (Gives _ s) = whole.Stuck
-end_of p (Stops (Failed kind place) s) = stopped s.world.output kind (slice_get p.sites place)
+end_of p (Stops (Failed kind place) s) = stopped s.world.output (fault_number kind) (slice_get p.sites place)
 end_of p (Stops InputFailed s) = whole.InFault s.world.output
 end_of p (Stops _ s) = whole.Stuck
 end_of p (Exhausts s) = whole.Spent s.world.output

@@ -1,15 +1,19 @@
 -- What each step does.
 use Rattle.std.specs.Prelude.{ℕ, Bool, false, ◌&&◌, ◌||◌, ◌==◌, if◌then◌else◌, List, length, set, find, Option, is_some}
 use Rattle.std.specs.Option.{option_map_or}
+use Rattle.sa_tree.specs.declared.fault_kind.FaultKind.TheVariants as fault_kind
+use Rattle.sa_tree.specs.Faults.{fault_number}
 use Rattle.sa_flat.specs.declared.step.FlatConst.{FlatConst}
 use Rattle.sa_flat.specs.declared.step.FlatConst.TheVariants as const
 use Rattle.sa_flat.specs.declared.step.FlatStep.{FlatStep}
-use Rattle.sa_flat.specs.declared.step.FlatStep.TheVariants.{Const, Move, Me, IsVoid, Turn, New, NewArray, PutItem, Widen, WidenFor, Unwrap, TypeIs, NotVoid, InitShared, Call, Bind, HasEntry, Start, Resume, HasFrame, Enter, Release, Raising}
+use Rattle.sa_flat.specs.declared.step.FlatStep.TheVariants.{Const, Move, Me, IsVoid, Turn, New, NewArray, PutItem, Widen}
+use Rattle.sa_flat.specs.declared.step.FlatStep.TheVariants.{WidenFor, Unwrap, TypeIs, NotVoid, InitShared, Call, Bind}
+use Rattle.sa_flat.specs.declared.step.FlatStep.TheVariants.{HasEntry, Start, Resume, HasFrame, Enter, Release, Raising}
 use Rattle.sa_flat.specs.declared.program.FlatProgram.{FlatProgram}
 use Rattle.sa_meaning.specs.Value.{Value, Int, Truth, Char, Text, Wide, is_void, is_nothing, as_int, as_object, unwrapped}
 use Rattle.sa_meaning.specs.Program.{void_of}
 use Rattle.sa_meaning.specs.Sequence.{◌>>=◌, ◌>>◌, pure, stop, or_stuck, at_place, stuck}
-use Rattle.sa_meaning.specs.Steps.{uncaught, void, object_at, set_object}
+use Rattle.sa_meaning.specs.Steps.{object_at, set_object}
 use Rattle.sa_meaning.specs.Builtin.{new_array, place_of, is_place}
 use Rattle.sa_meaning.specs.Calls.{dynamic_type, widened_from, widened_if, is_raw, set_shared}
 use Rattle.sa_meaning.specs.Evaluation.{new_object}
@@ -73,7 +77,8 @@ module _ (p : FlatProgram) where
 
   -- what a bind keeps of a value: it is widened where the class of the receiver is one of the types
   abbrev pub kept_as : Value → List ℕ → Option ℕ → Eval Value
-  kept_as v types dynamic = within (widened_if (types_of p) nowhere (option_map_or (λ class. is_some (find (λ ty. ty == class) types)) dynamic false) v)
+  kept_as v types dynamic =
+      within (widened_if (types_of p) nowhere (option_map_or (λ class. is_some (find (λ ty. ty == class) types)) dynamic false) v)
 
   abbrev pub kept_for : ℕ → ℕ → ℕ → List ℕ → Eval Value
   kept_for from ty recv types = do
@@ -90,10 +95,12 @@ put_item array ty at value = do
   number ← or_stuck (as_object a)
   place ← or_stuck (as_int i)
   o ← within (object_at number)
-  if o.ty == ty && is_place place (length o.elements) then within (set_object number (record o { elements = set o.elements (place_of place) v })) else stuck
+  if o.ty == ty && is_place place (length o.elements)
+      then within (set_object number (record o { elements = set o.elements (place_of place) v }))
+      else stuck
 
 abbrev pub not_void : Value → Eval Way
-not_void v = if is_nothing v then stop (Faulted void) else if_abstract v (pure Onward)
+not_void v = if is_nothing v then stop (Faulted fault_kind.Void) else if_abstract v (pure Onward)
 
 -- From a block and a place in it on, `go` runs a body.
 module _ (p : FlatProgram) (rows : List (List ℕ)) (go : ℕ → ℕ → Eval Ending) where
@@ -124,5 +131,5 @@ module _ (p : FlatProgram) (rows : List (List ℕ)) (go : ℕ → ℕ → Eval E
     v ← read value
     write to.value v
     write_number to.place place
-    write_number to.kind uncaught
+    write_number to.kind (fault_number fault_kind.Uncaught)
     pure Onward

@@ -5,6 +5,7 @@
 mod arguments;
 mod features;
 mod giving;
+mod lines;
 mod own_body;
 mod own_iter;
 mod passing;

@@ -1,6 +1,7 @@
 //! A whole typed program as a flat one.
 
 use crate::features::feature_bodies;
+use crate::lines::line_numbers;
 use crate::run::run_body;
 use crate::signatures::type_numbers;
 use crate::targets::targets;
@@ -12,17 +13,19 @@ use sa_tree::{Name, NoMemory, Pos};
 use sqlite_items::Items;
 use std::alloc::Global;
 
-/// The flat program of a typed one, which has these positions and a line for each of them.
+/// The flat program of a typed one, which has these positions.
 ///
 /// # Errors
 ///
-/// `NoMemory`, also where a number of the typed program is out of range, or an iter call stands outside loops.
+/// `NoMemory`, also where a number of the typed program is out of range, a position is in none of its texts, or an iter call stands
+/// outside loops.
 pub fn lower(alloc: Global, core: &Core, positions: Items<Pos>) -> Result<FlatProgram, NoMemory> {
     let mut program = empty(alloc, positions);
     add_tables(alloc, core, &mut program)?;
     let types = type_numbers(alloc, core.types.as_slice())?;
     let positions = program.sites.as_slice();
-    let tables = Tables::new(alloc, positions, core.lines.as_slice(), types)?;
+    let lines = line_numbers(alloc, core.feeds.as_slice(), positions)?;
+    let tables = Tables::new(alloc, positions, lines.as_slice(), types)?;
     let mut draft = Draft::new(alloc, tables);
     add_bodies(alloc, core, &mut draft, &mut program)?;
     let Draft { tables, .. } = draft;

@@ -3,31 +3,11 @@
 use crate::around::Around;
 use crate::looping::returned;
 use crate::value::value_of;
-use sa_core::ExprCore;
+use sa_core::{ExprCore, LoopExit};
 use sa_flat::{FlatExit, FlatStep};
 use sa_lower_draft::{Draft, OpenBody};
-use sa_tree::{NoMemory, Pos, held};
+use sa_tree::{FaultKind, NoMemory, Pos};
 use std::alloc::Global;
-
-/// When a statement leaves the innermost loop.
-#[derive(Clone, Copy, Debug, PartialEq, Eq)]
-enum Leaving {
-    /// Always: `break!`.
-    Always,
-    /// Where the test is false: `while!`.
-    WhereFalse,
-    /// Where the test is true: `until!`.
-    WhereTrue,
-}
-
-/// When the statement of the form with this number leaves the loop.
-fn leaving_of(number: u8) -> Leaving {
-    match number {
-        0 => Leaving::Always,
-        1 => Leaving::WhereFalse,
-        _ => Leaving::WhereTrue,
-    }
-}
 
 /// `return`, which first ends the instances of the loops around it.
 pub(crate) fn leave_body(
@@ -69,49 +49,37 @@ pub(crate) fn raise(
     draft.body.leave(alloc, FlatExit::Jump(raised.block))
 }
 
-/// A fault by its number.
+/// A fault.
 pub(crate) fn stop(
     alloc: Global,
     around: &Around<'_>,
     draft: &mut Draft,
-    kind: u8,
+    kind: FaultKind,
     pos: Pos,
 ) -> Result<(), NoMemory> {
     let fail = draft.tables.fail(pos, around.inside.raised)?;
     draft.body.leave(alloc, FlatExit::Stop { kind, fail })
 }
 
-/// Leaves the innermost loop, by the number of the statement's form: always, or by a test.
+/// Leaves the innermost loop: always, or by a test.
 pub(crate) fn leave_loop(
     alloc: Global,
     around: &Around<'_>,
     draft: &mut Draft,
-    number: u8,
-    test: &Option<ExprCore>,
+    exit: &LoopExit,
 ) -> Result<(), NoMemory> {
     let after = around.inside.after()?;
-    match leaving_of(number) {
-        Leaving::Always => draft.body.leave(alloc, FlatExit::Jump(after)),
-        Leaving::WhereFalse => {
-            let test = tested(alloc, around, draft, test)?;
+    match exit {
+        LoopExit::Break => draft.body.leave(alloc, FlatExit::Jump(after)),
+        LoopExit::While(test) => {
+            let test = value_of(alloc, around, draft, test)?;
             go_on_where_true(alloc, &mut draft.body, test, after)
         }
-        Leaving::WhereTrue => {
-            let test = tested(alloc, around, draft, test)?;
+        LoopExit::Until(test) => {
+            let test = value_of(alloc, around, draft, test)?;
             go_on_where_false(alloc, &mut draft.body, test, after)
         }
     }
-}
-
-/// The variable that holds the value of a test.
-fn tested(
-    alloc: Global,
-    around: &Around<'_>,
-    draft: &mut Draft,
-    test: &Option<ExprCore>,
-) -> Result<u32, NoMemory> {
-    let test = held(test.as_ref())?;
-    value_of(alloc, around, draft, test)
 }
 
 /// Goes on in a new block where the test is true, else in the block `after`.

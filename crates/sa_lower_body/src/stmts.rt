@@ -113,7 +113,7 @@ fn without_stmts(
     match s {
         StmtCore::Let(var, e) => assign(alloc, around, draft, *var, e),
         StmtCore::Do(e) => perform(alloc, around, draft, e),
-        StmtCore::Leave(kind, test) => leave_loop(alloc, around, draft, *kind, test),
+        StmtCore::Leave(exit) => leave_loop(alloc, around, draft, exit),
         StmtCore::Return(e) => leave_body(alloc, around, draft, e),
         StmtCore::Raise(e, pos) => raise(alloc, around, draft, e, *pos),
         StmtCore::Yield(e) => yield_value(alloc, around, draft, e),

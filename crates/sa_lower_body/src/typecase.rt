@@ -123,7 +123,7 @@ pub(crate) fn no_arm_fits(
 ) -> Result<(), NoMemory> {
     let fail = draft.tables.fail(pos, around.inside.raised)?;
     let exit = FlatExit::Stop {
-        kind: FaultKind::NoBranch.number(),
+        kind: FaultKind::NoBranch,
         fail,
     };
     draft.body.end(alloc, exit, after)

@@ -3,6 +3,7 @@
 -- and routine. Each loop that it leaves ends the instances of the running feature's sites: so the steps also keep the number
 -- of that feature.
 use Rattle.std.proofs.Common.{◌≡◌, ℕ, zero, suc, Bool, true, false, if◌then◌else◌, List, Option, Some, None, refl, sym, subst}
+use Rattle.sa_tree.specs.declared.fault_kind.FaultKind.{FaultKind}
 use Rattle.sa_tree.specs.declared.pos.Pos.{Pos}
 use Rattle.sa_meaning.specs.Value.{Value}
 use Rattle.sa_meaning.specs.Sequence.{resolved, resolve, ◌>>=◌, ◌>>◌, stop, pure, look, change, or_stuck, Gives, Stops, Exhausts, Sticks, stuck, with_place}
@@ -37,10 +38,10 @@ Fits feature a = (a.feature ≡ feature) × SitesUnguarded a.sites
 
 pub data Halts (feature : Option ℕ) : Cause → State → Cause → State → Type 0 where
   both_broke : (s : State) → Fits feature s.here → Halts feature Broke s Broke s
-  both_raised : (v : Value) (kind : ℕ) (at : Pos) (s : State) → Fits feature s.here → Halts feature (Raised v kind at) s (Raised v kind at) s
+  both_raised : (v : Value) (kind : FaultKind) (at : Pos) (s : State) → Fits feature s.here → Halts feature (Raised v kind at) s (Raised v kind at) s
   -- from here on the states are no longer the same
-  parted : (v : Value) (kind : ℕ) (at : Pos) (s t : State) → Fits feature s.here → s.output ≡ t.output → Halts feature (Raised v kind at) s (Failed kind at) t
-  both_failed : (kind : ℕ) (at : Pos) (s : State) → Halts feature (Failed kind at) s (Failed kind at) s
+  parted : (v : Value) (kind : FaultKind) (at : Pos) (s t : State) → Fits feature s.here → s.output ≡ t.output → Halts feature (Raised v kind at) s (Failed kind at) t
+  both_failed : (kind : FaultKind) (at : Pos) (s : State) → Halts feature (Failed kind at) s (Failed kind at) s
   both_in_fault : (s : State) → Halts feature InputFailed s InputFailed s
 
 -- with a value of which P is known

@@ -3,13 +3,14 @@ use Rattle.std.proofs.Common.{ℕ, ◌++◌, ◌∷◌, List, [], ℤ, Option, m
 use Rattle.std.specs.Prelude.{◌+ℤ◌, ◌-ℤ◌, ◌*ℤ◌, neg_ℤ, int_div, int_rem, replicate}
 use Rattle.std.specs.Fmt.{signed_decimal}
 use Rattle.std.specs.Option.{option_map_or}
+use Rattle.sa_tree.specs.declared.fault_kind.FaultKind.TheVariants as fault_kind
 use Rattle.sa_tree.specs.declared.pos.Pos.{Pos}
 use Rattle.sa_prelude.specs.declared.feature.BuiltinFeature.{BuiltinFeature}
 use Rattle.sa_prelude.specs.declared.feature.BuiltinFeature.TheVariants.{BoolIsEq, BoolNot, IntPlus, IntMinus, IntTimes, IntNegate, IntDiv, IntMod, IntIsEq, IntIsLt, IntBand, IntBor, IntBxor, IntStr, IntChar, CharIsEq, CharIsLt, CharInt, CharStr, StrSize, StrAget, StrCat, StrSubstring, StrOf, OutPut, OutPutInt, OutPutChar, InGetByte, SysObEq, ArefAsize, ArefAget, ArefAset, ArrayCreate}
 use Rattle.sa_meaning.specs.Sequence.{◌>>=◌, or_stuck}
 use Rattle.sa_meaning.specs.Value.{Value, Void, is_zero}
 use Rattle.sa_meaning.specs.Program.{Program, before}
-use Rattle.sa_meaning.specs.Steps.{Eval, plain, overflow, division_by_zero, void, index}
+use Rattle.sa_meaning.specs.Steps.{Eval, plain}
 use Rattle.sa_meaning.specs.Builtin.{place_of, elements_of, new_array, whole, divided, long_text, byte_at, part, text_of, element_at, set_element, unless_void, builtin, builtin_call}
 use Rattle.sa_meaning.proofs.Agree.{Agree, agree_then, agree_before, agree_if, agree_pure, agree_or_stuck, agree_stuck}
 use Rattle.sa_meaning.proofs.AgreeSteps.{same_void, agree_spend, agree_charge, agree_add_same, agree_object_at, agree_set_object, agree_fault, agree_new_text, agree_put_byte, agree_put_bytes, agree_put_text, agree_get_byte}
@@ -19,7 +20,7 @@ agree_elements_of v = agree_if _ (agree_pure _) (agree_then (agree_or_stuck _) (
 
 pub agree_new_array : {feature : Option ℕ} (p : Program) (ty : ℕ) (at : Pos) (count : ℤ) → Agree feature (new_array p ty at count) (new_array (before p) ty at count)
 agree_new_array p ty at count =
-    agree_if _ (agree_fault Value p index at) (agree_then (agree_or_stuck _) (λ t. agree_before (agree_charge at _)
+    agree_if _ (agree_fault Value p fault_kind.Index at) (agree_then (agree_or_stuck _) (λ t. agree_before (agree_charge at _)
     (agree_then (agree_add_same _ _ (ap (λ voids. plain ty (map voids t.attrs) (replicate (place_of count) (option_map_or voids t.elem Void))) (same_void p))) (λ number. agree_pure _))))
 
 agree_with : {feature : Option ℕ} {A B : Type 0} (o : Option A) {f g : A → Eval B} → ((a : A) → Agree feature (f a) (g a)) → Agree feature (or_stuck o >>= f) (or_stuck o >>= g)
@@ -30,32 +31,32 @@ agree_with_both o q e = agree_then (agree_or_stuck o) (λ a. agree_then (agree_o
 
 module _ (p : Program) (class : Option ℕ) (at : Pos) (self : Value) (arguments : List Value) where
   agree_whole : {feature : Option ℕ} (z : ℤ) → Agree feature (whole p class at self arguments z) (whole (before p) class at self arguments z)
-  agree_whole z = agree_if _ (agree_pure _) (agree_fault Value p overflow at)
+  agree_whole z = agree_if _ (agree_pure _) (agree_fault Value p fault_kind.Overflow at)
 
   agree_divided : {feature : Option ℕ} (f : ℤ → ℤ → ℤ) (a b : ℤ) → Agree feature (divided p class at self arguments f a b) (divided (before p) class at self arguments f a b)
-  agree_divided f a b = agree_if (is_zero b) (agree_fault Value p division_by_zero at) (agree_whole (f a b))
+  agree_divided f a b = agree_if (is_zero b) (agree_fault Value p fault_kind.DivisionByZero at) (agree_whole (f a b))
 
   agree_long_text : {feature : Option ℕ} (bytes : List ℕ) → Agree feature (long_text p class at self arguments bytes) (long_text (before p) class at self arguments bytes)
   agree_long_text bytes = agree_before (agree_spend _) (agree_new_text at bytes)
 
   agree_byte_at : {feature : Option ℕ} (bytes : List ℕ) (i : ℤ) → Agree feature (byte_at p class at self arguments bytes i) (byte_at (before p) class at self arguments bytes i)
-  agree_byte_at bytes i = agree_if _ (agree_then (agree_or_stuck _) (λ byte. agree_pure _)) (agree_fault Value p index at)
+  agree_byte_at bytes i = agree_if _ (agree_then (agree_or_stuck _) (λ byte. agree_pure _)) (agree_fault Value p fault_kind.Index at)
 
   agree_part : {feature : Option ℕ} (bytes : List ℕ) (i n : ℤ) → Agree feature (part p class at self arguments bytes i n) (part (before p) class at self arguments bytes i n)
-  agree_part bytes i n = agree_if _ (agree_long_text _) (agree_fault Value p index at)
+  agree_part bytes i n = agree_if _ (agree_long_text _) (agree_fault Value p fault_kind.Index at)
 
   agree_text_of : {feature : Option ℕ} (elements : List Value) (n : ℤ) → Agree feature (text_of p class at self arguments elements n) (text_of (before p) class at self arguments elements n)
-  agree_text_of elements n = agree_if _ (agree_then (agree_or_stuck _) agree_long_text) (agree_fault Value p index at)
+  agree_text_of elements n = agree_if _ (agree_then (agree_or_stuck _) agree_long_text) (agree_fault Value p fault_kind.Index at)
 
   agree_element_at : {feature : Option ℕ} (i : ℤ) → Agree feature (element_at p class at self arguments i) (element_at (before p) class at self arguments i)
-  agree_element_at i = agree_then (agree_or_stuck _) (λ number. agree_then (agree_object_at number) (λ o. agree_if _ (agree_or_stuck _) (agree_fault Value p index at)))
+  agree_element_at i = agree_then (agree_or_stuck _) (λ number. agree_then (agree_object_at number) (λ o. agree_if _ (agree_or_stuck _) (agree_fault Value p fault_kind.Index at)))
 
   agree_set_element : {feature : Option ℕ} (i : ℤ) (v : Value) → Agree feature (set_element p class at self arguments i v) (set_element (before p) class at self arguments i v)
   agree_set_element i v =
-      agree_then (agree_or_stuck _) (λ number. agree_then (agree_object_at number) (λ o. agree_if _ (agree_before (agree_set_object number _) (agree_pure _)) (agree_fault Value p index at)))
+      agree_then (agree_or_stuck _) (λ number. agree_then (agree_object_at number) (λ o. agree_if _ (agree_before (agree_set_object number _) (agree_pure _)) (agree_fault Value p fault_kind.Index at)))
 
   agree_unless_void : {feature : Option ℕ} (f g : Eval Value) → Agree feature f g → Agree feature (unless_void p class at self arguments f) (unless_void (before p) class at self arguments g)
-  agree_unless_void f g e = agree_if _ (agree_fault Value p void at) e
+  agree_unless_void f g e = agree_if _ (agree_fault Value p fault_kind.Void at) e
 
   agree_builtin : {feature : Option ℕ} (b : BuiltinFeature) → Agree feature (builtin p class at self arguments b) (builtin (before p) class at self arguments b)
   agree_builtin BoolIsEq = agree_with_both _ _ (λ a b. agree_pure _)
@@ -72,7 +73,7 @@ module _ (p : Program) (class : Option ℕ) (at : Pos) (self : Value) (arguments
   agree_builtin IntBor = agree_with_both _ _ (λ a b. agree_pure _)
   agree_builtin IntBxor = agree_with_both _ _ (λ a b. agree_pure _)
   agree_builtin IntStr = agree_with _ (λ a. agree_new_text at (signed_decimal a))
-  agree_builtin IntChar = agree_with _ (λ a. agree_if _ (agree_pure _) (agree_fault Value p overflow at))
+  agree_builtin IntChar = agree_with _ (λ a. agree_if _ (agree_pure _) (agree_fault Value p fault_kind.Overflow at))
   agree_builtin CharIsEq = agree_with_both _ _ (λ a b. agree_pure _)
   agree_builtin CharIsLt = agree_with_both _ _ (λ a b. agree_pure _)
   agree_builtin CharInt = agree_with _ (λ a. agree_pure _)

@@ -2,6 +2,7 @@
 use Rattle.std.proofs.Common.{◌≡◌, ℕ, Bool, true, false, if◌then◌else◌, List, [], ◌∷◌, map, Option, Some, None, refl, sym, ap, subst, ◌∙◌}
 use Rattle.std.proofs.lemmas.Option.{get_or_from_slice_get, slice_get_within}
 use Rattle.std.specs.Prelude.{◌==◌, nat_lt, slice_get}
+use Rattle.sa_tree.specs.declared.fault_kind.FaultKind.TheVariants as fault_kind
 use Rattle.sa_tree.specs.declared.pos.Pos.{Pos}
 use Rattle.sa_core.specs.declared.feature.CalledCore.{CalledCore}
 use Rattle.sa_core.specs.declared.feature.CalledCore.TheVariants as called
@@ -17,7 +18,7 @@ use Rattle.sa_meaning.specs.Program.{Program, Feature, before}
 use Rattle.sa_meaning.specs.Protects.{AreUnguarded, HasNoProtect}
 use Rattle.sa_meaning.specs.Sequence.{◌>>=◌, resolve, resolved, change, stop, at_place, or_stuck, Gives}
 use Rattle.sa_meaning.specs.State.{Residue, all_of, Sites, Empty, Entry, Instance, Activation, State, Broke, Flow, Done, Yielding, Returning, Quitting}
-use Rattle.sa_meaning.specs.Steps.{Eval, void}
+use Rattle.sa_meaning.specs.Steps.{Eval}
 use Rattle.sa_meaning.specs.Builtin.{builtins}
 use Rattle.sa_meaning.specs.Calls.{dynamic_type, widen, widened, widened_if, widened_from, widened_where, wide_builtin, wide_arguments, wide_once, widened_for, widened_back, Callee, Handed, dispatched_to, dispatched, bound_to, callee, handed, bring_back, copied_back, brought, attribute, set_attribute, shared, set_shared, filled, returned, raised_out, entered, routine, with_no_variables, reached, call}
 use Rattle.sa_meaning.specs.Instances.{found, kept, without, added, set_anew, ended, this_feature, clear_loop, end_loop, Station, suspended, raised_through, run_instance, add_instance, begun, start_of, start, continued, resume}
@@ -83,7 +84,7 @@ module _ (p : Program) (at : Pos) where
 
   agree_dispatched : {feature : Option ℕ} (k : ℕ) (v : Value) → Agree feature (dispatched p at k v) (dispatched (before p) at k v)
   agree_dispatched k v =
-      agree_if _ (agree_fault Callee p void at) (agree_then (agree_or_stuck _) (λ signature. agree_then (agree_dynamic_type v) (λ ty. agree_dispatched_to _ v ty)))
+      agree_if _ (agree_fault Callee p fault_kind.Void at) (agree_then (agree_or_stuck _) (λ signature. agree_then (agree_dynamic_type v) (λ ty. agree_dispatched_to _ v ty)))
 
   agree_bound_to : {feature : Option ℕ} (object : ℕ) → Agree feature (bound_to p at object) (bound_to (before p) at object)
   agree_bound_to object = agree_then (agree_object_at object) (λ o. agree_then (agree_or_stuck _) (λ b. agree_then (agree_or_stuck _) (λ receiver. agree_pure _)))
@@ -91,7 +92,7 @@ module _ (p : Program) (at : Pos) where
   pub agree_callee : {feature : Option ℕ} (called : CalledCore) (v : Value) → Agree feature (callee p at called v) (callee (before p) at called v)
   agree_callee (called.Static target class) v = agree_pure _
   agree_callee (called.Dispatch k) v = agree_dispatched k v
-  agree_callee called.Bound v = agree_if _ (agree_fault Callee p void at) (agree_then (agree_or_stuck _) agree_bound_to)
+  agree_callee called.Bound v = agree_if _ (agree_fault Callee p fault_kind.Void at) (agree_then (agree_or_stuck _) agree_bound_to)
 
   agree_widened_for : {feature : Option ℕ} (c : Callee) (given : List (Option Value)) → Agree feature (widened_for p at c given) (widened_for (before p) at c given)
   agree_widened_for c given =
@@ -133,7 +134,7 @@ module _ (p : Program) (at : Pos) where
   agree_attribute : {feature : Option ℕ} (a : ℕ) (self : Value) → Agree feature (attribute p at a self) (attribute (before p) at a self)
   agree_attribute a (Imm ty _) = agree_or_stuck _
   agree_attribute a (Ref number) = agree_then (agree_object_at number) (λ o. agree_or_stuck _)
-  agree_attribute a Void = agree_fault Value p void at
+  agree_attribute a Void = agree_fault Value p fault_kind.Void at
   agree_attribute a (Int z) = agree_stuck
   agree_attribute a (Truth b) = agree_stuck
   agree_attribute a (Char byte) = agree_stuck
@@ -144,7 +145,7 @@ module _ (p : Program) (at : Pos) where
   agree_set_attribute : {feature : Option ℕ} (a : ℕ) (v self : Value) → Agree feature (set_attribute p at a v self) (set_attribute (before p) at a v self)
   agree_set_attribute a v (Imm ty _) = agree_then (agree_with_place _ _ _) (λ changed. agree_before (agree_charge at _) (agree_pure _))
   agree_set_attribute a v (Ref number) = agree_then (agree_object_at number) (λ o. agree_then (agree_with_place _ _ _) (λ changed. agree_before (agree_set_object number _) (agree_pure _)))
-  agree_set_attribute a v Void = agree_fault Value p void at
+  agree_set_attribute a v Void = agree_fault Value p fault_kind.Void at
   agree_set_attribute a v (Int z) = agree_stuck
   agree_set_attribute a v (Truth b) = agree_stuck
   agree_set_attribute a v (Char byte) = agree_stuck

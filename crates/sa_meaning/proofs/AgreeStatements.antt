@@ -1,23 +1,24 @@
 -- Expressions and statements in which no protect stands agree.
 use Rattle.std.proofs.Common.{◌≡◌, ℕ, zero, suc, Bool, List, [], map, Option, Some, None, sym, ap, subst}
 use Rattle.std.specs.Prelude.{slice_get}
+use Rattle.sa_tree.specs.declared.fault_kind.FaultKind.TheVariants as fault_kind
 use Rattle.sa_tree.specs.declared.pos.Pos.{Pos}
 use Rattle.sa_tree.specs.declared.ty.Mode.{Mode}
 use Rattle.sa_core.specs.declared.feature.CalledCore.{CalledCore}
 use Rattle.sa_core.specs.declared.feature.CalledCore.TheVariants as called
 use Rattle.sa_core.specs.Tree as tree
 use Rattle.sa_core.specs.Tree.{Expr, VoidOf, Me, Var, Exception, IsVoid, New, NewArray, Elements, Call, IterCall, Bind, Swapped, And, Or, Widen, Exprs, no_exprs, expr, Arg, Variable, Left, Args, no_args, arg}
-use Rattle.sa_core.specs.Tree.{Stmt, Let, Do, If, Loop, Leave, TypeCase, Protect, Return, Yield, Quit, Raise, Stop, Stmts, no_stmts, stmt, Tests, no_tests, branch, Arms, no_arms, arm, Else, no_else, otherwise}
+use Rattle.sa_core.specs.Tree.{Exit, Break, While, Until, Stmt, Let, Do, If, Loop, Leave, TypeCase, Protect, Return, Yield, Quit, Raise, Stop, Stmts, no_stmts, stmt, Tests, no_tests, branch, Arms, no_arms, arm, Else, no_else, otherwise}
 use Rattle.sa_meaning.specs.Value.{Value}
 use Rattle.sa_meaning.specs.Program.{Program, Feature, before, void_of}
 use Rattle.sa_meaning.specs.Protects.{IsUnguarded, AreUnguarded, TestsUnguarded, ArmsUnguarded, ElseUnguarded, HasNoProtect}
 use Rattle.sa_meaning.specs.Sequence.{resolved, resolve, pure, stop, Stops}
 use Rattle.sa_meaning.specs.State.{Residue, Over, Next, Rest, joined, Sites, Instance, Raised, Failed, Flow, Done, Yielding, Returning, Quitting}
-use Rattle.sa_meaning.specs.Steps.{Eval, plain, void, no_branch}
+use Rattle.sa_meaning.specs.Steps.{Eval, plain}
 use Rattle.sa_meaning.specs.Calls.{Callee}
 use Rattle.sa_meaning.specs.Instances.{Station}
 use Rattle.sa_meaning.specs.Evaluation.{new_object, array_of, bound_value, kept_values, bound, station, this_site, iter_call, evaluate, evaluate_all, evaluate_args, evaluate_arg, evaluate_tests}
-use Rattle.sa_meaning.specs.Statements.{after_statement, followed, is_left, takes, raised, round, after_round, out_of_round, value_of, test_of, execute, execute_all, execute_first, execute_case, execute_else, left, run_to}
+use Rattle.sa_meaning.specs.Statements.{after_statement, followed, while_true, until_true, takes, raised, round, after_round, out_of_round, value_of, test_of, leave_loop, execute, execute_all, execute_first, execute_case, execute_else, left, run_to}
 use Rattle.sa_meaning.proofs.Agree.{RestUnguarded, FoundUnguarded, FlowUnguarded, Fits, both_broke, both_raised, parted, both_failed, both_in_fault, Meet, halt, exhaust, AgreeIn, agree, Agree, Passes, meets, agree_resolve, agree_knowing, agree_then, agree_before, agree_looking, agree_if, agree_turn, agree_pure_that, agree_pure, agree_stop, agree_stuck, agree_look, agree_or_stuck}
 use Rattle.sa_meaning.proofs.AgreeSteps.{same_void, agree_charge, agree_add_object, agree_add_same, agree_fault, agree_read, agree_write}
 use Rattle.sa_meaning.proofs.AgreeBuiltin.{agree_new_array}
@@ -67,13 +68,14 @@ agree_followed {k = k} {h = h} {i = i} rest u a b = agree_knowing a after
     after (Returning v) w = agree_pure_that _ tt
     after Quitting w = agree_pure_that _ tt
 
-agree_is_left : {k : ℕ} (kind : ℕ) (b : Bool) → AgreeFlow k (is_left kind b) (is_left kind b)
-agree_is_left zero b = agree_stop _
-agree_is_left (suc zero) b = agree_if b (agree_pure_that _ tt) (agree_stop _)
-agree_is_left (suc (suc n)) b = agree_if b (agree_stop _) (agree_pure_that _ tt)
+agree_while_true : {k : ℕ} (b : Bool) → AgreeFlow k (while_true b) (while_true b)
+agree_while_true b = agree_if b (agree_pure_that _ tt) (agree_stop _)
+
+agree_until_true : {k : ℕ} (b : Bool) → AgreeFlow k (until_true b) (until_true b)
+agree_until_true b = agree_if b (agree_stop _) (agree_pure_that _ tt)
 
 agree_raised : {k : ℕ} (p : Program) (at : Pos) (v : Value) → AgreeFlow k (raised p at v) (raised (before p) at v)
-agree_raised p at v = agree_if _ (agree_fault Flow p void at) (agree_stop _)
+agree_raised p at v = agree_if _ (agree_fault Flow p fault_kind.Void at) (agree_stop _)
 
 -- ---- expressions
 
@@ -143,9 +145,8 @@ module _ (p : Program) (none : HasNoProtect p) (go to : Residue → Eval Flow) (
   agree_value_of None = agree_pure _
   agree_value_of (Some e) = agree_evaluate e
 
-  agree_test_of : {feature : Option ℕ} (e : Option Expr) → Agree feature (test_of p go e) (test_of (before p) to e)
-  agree_test_of None = agree_pure _
-  agree_test_of (Some e) = agree_then (agree_evaluate e) (λ v. agree_or_stuck _)
+  agree_test_of : {feature : Option ℕ} (e : Expr) → Agree feature (test_of p go e) (test_of (before p) to e)
+  agree_test_of e = agree_then (agree_evaluate e) (λ v. agree_or_stuck _)
 
   -- ---- rounds of loops, and statements, in the feature k of the program
 
@@ -169,15 +170,20 @@ module _ (p : Program) (none : HasNoProtect p) (go to : Residue → Eval Flow) (
     passes_out_of_round loop c d s t (both_failed kind at u) = halt _ _ _ _ (both_failed kind at u)
     passes_out_of_round loop c d s t (both_in_fault u) = halt _ _ _ _ (both_in_fault u)
 
+    agree_leave_loop : (exit : Exit) → AgreeFlow k (leave_loop p go exit) (leave_loop (before p) to exit)
+    agree_leave_loop Break = agree_stop _
+    agree_leave_loop (While test) = agree_then (agree_test_of test) (λ b. agree_while_true b)
+    agree_leave_loop (Until test) = agree_then (agree_test_of test) (λ b. agree_until_true b)
+
     mutual
       agree_execute : (a : Stmt) → IsUnguarded a → AgreeFlow k (execute p go a) (execute (before p) to a)
       agree_execute (Let var e) u = agree_before (agree_then (agree_evaluate e) (λ v. agree_write var v)) (agree_pure_that _ tt)
       agree_execute (Do e) u = agree_before (agree_evaluate e) (agree_pure_that _ tt)
       agree_execute (If tests other) u = agree_execute_first tests u.0 (agree_execute_all other u.1)
       agree_execute (Loop loop body) u = agree_before (agree_clear_loop p loop) (agree_round loop body u)
-      agree_execute (Leave kind test) u = agree_then (agree_test_of test) (agree_is_left kind)
+      agree_execute (Leave exit) u = agree_leave_loop exit
       agree_execute (TypeCase var arms other at) u =
-          agree_then (agree_read var) (λ v. agree_then (agree_dynamic_type v) (λ dynamic. agree_execute_case v dynamic arms u.0 (agree_execute_else other u.1 (agree_fault Flow p no_branch at))))
+          agree_then (agree_read var) (λ v. agree_then (agree_dynamic_type v) (λ dynamic. agree_execute_case v dynamic arms u.0 (agree_execute_else other u.1 (agree_fault Flow p fault_kind.NoBranch at))))
       agree_execute (Protect body arms other) u = absurd u
       agree_execute (Return value) u = agree_then (agree_value_of value) (λ v. agree_pure_that _ tt)
       agree_execute (Yield value) u = agree_then (agree_value_of value) (λ v. agree_pure_that _ tt)

@@ -1,6 +1,7 @@
 -- The steps of the state agree: with faults that raise objects, and where no fault can be caught.
 use Rattle.std.proofs.Common.{◌≡◌, ℕ, zero, suc, Bool, true, false, ◌&&◌, if◌then◌else◌, List, [], ◌∷◌, map, length, Option, Some, None, refl, sym, ap, subst}
 use Rattle.std.specs.Prelude.{pos, ◌==◌, nat_le}
+use Rattle.sa_tree.specs.declared.fault_kind.FaultKind.{FaultKind}
 use Rattle.sa_tree.specs.declared.pos.Pos.{Pos}
 use Rattle.sa_meaning.specs.Value.{Value, Void, Int, Truth, Char, Imm, fields_of, bool_type, int_type, char_type}
 use Rattle.sa_meaning.specs.Program.{Program, before, of_type, is_immutable, void_in, void_of}
@@ -41,12 +42,12 @@ pub agree_set_object : {feature : Option ℕ} (number : ℕ) (o : Object) → Ag
 agree_set_object number o = agree_change _ (λ s e. e)
 
 -- Here the two part, where the fault raises an object.
-meet_fault : {feature : Option ℕ} {A : Type 0} {P : A → Type 0} (b : Bool) (o : Object) (kind : ℕ) (at : Pos) (s : State) → Fits feature s.here → Meet feature A P ((if b then raise_new o kind at else stop (Failed kind at)) s) (Stops (Failed kind at) s)
+meet_fault : {feature : Option ℕ} {A : Type 0} {P : A → Type 0} (b : Bool) (o : Object) (kind : FaultKind) (at : Pos) (s : State) → Fits feature s.here → Meet feature A P ((if b then raise_new o kind at else stop (Failed kind at)) s) (Stops (Failed kind at) s)
 unfolding resolve
 meet_fault true o kind at s e = halt _ _ _ _ (parted _ kind at _ s e refl)
 meet_fault false o kind at s e = halt _ _ _ _ (both_failed kind at s)
 
-pub agree_fault : {feature : Option ℕ} (A : Type 0) {P : A → Type 0} (p : Program) (kind : ℕ) (at : Pos) → AgreeIn feature feature A P (fault p kind at) (fault (before p) kind at)
+pub agree_fault : {feature : Option ℕ} (A : Type 0) {P : A → Type 0} (p : Program) (kind : FaultKind) (at : Pos) → AgreeIn feature feature A P (fault p kind at) (fault (before p) kind at)
 unfolding resolve
 agree_fault A p kind at = agree (λ s e. meet_fault (p.faults_raise && can_be_caught kind && nat_le (object_size 2 0) s.room) (fault_object p kind at) kind at s e)
 

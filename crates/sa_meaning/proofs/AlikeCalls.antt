@@ -1,5 +1,6 @@
 -- Calls and instances, of which one runs to a level what turns begin, and the other to a greater one.
 use Rattle.std.proofs.Common.{ℕ, suc, Bool, List, [], ◌∷◌, Option, Some, None, refl}
+use Rattle.sa_tree.specs.declared.fault_kind.FaultKind.TheVariants as fault_kind
 use Rattle.sa_tree.specs.declared.pos.Pos.{Pos}
 use Rattle.sa_core.specs.declared.feature.CalledCore.{CalledCore}
 use Rattle.sa_core.specs.declared.feature.CalledCore.TheVariants as called
@@ -9,7 +10,7 @@ use Rattle.sa_core.specs.declared.program.ImplCore.{ImplCore}
 use Rattle.sa_meaning.specs.Value.{Value, Void, Int, Truth, Char, Text, Ref, Imm, Bound, Wide}
 use Rattle.sa_meaning.specs.Program.{Program, Feature}
 use Rattle.sa_meaning.specs.State.{Residue, Sites, Empty, Instance, Activation, Event, Quits, Abandon, Cause, Broke, Raised, Failed, InputFailed, Flow, Done, Yielding, Returning, Quitting}
-use Rattle.sa_meaning.specs.Steps.{Eval, void}
+use Rattle.sa_meaning.specs.Steps.{Eval}
 use Rattle.sa_meaning.specs.Calls.{dynamic_type, widen, widened, widened_if, widened_from, widened_where, widened_for, widened_back, Callee, Handed, dispatched_to, dispatched, bound_to, callee, handed, bring_back, copied_back, brought, attribute, set_attribute, shared, set_shared, returned, raised_out, entered, routine, with_no_variables, reached, call}
 use Rattle.sa_meaning.specs.Instances.{this_feature, clear_loop, end_loop, Station, instance_ends, suspended, raised_through, run_instance, add_instance, begun, start_of, start, continued, resume}
 use Rattle.sa_meaning.proofs.Alike.{moves, Alike, Steady, alike_resolve, alike_then, alike_before, alike_if, turns, steady_pure, steady_stop, steady_look, steady_change, steady_or_stuck, steady_stuck, steady_with_place}
@@ -56,7 +57,7 @@ module _ (p : Program) (at : Pos) where
 
   steady_dispatched : {level : ℕ} (k : ℕ) (v : Value) → Steady level (dispatched p at k v)
   steady_dispatched k v =
-      alike_if _ (steady_fault Callee p void at) (alike_then (steady_or_stuck _) (λ signature. alike_then (steady_dynamic_type v) (λ ty. steady_dispatched_to _ v ty)))
+      alike_if _ (steady_fault Callee p fault_kind.Void at) (alike_then (steady_or_stuck _) (λ signature. alike_then (steady_dynamic_type v) (λ ty. steady_dispatched_to _ v ty)))
 
   steady_bound_to : {level : ℕ} (object : ℕ) → Steady level (bound_to p at object)
   steady_bound_to object = alike_then (steady_object_at object) (λ o. alike_then (steady_or_stuck _) (λ b. alike_then (steady_or_stuck _) (λ receiver. steady_pure _)))
@@ -64,7 +65,7 @@ module _ (p : Program) (at : Pos) where
   pub steady_callee : {level : ℕ} (called : CalledCore) (v : Value) → Steady level (callee p at called v)
   steady_callee (called.Static target class) v = steady_pure _
   steady_callee (called.Dispatch k) v = steady_dispatched k v
-  steady_callee called.Bound v = alike_if _ (steady_fault Callee p void at) (alike_then (steady_or_stuck _) steady_bound_to)
+  steady_callee called.Bound v = alike_if _ (steady_fault Callee p fault_kind.Void at) (alike_then (steady_or_stuck _) steady_bound_to)
 
   steady_widened_for : {level : ℕ} (c : Callee) (given : List (Option Value)) → Steady level (widened_for p at c given)
   steady_widened_for c given = alike_then (steady_widened_where p at _ _) (λ values. steady_widened_where p at _ _)
@@ -105,7 +106,7 @@ module _ (p : Program) (at : Pos) where
   steady_attribute : {level : ℕ} (a : ℕ) (self : Value) → Steady level (attribute p at a self)
   steady_attribute a (Imm ty _) = steady_or_stuck _
   steady_attribute a (Ref number) = alike_then (steady_object_at number) (λ o. steady_or_stuck _)
-  steady_attribute a Void = steady_fault Value p void at
+  steady_attribute a Void = steady_fault Value p fault_kind.Void at
   steady_attribute a (Int z) = steady_stuck
   steady_attribute a (Truth b) = steady_stuck
   steady_attribute a (Char byte) = steady_stuck
@@ -116,7 +117,7 @@ module _ (p : Program) (at : Pos) where
   steady_set_attribute : {level : ℕ} (a : ℕ) (v self : Value) → Steady level (set_attribute p at a v self)
   steady_set_attribute a v (Imm ty _) = alike_then (steady_with_place _ _ _) (λ changed. alike_before (steady_charge at _) (steady_pure _))
   steady_set_attribute a v (Ref number) = alike_then (steady_object_at number) (λ o. alike_then (steady_with_place _ _ _) (λ changed. alike_before (steady_set_object number _) (steady_pure _)))
-  steady_set_attribute a v Void = steady_fault Value p void at
+  steady_set_attribute a v Void = steady_fault Value p fault_kind.Void at
   steady_set_attribute a v (Int z) = steady_stuck
   steady_set_attribute a v (Truth b) = steady_stuck
   steady_set_attribute a v (Char byte) = steady_stuck

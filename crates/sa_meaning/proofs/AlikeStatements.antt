@@ -1,19 +1,20 @@
 -- Expressions and statements, of which one runs to a level what turns begin, and the other to a greater one.
 use Rattle.std.proofs.Common.{◌≡◌, ℕ, zero, suc, ◌+◌, Bool, List, Option, Some, None, refl, subst, arith}
+use Rattle.sa_tree.specs.declared.fault_kind.FaultKind.TheVariants as fault_kind
 use Rattle.sa_tree.specs.declared.pos.Pos.{Pos}
 use Rattle.sa_tree.specs.declared.ty.Mode.{Mode}
 use Rattle.sa_core.specs.declared.feature.CalledCore.{CalledCore}
 use Rattle.sa_core.specs.declared.feature.CalledCore.TheVariants as called
 use Rattle.sa_core.specs.Tree as tree
 use Rattle.sa_core.specs.Tree.{Expr, VoidOf, Me, Var, Exception, IsVoid, New, NewArray, Elements, Call, IterCall, Bind, Swapped, And, Or, Widen, Exprs, no_exprs, expr, Arg, Variable, Left, Args, no_args, arg}
-use Rattle.sa_core.specs.Tree.{Stmt, Let, Do, If, Loop, Leave, TypeCase, Protect, Return, Yield, Quit, Raise, Stop, Stmts, no_stmts, stmt, Tests, no_tests, branch, Arms, no_arms, arm, Else, no_else, otherwise}
+use Rattle.sa_core.specs.Tree.{Exit, Break, While, Until, Stmt, Let, Do, If, Loop, Leave, TypeCase, Protect, Return, Yield, Quit, Raise, Stop, Stmts, no_stmts, stmt, Tests, no_tests, branch, Arms, no_arms, arm, Else, no_else, otherwise}
 use Rattle.sa_meaning.specs.Value.{Value}
 use Rattle.sa_meaning.specs.Program.{Program}
 use Rattle.sa_meaning.specs.State.{Residue, Over, Next, Rest, Sites, Instance, Cause, Broke, Raised, Failed, InputFailed, Flow, Done, Yielding, Returning, Quitting}
-use Rattle.sa_meaning.specs.Steps.{Eval, void, no_branch}
+use Rattle.sa_meaning.specs.Steps.{Eval}
 use Rattle.sa_meaning.specs.Calls.{Callee}
 use Rattle.sa_meaning.specs.Evaluation.{new_object, array_of, bound_value, kept_values, bound, station, this_site, iter_call, evaluate, evaluate_all, evaluate_args, evaluate_arg, evaluate_tests}
-use Rattle.sa_meaning.specs.Statements.{after_statement, followed, set_exception, with_exception, not_suspended, caught, is_left, takes, raised, round, after_round, out_of_round, value_of, test_of, execute, execute_all, execute_first, execute_case, execute_branch, execute_else, execute_else_with, left, run_to}
+use Rattle.sa_meaning.specs.Statements.{after_statement, followed, set_exception, with_exception, not_suspended, caught, while_true, until_true, takes, raised, round, after_round, out_of_round, value_of, test_of, leave_loop, execute, execute_all, execute_first, execute_case, execute_branch, execute_else, execute_else_with, left, run_to}
 use Rattle.sa_meaning.proofs.Alike.{ends, ends_first, Alike, Steady, alike_resolve, alike_then, alike_before, alike_if, turns, steady_pure, steady_stop, steady_look, steady_change, steady_or_stuck, steady_stuck}
 use Rattle.sa_meaning.proofs.SteadySteps.{steady_charge, steady_add_object, steady_fault, steady_read, steady_write}
 use Rattle.sa_meaning.proofs.SteadyBuiltin.{steady_new_array}
@@ -68,13 +69,14 @@ alike_caught f g e Broke = steady_stop _
 alike_caught f g e (Failed kind at) = steady_stop _
 alike_caught f g e InputFailed = steady_stop _
 
-steady_is_left : {level : ℕ} (kind : ℕ) (b : Bool) → Steady level (is_left kind b)
-steady_is_left zero b = steady_stop _
-steady_is_left (suc zero) b = alike_if b (steady_pure _) (steady_stop _)
-steady_is_left (suc (suc n)) b = alike_if b (steady_stop _) (steady_pure _)
+steady_while_true : {level : ℕ} (b : Bool) → Steady level (while_true b)
+steady_while_true b = alike_if b (steady_pure _) (steady_stop _)
+
+steady_until_true : {level : ℕ} (b : Bool) → Steady level (until_true b)
+steady_until_true b = alike_if b (steady_stop _) (steady_pure _)
 
 steady_raised : {level : ℕ} (p : Program) (at : Pos) (v : Value) → Steady level (raised p at v)
-steady_raised p at v = alike_if _ (steady_fault Flow p void at) (steady_stop _)
+steady_raised p at v = alike_if _ (steady_fault Flow p fault_kind.Void at) (steady_stop _)
 
 -- ---- what a turn begins
 
@@ -159,9 +161,13 @@ module _ (p : Program) (level : ℕ) (go to : Residue → Eval Flow) (alike : (r
   alike_value_of None = steady_pure _
   alike_value_of (Some e) = alike_evaluate e
 
-  alike_test_of : (e : Option Expr) → Alike (suc level) (test_of p go e) (test_of p to e)
-  alike_test_of None = steady_pure _
-  alike_test_of (Some e) = alike_then (alike_evaluate e) (λ v. steady_or_stuck _)
+  alike_test_of : (e : Expr) → Alike (suc level) (test_of p go e) (test_of p to e)
+  alike_test_of e = alike_then (alike_evaluate e) (λ v. steady_or_stuck _)
+
+  alike_leave_loop : (exit : Exit) → Alike (suc level) (leave_loop p go exit) (leave_loop p to exit)
+  alike_leave_loop Break = steady_stop _
+  alike_leave_loop (While test) = alike_then (alike_test_of test) (λ b. steady_while_true b)
+  alike_leave_loop (Until test) = alike_then (alike_test_of test) (λ b. steady_until_true b)
 
   mutual
     alike_execute : (a : Stmt) → Alike (suc level) (execute p go a) (execute p to a)
@@ -169,9 +175,9 @@ module _ (p : Program) (level : ℕ) (go to : Residue → Eval Flow) (alike : (r
     alike_execute (Do e) = alike_before (alike_evaluate e) (steady_pure _)
     alike_execute (If tests other) = alike_execute_first tests (alike_execute_all other)
     alike_execute (Loop loop body) = alike_before (steady_clear_loop p loop) (alike_round loop body)
-    alike_execute (Leave kind test) = alike_then (alike_test_of test) (steady_is_left kind)
+    alike_execute (Leave exit) = alike_leave_loop exit
     alike_execute (TypeCase var arms other at) =
-        alike_then (steady_read var) (λ v. alike_then (steady_dynamic_type v) (λ dynamic. alike_execute_case v dynamic arms (alike_execute_else other (steady_fault Flow p no_branch at))))
+        alike_then (steady_read var) (λ v. alike_then (steady_dynamic_type v) (λ dynamic. alike_execute_case v dynamic arms (alike_execute_else other (steady_fault Flow p fault_kind.NoBranch at))))
     alike_execute (Protect body arms other) =
         alike_resolve (alike_execute_all body) steady_not_suspended (alike_caught _ _ (λ v dynamic again e. alike_execute_branch v dynamic arms (alike_execute_else_with v other e)))
     alike_execute (Return value) = alike_then (alike_value_of value) (λ v. steady_pure _)

@@ -3,6 +3,7 @@ use Rattle.std.proofs.Common.{◌≡◌, [], ◌∷◌, None, refl}
 use Rattle.std.proofs.lemmas.List.Elements.{All-from_recursion, recursion_from_All}
 use Rattle.std.specs.Prelude.{pos, codes}
 use Rattle.std.specs.Fmt.{digits}
+use Rattle.sa_tree.specs.declared.fault_kind.FaultKind.TheVariants as fault_kind
 use Rattle.sa_meaning.specs.Value.{Void, Int, Ref}
 use Rattle.sa_meaning.specs.Program.{Program, Feature, before}
 use Rattle.sa_meaning.specs.Protects.{AreUnguarded, HasNoProtect}
@@ -63,12 +64,12 @@ once_first_room = refl
 
 -- ---- faults
 
-catches_no_branch : end (sample.catches_stop 5) ≡ Ended (codes "c") 0
+catches_no_branch : end (sample.catches_stop fault_kind.NoBranch) ≡ Ended (codes "c") 0
 unfolding outcome resolve or_stuck digits
 catches_no_branch = refl
 
 -- nothing catches want of room
-passes_no_room : end (sample.catches_stop 9) ≡ Stopped [] 9 here
+passes_no_room : end (sample.catches_stop fault_kind.NoRoom) ≡ Stopped [] 9 here
 unfolding outcome resolve or_stuck digits
 passes_no_room = refl
 
@@ -91,8 +92,8 @@ before_out_of_iter = refl
 stands_nowhere : HasNoProtect overflows
 stands_nowhere = All-from_recursion (λ (f : Feature). AreUnguarded f.body) overflows.features ((tt, (tt, (tt, tt))), tt)
 
-stands_in_main : HasNoProtect (sample.catches_stop 5) → ⊥
-stands_in_main none = (recursion_from_All (λ (f : Feature). AreUnguarded f.body) (sample.catches_stop 5).features none).0.0
+stands_in_main : HasNoProtect (sample.catches_stop fault_kind.NoBranch) → ⊥
+stands_in_main none = (recursion_from_All (λ (f : Feature). AreUnguarded f.body) (sample.catches_stop fault_kind.NoBranch).features none).0.0
 
 -- ---- programs of which no rule speaks
 

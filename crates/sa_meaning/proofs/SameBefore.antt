@@ -1,5 +1,6 @@
 -- Where no protect stands, a run is the same where no fault can be caught.
 use Rattle.std.proofs.Common.{◌≡◌, ℕ, ◌+◌, List, [], ◌∷◌, map, Option, Some, None, refl, sym, ap, subst, ◌∙◌}
+use Rattle.sa_tree.specs.Faults.{fault_number}
 use Rattle.sa_core.specs.declared.program.Core.{Core}
 use Rattle.sa_core.specs.Tree.{Expr}
 use Rattle.sa_meaning.specs.Sequence.{Stops}
@@ -38,7 +39,7 @@ module _ (p : Program) (none : HasNoProtect p) (go to : Residue → Eval Flow) (
 same_stop : {feature : Option ℕ} {c d : Cause} {s t : State} → Halts feature c s d t → end_of (Stops d t) ≡ end_of (Stops c s)
 same_stop (both_broke s e) = refl
 same_stop (both_raised v kind at s e) = refl
-same_stop (parted v kind at s t e same) = ap (λ output. Stopped output kind at) (sym same)
+same_stop (parted v kind at s t e same) = ap (λ output. Stopped output (fault_number kind) at) (sym same)
 same_stop (both_failed kind at s) = refl
 same_stop (both_in_fault s) = refl
 

@@ -1,5 +1,6 @@
 -- The steps of the state are alike to themselves at each level.
 use Rattle.std.proofs.Common.{ℕ, zero, suc, List, [], ◌∷◌, Option, Some, None, refl}
+use Rattle.sa_tree.specs.declared.fault_kind.FaultKind.{FaultKind}
 use Rattle.sa_tree.specs.declared.pos.Pos.{Pos}
 use Rattle.sa_meaning.specs.Value.{Value}
 use Rattle.sa_meaning.specs.Program.{Program}
@@ -23,7 +24,7 @@ steady_object_at number = alike_then (steady_look _ (λ d s. refl)) (λ objects.
 pub steady_set_object : {level : ℕ} (number : ℕ) (o : Object) → Steady level (set_object number o)
 steady_set_object number o = steady_change _ (λ d s. refl) (λ s. refl) (λ s. refl)
 
-pub steady_fault : {level : ℕ} (A : Type 0) (p : Program) (kind : ℕ) (at : Pos) → Steady level (fault {A = A} p kind at)
+pub steady_fault : {level : ℕ} (A : Type 0) (p : Program) (kind : FaultKind) (at : Pos) → Steady level (fault {A = A} p kind at)
 steady_fault A p kind at =
     alike_then (steady_look _ (λ d s. refl)) (λ room. alike_if _
     (alike_before (steady_change _ (λ d s. refl) (λ s. refl) (λ s. refl)) (alike_then (steady_add_object _) (λ number. steady_stop _)))

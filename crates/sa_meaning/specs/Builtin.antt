@@ -1,19 +1,31 @@
 -- What the features do that the prelude leaves to the implementation.
-use Rattle.std.specs.Prelude.{ℕ, ◌-◌, ℤ, pos, negsuc, ◌+ℤ◌, ◌-ℤ◌, ◌*ℤ◌, neg_ℤ, int_le, int_lt, int_div, int_rem, Bool, not, ◌&&◌, ◌==◌, nat_le, nat_lt, if◌then◌else◌, List, [], ◌∷◌, ◌++◌, map, length, take, drop, set, replicate, slice_get, Option, Some, option_map, option_and_then, bit_and, bit_or, bit_xor}
+use Rattle.std.specs.Prelude.{ℕ, ◌-◌, ℤ, pos, negsuc, ◌+ℤ◌, ◌-ℤ◌, ◌*ℤ◌, neg_ℤ, int_le, int_lt, int_div, int_rem, Bool, not}
+use Rattle.std.specs.Prelude.{◌&&◌, ◌==◌, nat_le, nat_lt, if◌then◌else◌, List, [], ◌∷◌, ◌++◌, map, length, take, drop, set}
+use Rattle.std.specs.Prelude.{replicate, slice_get, Option, Some, option_map, option_and_then, bit_and, bit_or, bit_xor}
 use Rattle.std.specs.Fmt.{signed_decimal}
 use Rattle.std.specs.Option.{option_map_or}
+use Rattle.sa_tree.specs.declared.fault_kind.FaultKind.TheVariants as fault_kind
 use Rattle.sa_tree.specs.declared.pos.Pos.{Pos}
 use Rattle.sa_prelude.specs.declared.feature.BuiltinFeature.{BuiltinFeature}
-use Rattle.sa_prelude.specs.declared.feature.BuiltinFeature.TheVariants.{BoolIsEq, BoolNot, IntPlus, IntMinus, IntTimes, IntNegate, IntDiv, IntMod, IntIsEq, IntIsLt, IntBand, IntBor, IntBxor, IntStr, IntChar, CharIsEq, CharIsLt, CharInt, CharStr, StrSize, StrAget, StrCat, StrSubstring, StrOf, OutPut, OutPutInt, OutPutChar, InGetByte, SysObEq, ArefAsize, ArefAget, ArefAset, ArrayCreate}
+use Rattle.sa_prelude.specs.declared.feature.BuiltinFeature.TheVariants.{BoolIsEq, BoolNot, IntPlus, IntMinus, IntTimes, IntNegate, IntDiv}
+use Rattle.sa_prelude.specs.declared.feature.BuiltinFeature.TheVariants.{IntMod, IntIsEq, IntIsLt, IntBand, IntBor, IntBxor, IntStr}
+use Rattle.sa_prelude.specs.declared.feature.BuiltinFeature.TheVariants.{IntChar, CharIsEq, CharIsLt, CharInt, CharStr, StrSize, StrAget}
+use Rattle.sa_prelude.specs.declared.feature.BuiltinFeature.TheVariants.{StrCat, StrSubstring, StrOf, OutPut, OutPutInt, OutPutChar}
+use Rattle.sa_prelude.specs.declared.feature.BuiltinFeature.TheVariants.{InGetByte, SysObEq, ArefAsize, ArefAget, ArefAset, ArrayCreate}
 use Rattle.sa_meaning.specs.Sequence.{◌>>=◌, ◌>>◌, pure, or_stuck, at_place, stuck}
-use Rattle.sa_meaning.specs.Value.{Value, Void, Int, Truth, Char, Ref, Bound, is_void, is_nothing, is_zero, as_int, as_truth, as_char, as_text, as_object}
+use Rattle.sa_meaning.specs.Value.{Value, Void, Int, Truth, Char, Ref, Bound, is_void, is_nothing}
+use Rattle.sa_meaning.specs.Value.{is_zero, as_int, as_truth, as_char, as_text, as_object}
 use Rattle.sa_meaning.specs.Program.{Program, void_of}
 use Rattle.sa_meaning.specs.State.{Object}
-use Rattle.sa_meaning.specs.Steps.{Eval, spend, charge, object_size, eights, add_object, object_at, set_object, plain, overflow, division_by_zero, void, index, fault, new_text, put_byte, put_bytes, put_text, get_byte}
+use Rattle.sa_meaning.specs.Steps.{Eval, spend, charge, object_size, eights, add_object, object_at}
+use Rattle.sa_meaning.specs.Steps.{set_object, plain, fault, new_text, put_byte, put_bytes, put_text, get_byte}
 
 -- the features by their numbers
 abbrev pub builtins : List BuiltinFeature
-builtins = BoolIsEq ∷ BoolNot ∷ IntPlus ∷ IntMinus ∷ IntTimes ∷ IntNegate ∷ IntDiv ∷ IntMod ∷ IntIsEq ∷ IntIsLt ∷ IntBand ∷ IntBor ∷ IntBxor ∷ IntStr ∷ IntChar ∷ CharIsEq ∷ CharIsLt ∷ CharInt ∷ CharStr ∷ StrSize ∷ StrAget ∷ StrCat ∷ StrSubstring ∷ StrOf ∷ OutPut ∷ OutPutInt ∷ OutPutChar ∷ InGetByte ∷ SysObEq ∷ ArefAsize ∷ ArefAget ∷ ArefAset ∷ ArrayCreate ∷ []
+builtins =
+    BoolIsEq ∷ BoolNot ∷ IntPlus ∷ IntMinus ∷ IntTimes ∷ IntNegate ∷ IntDiv ∷ IntMod ∷ IntIsEq ∷ IntIsLt ∷ IntBand ∷ IntBor
+    ∷ IntBxor ∷ IntStr ∷ IntChar ∷ CharIsEq ∷ CharIsLt ∷ CharInt ∷ CharStr ∷ StrSize ∷ StrAget ∷ StrCat ∷ StrSubstring
+    ∷ StrOf ∷ OutPut ∷ OutPutInt ∷ OutPutChar ∷ InGetByte ∷ SysObEq ∷ ArefAsize ∷ ArefAget ∷ ArefAset ∷ ArrayCreate ∷ []
 
 -- ---- numbers
 
@@ -63,7 +75,7 @@ elements_of v = if is_nothing v then pure [] else (do
 
 -- `new(n)`: an object with its attributes and so many elements, all void
 abbrev pub new_array : Program → ℕ → Pos → ℤ → Eval Value
-new_array p ty at count = if int_lt count (pos 0) then fault p index at else (do
+new_array p ty at count = if int_lt count (pos 0) then fault p fault_kind.Index at else (do
   t ← at_place p.types ty
   charge at (object_size (length t.attrs) (place_of count))
   number ← add_object (plain ty (map (void_of p) t.attrs) (replicate (place_of count) (option_map_or (void_of p) t.elem Void)))
@@ -105,35 +117,37 @@ module _ (p : Program) (class : Option ℕ) (at : Pos) (self : Value) (arguments
 
   -- a result that has to be a number of the language
   abbrev pub whole : ℤ → Eval Value
-  whole z = if is_between (negsuc 2147483647) (pos 2147483647) z then pure (Int z) else fault p overflow at
+  whole z = if is_between (negsuc 2147483647) (pos 2147483647) z then pure (Int z) else fault p fault_kind.Overflow at
 
   abbrev pub divided : (ℤ → ℤ → ℤ) → ℤ → ℤ → Eval Value
-  divided f a b = if is_zero b then fault p division_by_zero at else whole (f a b)
+  divided f a b = if is_zero b then fault p fault_kind.DivisionByZero at else whole (f a b)
 
   -- a text that takes turns by its length
   abbrev pub long_text : List ℕ → Eval Value
   long_text bytes = spend (eights (length bytes)) >> new_text at bytes
 
   abbrev pub byte_at : List ℕ → ℤ → Eval Value
-  byte_at bytes i = if is_place i (length bytes) then (at_place bytes (place_of i) >>= (λ byte. pure (Char byte))) else fault p index at
+  byte_at bytes i =
+      if is_place i (length bytes) then (at_place bytes (place_of i) >>= (λ byte. pure (Char byte))) else fault p fault_kind.Index at
 
   -- so many bytes from a place on
   abbrev pub part : List ℕ → ℤ → ℤ → Eval Value
   part bytes i n =
-      if int_le (pos 0) i && int_le (pos 0) n && int_le (i +ℤ n) (pos (length bytes)) then long_text (take (place_of n) (drop (place_of i) bytes))
-      else fault p index at
+      if int_le (pos 0) i && int_le (pos 0) n && int_le (i +ℤ n) (pos (length bytes))
+      then long_text (take (place_of n) (drop (place_of i) bytes))
+      else fault p fault_kind.Index at
 
   -- a text of the first elements of an array of characters
   abbrev pub text_of : List Value → ℤ → Eval Value
   text_of elements n =
       if is_between (pos 0) (pos (length elements)) n then (or_stuck (bytes_of (take (place_of n) elements)) >>= long_text)
-      else fault p index at
+      else fault p fault_kind.Index at
 
   abbrev pub element_at : ℤ → Eval Value
   element_at i = do
     number ← or_stuck (as_object self)
     o ← object_at number
-    if is_place i (length o.elements) then at_place o.elements (place_of i) else fault p index at
+    if is_place i (length o.elements) then at_place o.elements (place_of i) else fault p fault_kind.Index at
 
   abbrev pub stored : ℕ → Object → ℤ → Value → Eval Value
   stored number o i v = set_object number (record o { elements = set o.elements (place_of i) v }) >> pure Void
@@ -142,10 +156,10 @@ module _ (p : Program) (class : Option ℕ) (at : Pos) (self : Value) (arguments
   set_element i v = do
     number ← or_stuck (as_object self)
     o ← object_at number
-    if is_place i (length o.elements) then stored number o i v else fault p index at
+    if is_place i (length o.elements) then stored number o i v else fault p fault_kind.Index at
 
   abbrev pub unless_void : Eval Value → Eval Value
-  unless_void f = if is_nothing self then fault p void at else f
+  unless_void f = if is_nothing self then fault p fault_kind.Void at else f
 
   abbrev pub builtin : BuiltinFeature → Eval Value
   builtin BoolIsEq = two as_truth (λ a b. pure (Truth (if a then b else not b)))
@@ -162,7 +176,7 @@ module _ (p : Program) (class : Option ℕ) (at : Pos) (self : Value) (arguments
   builtin IntBor = two as_int (λ a b. pure (Int (on_bits bit_or a b)))
   builtin IntBxor = two as_int (λ a b. pure (Int (on_bits bit_xor a b)))
   builtin IntStr = one as_int (λ a. new_text at (signed_decimal a))
-  builtin IntChar = one as_int (λ a. if is_between (pos 0) (pos 255) a then pure (Char (place_of a)) else fault p overflow at)
+  builtin IntChar = one as_int (λ a. if is_between (pos 0) (pos 255) a then pure (Char (place_of a)) else fault p fault_kind.Overflow at)
   builtin CharIsEq = two as_char (λ a b. pure (Truth (a == b)))
   builtin CharIsLt = two as_char (λ a b. pure (Truth (nat_lt a b)))
   builtin CharInt = one as_char (λ a. pure (Int (pos a)))

@@ -1,6 +1,8 @@
 -- What a call reaches, what it hands over and brings back, and the run of a routine.
-use Rattle.std.specs.Prelude.{ℕ, ◌+◌, Bool, true, false, ◌&&◌, ◌==◌, if◌then◌else◌, List, [], ◌∷◌, map, length, drop, slice_get, find, filter_map, Option, Some, None, option_map, option_and_then}
+use Rattle.std.specs.Prelude.{ℕ, ◌+◌, Bool, true, false, ◌&&◌, ◌==◌, if◌then◌else◌, List, [], ◌∷◌, map, length}
+use Rattle.std.specs.Prelude.{drop, slice_get, find, filter_map, Option, Some, None, option_map, option_and_then}
 use Rattle.std.specs.Option.{option_map_or}
+use Rattle.sa_tree.specs.declared.fault_kind.FaultKind.TheVariants as fault_kind
 use Rattle.sa_tree.specs.declared.pos.Pos.{Pos}
 use Rattle.sa_tree.specs.declared.ty.Mode.{Mode}
 use Rattle.sa_tree.specs.declared.ty.Mode.TheVariants as mode
@@ -12,10 +14,11 @@ use Rattle.sa_core.specs.declared.program.ImplCore.{ImplCore}
 use Rattle.sa_prelude.specs.declared.feature.BuiltinFeature.{BuiltinFeature}
 use Rattle.sa_prelude.specs.declared.feature.BuiltinFeature.TheVariants.{SysObEq, ArefAset}
 use Rattle.sa_meaning.specs.Sequence.{resolve, ◌>>=◌, ◌>>◌, pure, look, change, stop, or_stuck, at_place, with_place, stuck}
-use Rattle.sa_meaning.specs.Value.{Value, Void, Int, Truth, Char, Text, Imm, Ref, Bound, Wide, fields_of, field_list, bool_type, int_type, char_type, str_type, raw_type, is_nothing, as_bound, unwrapped}
+use Rattle.sa_meaning.specs.Value.{Value, Void, Int, Truth, Char, Text, Imm, Ref, Bound, Wide, fields_of, field_list}
+use Rattle.sa_meaning.specs.Value.{bool_type, int_type, char_type, str_type, raw_type, is_nothing, as_bound, unwrapped}
 use Rattle.sa_meaning.specs.Program.{Program, Feature, of_type, is_abstract, void_of}
 use Rattle.sa_meaning.specs.State.{Object, Residue, all_of, Empty, Activation, Cause, Broke, Raised, Flow, Done, Returning}
-use Rattle.sa_meaning.specs.Steps.{Eval, turn, charge, object_size, object_at, set_object, void, fault, write, enter, leave, checked_depth}
+use Rattle.sa_meaning.specs.Steps.{Eval, turn, charge, object_size, object_at, set_object, fault, write, enter, leave, checked_depth}
 use Rattle.sa_meaning.specs.Builtin.{builtins, builtin_call}
 
 -- ---- dynamic types and widening
@@ -133,7 +136,7 @@ module _ (p : Program) (at : Pos) where
 
   -- the implementation of a signature by the receiver's class
   abbrev pub dispatched : ℕ → Value → Eval Callee
-  dispatched k v = if is_nothing v then fault p void at else (do
+  dispatched k v = if is_nothing v then fault p fault_kind.Void at else (do
     signature ← at_place p.signatures k
     ty ← dynamic_type v
     dispatched_to signature.impls v ty)
@@ -148,7 +151,7 @@ module _ (p : Program) (at : Pos) where
   abbrev pub callee : CalledCore → Value → Eval Callee
   callee (called.Static target class) v = pure (record { target = target; class = Some class; self = v; through = None })
   callee (called.Dispatch k) v = dispatched k v
-  callee called.Bound v = if is_nothing v then fault p void at else (or_stuck (as_bound v) >>= bound_to)
+  callee called.Bound v = if is_nothing v then fault p fault_kind.Void at else (or_stuck (as_bound v) >>= bound_to)
 
   -- the arguments as the callee takes them, the `once` ones first
   abbrev pub widened_for : Callee → List (Option Value) → Eval (List (Option Value))
@@ -156,7 +159,8 @@ module _ (p : Program) (at : Pos) where
 
   -- A dispatched call and the call of a bound value widen the arguments. The kept values of a bound value stand between.
   abbrev pub handed : CalledCore → Callee → List (Option Value) → List (Option ℕ) → Eval Handed
-  handed (called.Static target class) c given back = pure (record { given = given; back = back; wide_back = map (λ var. false) back; wide = false })
+  handed (called.Static target class) c given back =
+      pure (record { given = given; back = back; wide_back = map (λ var. false) back; wide = false })
   handed (called.Dispatch k) c given back = do
     signature ← at_place p.signatures k
     values ← widened_for c given
@@ -219,7 +223,7 @@ module _ (p : Program) (at : Pos) where
   abbrev pub attribute : ℕ → Value → Eval Value
   attribute a (Imm ty fields) = at_place (field_list fields) a
   attribute a (Ref number) = object_at number >>= (λ o. at_place o.fields a)
-  attribute a Void = fault p void at
+  attribute a Void = fault p fault_kind.Void at
   attribute a _ = stuck
 
   -- An immutable value gives a changed copy.
@@ -233,7 +237,7 @@ module _ (p : Program) (at : Pos) where
     changed ← with_place o.fields a v
     set_object number (record o { fields = changed })
     pure Void
-  set_attribute a v Void = fault p void at
+  set_attribute a v Void = fault p fault_kind.Void at
   set_attribute a v _ = stuck
 
 abbrev pub shared : ℕ → Eval Value

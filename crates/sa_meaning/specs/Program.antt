@@ -1,5 +1,6 @@
 -- A typed program as its meaning sees it, and which of these a tree of the checker is.
-use Rattle.std.specs.Prelude.{ℕ, zero, suc, pos, Bool, true, false, ◌&&◌, ◌||◌, ◌==◌, if◌then◌else◌, List, [], ◌∷◌, map, length, slice_get, position, find, Option, is_some, unwrap_or, option_and_then}
+use Rattle.std.specs.Prelude.{ℕ, zero, suc, ◌+◌, pos, Bool, true, false, ◌||◌, ◌==◌, nat_lt, if◌then◌else◌}
+use Rattle.std.specs.Prelude.{List, [], ◌∷◌, map, length, slice_get, count_by, find, Option, is_some, unwrap_or}
 use Rattle.std.specs.Option.{option_map_or}
 use Rattle.sa_tree.specs.declared.class.Kind.{Kind}
 use Rattle.sa_tree.specs.declared.class.Kind.TheVariants as kind
@@ -15,7 +16,6 @@ use Rattle.sa_core.specs.declared.program.SharedCore.{SharedCore}
 use Rattle.sa_core.specs.declared.program.SigCore.{SigCore}
 use Rattle.sa_core.specs.declared.program.TypeInfo.{TypeInfo}
 use Rattle.sa_core.specs.Copy.{block_of, option_expr_of}
-use Rattle.sa_core.specs.PositionList.{core_positions}
 use Rattle.sa_core.specs.Tree.{Expr, Stmts}
 use Rattle.sa_meaning.specs.Value.{Value, Void, Int, Truth, Char, Imm, fields_of, bool_type, int_type, char_type}
 
@@ -61,9 +61,8 @@ pub record Program : Type 0 where
   pub signatures : List Signature
   pub shareds : List SharedRow
   pub main : ℕ
-  -- the positions at which faults can stand, and the line of each
-  pub places : List Pos
-  pub lines : List ℕ
+  -- the places of the line feeds in each text
+  pub feeds : List (List ℕ)
   -- whether faults can be caught, as the language has it
   pub faults_raise : Bool
 
@@ -88,13 +87,21 @@ has_wide_result (Iter args result) = is_wide_result result
 has_wide_result _ = false
 
 abbrev pub type_row : TypeInfo → TypeRow
-type_row t = record { kind = t.kind; attrs = t.attrs; elem = t.elem; above = t.above; wide_args = wide_arguments_of (bare t.ty); wide = has_wide_result (bare t.ty) }
+type_row t = record {
+  kind = t.kind;
+  attrs = t.attrs;
+  elem = t.elem;
+  above = t.above;
+  wide_args = wide_arguments_of (bare t.ty);
+  wide = has_wide_result (bare t.ty);
+}
 
 abbrev pub feature_of : FeatureCore → Feature
 feature_of f = record { iter = f.iter; modes = f.modes; vars = f.vars; sites = f.sites; body = block_of f.body; pos = f.pos }
 
 abbrev pub signature_of : SigCore → Signature
-signature_of s = record { impls = s.impls; wide_args = wide_list (all_bare_args s.sig.args); wide = is_wide_result (option_bare s.sig.result) }
+signature_of s =
+    record { impls = s.impls; wide_args = wide_list (all_bare_args s.sig.args); wide = is_wide_result (option_bare s.sig.result) }
 
 abbrev pub shared_row : SharedCore → SharedRow
 shared_row s = record { ty = s.ty; class = s.class; start = option_expr_of s.start }
@@ -106,8 +113,7 @@ program_of core = record {
   signatures = map signature_of core.sigs;
   shareds = map shared_row core.shareds;
   main = core.main;
-  places = core_positions core;
-  lines = core.lines;
+  feeds = core.feeds;
   faults_raise = true;
 }
 
@@ -155,9 +161,6 @@ void_of p = void_in p (length p.types)
 
 -- ---- lines
 
-abbrev pub same_place : Pos → Pos → Bool
-same_place a b = a.file == b.file && a.at == b.at
-
--- the line of a position, or 0 where the program has none
+-- the line of a position: one more than the line feeds before it in its text
 abbrev pub line_at : Program → Pos → ℕ
-line_at p at = unwrap_or (option_and_then (slice_get p.lines) (position (same_place at) p.places)) 0
+line_at p at = 1 + count_by (λ feed. nat_lt feed at.at) (unwrap_or (slice_get p.feeds at.file) [])

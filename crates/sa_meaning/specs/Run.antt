@@ -1,6 +1,7 @@
 -- Whole runs.
 use Rattle.std.specs.Prelude.{ℕ, ◌+◌, ◌-◌, ◌%◌, pos, negsuc, List, [], ◌∷◌, map, Option, Some, None}
 use Rattle.sa_tree.specs.declared.pos.Pos.{Pos}
+use Rattle.sa_tree.specs.Faults.{fault_number}
 use Rattle.sa_core.specs.declared.program.Core.{Core}
 use Rattle.sa_core.specs.Tree.{Expr}
 use Rattle.sa_meaning.specs.Sequence.{◌>>=◌, ◌>>◌, pure, change, at_place, Gives, Stops, Exhausts, Sticks, last_state}
@@ -56,7 +57,7 @@ outcome p input room turns = whole_run p (run_to p turns) (initial p input room 
 
 pub data End : Type 0 where
   Ended : (output : List ℕ) → (status : ℕ) → End
-  -- a fault, or a raise that nothing catches
+  -- a fault, or a raise that nothing catches, by the number of its kind
   Stopped : (output : List ℕ) → (kind : ℕ) → (at : Pos) → End
   InFault Spent : (output : List ℕ) → End
   -- no rule says how to go on
@@ -70,8 +71,8 @@ status_of _ = 0
 
 abbrev pub end_of : Outcome Value → End
 end_of (Gives v s) = Ended s.output (status_of v)
-end_of (Stops (Raised exception kind at) s) = Stopped s.output kind at
-end_of (Stops (Failed kind at) s) = Stopped s.output kind at
+end_of (Stops (Raised exception kind at) s) = Stopped s.output (fault_number kind) at
+end_of (Stops (Failed kind at) s) = Stopped s.output (fault_number kind) at
 end_of (Stops InputFailed s) = InFault s.output
 end_of (Stops Broke s) = Stuck
 end_of (Exhausts s) = Spent s.output

@@ -1,5 +1,6 @@
 -- What a running program has at each moment, and how a step of it ends.
 use Rattle.std.specs.Prelude.{ℕ, Bool, List, Option}
+use Rattle.sa_tree.specs.declared.fault_kind.FaultKind.{FaultKind}
 use Rattle.sa_tree.specs.declared.pos.Pos.{Pos}
 use Rattle.sa_core.specs.declared.feature.Target.{Target}
 use Rattle.sa_core.specs.Tree.{Stmt, Stmts, no_stmts, stmt}
@@ -100,9 +101,9 @@ pub record State : Type 0 where
 pub data Cause : Type 0 where
   -- the innermost loop is left
   Broke : Cause
-  Raised : (exception : Value) → (kind : ℕ) → (at : Pos) → Cause
+  Raised : (exception : Value) → (kind : FaultKind) → (at : Pos) → Cause
   -- a fault that no protect catches
-  Failed : (kind : ℕ) → (at : Pos) → Cause
+  Failed : (kind : FaultKind) → (at : Pos) → Cause
   InputFailed : Cause
 
 abbrev pub Outcome : Type 0 → Type 0

@@ -1,13 +1,16 @@
 -- What statements do, and what is still to be done of them after a yield.
-use Rattle.std.specs.Prelude.{ℕ, zero, suc, Bool, true, false, if◌then◌else◌, Option, Some, None}
+use Rattle.std.specs.Prelude.{ℕ, zero, suc, Bool, false, if◌then◌else◌, Option, Some, None}
 use Rattle.std.specs.Option.{option_map_or}
+use Rattle.sa_tree.specs.declared.fault_kind.FaultKind.TheVariants as fault_kind
 use Rattle.sa_tree.specs.declared.pos.Pos.{Pos}
-use Rattle.sa_core.specs.Tree.{Expr, Stmt, Let, Do, If, Loop, Leave, TypeCase, Protect, Return, Yield, Quit, Raise, Stop, Stmts, no_stmts, stmt, Tests, no_tests, branch, Arms, no_arms, arm, Else, no_else, otherwise}
+use Rattle.sa_core.specs.Tree.{Expr, Exit, Break, While, Until, Stmt, Let, Do, If, Loop, Leave, TypeCase, Protect, Return, Yield, Quit}
+use Rattle.sa_core.specs.Tree.{Raise, Stop, Stmts, no_stmts, stmt, Tests, no_tests, branch, Arms, no_arms, arm, Else, no_else, otherwise}
 use Rattle.sa_meaning.specs.Sequence.{resolve, ◌>>=◌, ◌>>◌, pure, look, change, stop, Exhausts, stuck}
 use Rattle.sa_meaning.specs.Value.{Value, Void, is_nothing, unwrapped}
 use Rattle.sa_meaning.specs.Program.{Program, holds, is_immutable}
-use Rattle.sa_meaning.specs.State.{Residue, Over, Next, Rest, all_of, joined, Cause, Broke, Raised, Flow, Done, Yielding, Returning, Quitting}
-use Rattle.sa_meaning.specs.Steps.{Eval, turn, void, no_branch, uncaught, fault, read, write}
+use Rattle.sa_meaning.specs.State.{Residue, Over, Next, Rest, all_of, joined, Cause, Broke}
+use Rattle.sa_meaning.specs.State.{Raised, Flow, Done, Yielding, Returning, Quitting}
+use Rattle.sa_meaning.specs.Steps.{Eval, turn, fault, read, write}
 use Rattle.sa_meaning.specs.Calls.{dynamic_type}
 use Rattle.sa_meaning.specs.Instances.{clear_loop, end_loop}
 use Rattle.sa_meaning.specs.Evaluation.{evaluate, truth_of, evaluate_tests}
@@ -47,11 +50,11 @@ caught branches cause = stop cause
 
 -- ---- leaving a loop
 
--- always, where the test is false, or where it is true
-abbrev pub is_left : ℕ → Bool → Eval Flow
-is_left zero b = stop Broke
-is_left (suc zero) b = if b then pure Done else stop Broke
-is_left (suc (suc n)) b = if b then stop Broke else pure Done
+abbrev pub while_true : Bool → Eval Flow
+while_true b = if b then pure Done else stop Broke
+
+abbrev pub until_true : Bool → Eval Flow
+until_true b = if b then stop Broke else pure Done
 
 module _ (p : Program) where
   -- the value in a branch of a type
@@ -63,7 +66,7 @@ module _ (p : Program) where
   takes ty dynamic = option_map_or (holds p ty) dynamic false
 
   abbrev pub raised : Pos → Value → Eval Flow
-  raised at v = if is_nothing v then fault p void at else stop (Raised v uncaught at)
+  raised at v = if is_nothing v then fault p fault_kind.Void at else stop (Raised v fault_kind.Uncaught at)
 
 -- ---- rounds of loops, and statements
 
@@ -90,10 +93,13 @@ module _ (p : Program) (go : Residue → Eval Flow) where
   value_of None = pure Void
   value_of (Some e) = evaluate p go e
 
-  -- the test of a leave, which none stands for where it is left always
-  abbrev pub test_of : Option Expr → Eval Bool
-  test_of None = pure true
-  test_of (Some e) = evaluate p go e >>= truth_of
+  abbrev pub test_of : Expr → Eval Bool
+  test_of e = evaluate p go e >>= truth_of
+
+  abbrev pub leave_loop : Exit → Eval Flow
+  leave_loop Break = stop Broke
+  leave_loop (While test) = test_of test >>= while_true
+  leave_loop (Until test) = test_of test >>= until_true
 
   abbrev mutual
     pub execute : Stmt → Eval Flow
@@ -101,12 +107,14 @@ module _ (p : Program) (go : Residue → Eval Flow) where
     execute (Do e) = evaluate p go e >> pure Done
     execute (If tests other) = execute_first tests (execute_all other)
     execute (Loop loop body) = clear_loop p loop >> round loop body
-    execute (Leave kind test) = test_of test >>= is_left kind
+    execute (Leave exit) = leave_loop exit
     execute (TypeCase var arms other at) = do
       v ← read var
       dynamic ← dynamic_type v
-      execute_case v dynamic arms (execute_else other (fault p no_branch at))
-    execute (Protect body arms other) = resolve (execute_all body) not_suspended (caught (λ v dynamic again. execute_branch v dynamic arms (execute_else_with v other again)))
+      execute_case v dynamic arms (execute_else other (fault p fault_kind.NoBranch at))
+    execute (Protect body arms other) =
+        resolve (execute_all body) not_suspended
+        (caught (λ v dynamic again. execute_branch v dynamic arms (execute_else_with v other again)))
     execute (Return value) = value_of value >>= (λ v. pure (Returning v))
     execute (Yield value) = value_of value >>= (λ v. pure (Yielding v Over))
     execute Quit = pure Quitting
@@ -120,7 +128,8 @@ module _ (p : Program) (go : Residue → Eval Flow) where
     -- the statements of the first entry of which a test is true
     pub execute_first : Tests → Eval Flow → Eval Flow
     execute_first no_tests other = other
-    execute_first (branch tests body more) other = evaluate_tests p go tests >>= (λ b. if b then execute_all body else execute_first more other)
+    execute_first (branch tests body more) other =
+        evaluate_tests p go tests >>= (λ b. if b then execute_all body else execute_first more other)
 
     -- The branch of a typecase has a variable of its own.
     pub execute_case : Value → Option ℕ → Arms → Eval Flow → Eval Flow

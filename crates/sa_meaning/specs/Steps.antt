@@ -1,6 +1,10 @@
 -- The steps of which a run is made.
-use Rattle.std.specs.Prelude.{ℕ, zero, suc, ◌+◌, ◌-◌, ◌*◌, ◌/◌, ℤ, pos, negsuc, Bool, ◌&&◌, if◌then◌else◌, nat_le, List, [], ◌∷◌, ◌++◌, length, set, Option, Some, None}
+use Rattle.std.specs.Prelude.{ℕ, zero, suc, ◌+◌, ◌-◌, ◌*◌, ◌/◌, ℤ, pos, negsuc, Bool, true, false, ◌&&◌}
+use Rattle.std.specs.Prelude.{if◌then◌else◌, nat_le, List, [], ◌∷◌, ◌++◌, length, set, Option, Some, None}
+use Rattle.sa_tree.specs.declared.fault_kind.FaultKind.{FaultKind}
+use Rattle.sa_tree.specs.declared.fault_kind.FaultKind.TheVariants as fault_kind
 use Rattle.sa_tree.specs.declared.pos.Pos.{Pos}
+use Rattle.sa_tree.specs.Faults.{fault_number}
 use Rattle.sa_meaning.specs.Value.{Value, Int, Text, Ref, fault_type}
 use Rattle.sa_meaning.specs.Program.{Program, line_at}
 use Rattle.sa_meaning.specs.Sequence.{Step, Gives, Exhausts, ◌>>=◌, ◌>>◌, pure, look, change, stop, at_place, with_place}
@@ -25,40 +29,13 @@ spend (suc n) = turn (spend n)
 
 -- ---- the kinds of faults
 
-abbrev pub overflow : ℕ
-overflow = 1
-
-abbrev pub division_by_zero : ℕ
-division_by_zero = 2
-
-abbrev pub void : ℕ
-void = 3
-
-abbrev pub index : ℕ
-index = 4
-
-abbrev pub no_branch : ℕ
-no_branch = 5
-
-abbrev pub no_return : ℕ
-no_return = 6
-
-abbrev pub assertion : ℕ
-assertion = 7
-
--- that of the statement `raise`
-abbrev pub uncaught : ℕ
-uncaught = 8
-
-abbrev pub no_room : ℕ
-no_room = 9
-
-abbrev pub too_deep : ℕ
-too_deep = 10
-
--- too many live instances
-abbrev pub frames : ℕ
-frames = 11
+-- Nothing catches a fault for want of room, depth or frames, and `raise` makes no fault.
+abbrev pub can_be_caught : FaultKind → Bool
+can_be_caught fault_kind.Uncaught = false
+can_be_caught fault_kind.NoRoom = false
+can_be_caught fault_kind.TooDeep = false
+can_be_caught fault_kind.Frames = false
+can_be_caught _ = true
 
 -- ---- room
 
@@ -79,7 +56,7 @@ take_room size = change (λ s. record s { room = s.room - size })
 abbrev pub charge : Pos → ℕ → Eval (Unit {0})
 charge at size = do
   room ← look (λ s. s.room)
-  if nat_le size room then take_room size else stop (Failed no_room at)
+  if nat_le size room then take_room size else stop (Failed fault_kind.NoRoom at)
 
 -- ---- objects
 
@@ -98,25 +75,23 @@ plain ty fields elements = record { ty = ty; fields = fields; elements = element
 
 -- ---- faults
 
-abbrev pub fault_object : Program → ℕ → Pos → Object
-fault_object p kind at = plain fault_type (Int (pos kind) ∷ Int (pos (line_at p at)) ∷ []) []
+abbrev pub fault_object : Program → FaultKind → Pos → Object
+fault_object p kind at = plain fault_type (Int (pos (fault_number kind)) ∷ Int (pos (line_at p at)) ∷ []) []
 
-abbrev pub raise_new : {A : Type 0} → Object → ℕ → Pos → Eval A
+abbrev pub raise_new : {A : Type 0} → Object → FaultKind → Pos → Eval A
 raise_new o kind at = do
   take_room (object_size 2 0)
   number ← add_object o
   stop (Raised (Ref number) kind at)
 
--- The kinds from `overflow` to `assertion` can be caught.
-abbrev pub can_be_caught : ℕ → Bool
-can_be_caught kind = nat_le overflow kind && nat_le kind assertion
-
--- Such a fault raises a new object that tells its kind and its line. Where the room lacks, and of the other kinds, nothing
--- catches it.
-abbrev pub fault : {A : Type 0} → Program → ℕ → Pos → Eval A
+-- A fault that can be caught raises a new object that tells its kind and its line. Where the room lacks for it, and of the
+-- other kinds, nothing catches it.
+abbrev pub fault : {A : Type 0} → Program → FaultKind → Pos → Eval A
 fault p kind at = do
   room ← look (λ s. s.room)
-  if p.faults_raise && can_be_caught kind && nat_le (object_size 2 0) room then raise_new (fault_object p kind at) kind at else stop (Failed kind at)
+  if p.faults_raise && can_be_caught kind && nat_le (object_size 2 0) room
+      then raise_new (fault_object p kind at) kind at
+      else stop (Failed kind at)
 
 -- ---- texts, output and input
 
@@ -170,7 +145,7 @@ abbrev pub leave : ℕ → Activation → Eval (Unit {0})
 leave feature a = change (λ s. record s { here = a; trail = s.trail ++ Leave feature ∷ [] })
 
 abbrev pub checked_depth : Pos → Activation → Eval (Unit {0})
-checked_depth at caller = if nat_le 10000 caller.depth then stop (Failed too_deep at) else pure tt
+checked_depth at caller = if nat_le 10000 caller.depth then stop (Failed fault_kind.TooDeep at) else pure tt
 
 abbrev pub checked_live : Pos → Eval (Unit {0})
-checked_live at = look (λ s. s.live) >>= (λ live. if nat_le 10000 live then stop (Failed frames at) else pure tt)
+checked_live at = look (λ s. s.live) >>= (λ live. if nat_le 10000 live then stop (Failed fault_kind.Frames at) else pure tt)

@@ -1,6 +1,6 @@
 pub mod Bodies
 pub mod Classes
-pub mod Contracts
+pub mod Conditions
 pub mod Features
 pub mod Names
 pub mod Refusals

@@ -52,7 +52,7 @@ impl Clauses {
 }
 
 /// `[pre] [post]`
-pub(crate) fn clauses(
+pub(crate) fn feature_clauses(
     alloc: Global,
     tokens: &Tokens<'_>,
     file_kind: FileKind,

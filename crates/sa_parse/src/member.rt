@@ -18,7 +18,7 @@ ghost use Rattle.sa_parse.specs.Features.{features_of};
 ghost use Rattle.sa_parse_expr.specs.Places.{IsBehind, IsUnexpected};
 
 use crate::body::read_body;
-use crate::contract::{Clauses, clauses, invariant};
+use crate::contract::{Clauses, feature_clauses, invariant};
 use crate::declared::{attr, constants, shared};
 use crate::file::FileKind;
 use crate::include::include;
@@ -199,7 +199,7 @@ fn routine(
     ensures refused { IfErr result (IsUnexpected tokens.now.file) }
 {
     let (sig, next) = sig(alloc, tokens, sharing, from)?;
-    let (clauses, next) = clauses(alloc, tokens, class.file_kind, next)?;
+    let (clauses, next) = feature_clauses(alloc, tokens, class.file_kind, next)?;
     let (body, next) = whole_body(alloc, tokens, next)?;
     let routine = of_sig(sig, access, Part::Routine(body));
     Ok((Declaration::Called(routine, clauses), next))

@@ -7,7 +7,6 @@ use Rattle.sa_tree.specs.declared.refusal.Refusal.{Refusal}
 use Rattle.sa_tree.specs.declared.rule.Rule.TheVariants.{SourceTooLarge}
 use Rattle.sa_read.specs.Read.{HasFile, HasLonger}
 use Rattle.sa_read.specs.declared.program.Program.{Program}
-use Rattle.sa_read.specs.declared.program.TheConstants.{MOST_BYTES}
 
 -- the item at a place, from 0
 abbrev pub at : List (List ℕ) → ℕ → List ℕ
@@ -17,9 +16,9 @@ at items place = slice_index_or items place []
 abbrev pub size : List (List ℕ) → ℕ
 size texts = sum_by length texts
 
--- how many bytes the prelude and the files of a command have at most, together
+-- how many bytes the prelude and the files of a command have at most, together: the files 4 MiB
 abbrev pub most : ℕ
-most = length prelude_text + MOST_BYTES
+most = length prelude_text + 4194304
 
 -- the prelude's text alone
 abbrev pub no_files : Sources

@@ -8,6 +8,6 @@ mod read;
 mod tokens;
 
 pub use front::parse_program;
-pub use program::{MOST_BYTES, Program, read_program};
+pub use program::{MOST_BYTES, Program, prelude, read_program};
 pub use read::{Read, ReadFault, read_file};
 pub use sa_parse::Parsed;

@@ -2,6 +2,7 @@
 
 ghost use Rattle.std.specs.Prelude.{◌<◌, All, length, ◌≡◌, ◌≤◌, ◌⊎◌, ◌++◌, ◌∷◌, [], map, codes, IfOk, OnOk, IsErrOf};
 ghost use Rattle.sa_outside.specs.Faults.{Rose};
+ghost use Rattle.sa_prelude.specs.PreludeText.{prelude_text};
 ghost use Rattle.sa_read.specs.Program.{IsReadFrom, LacksOneOf, no_files, too_large};
 
 use crate::read::{Read, ReadFault, read_file};
@@ -37,7 +38,8 @@ pub fn read_program<S: ReadFiles>(
     ensures read { IfOk result (IsReadFrom (S.files store.old) (map (λ name. name.now) names.now)) }
     ensures short { IfOk result (λ program. All (λ text. length text < 4294967295) program.sources.texts) }
     ensures few { IfOk result (λ program. length program.sources.texts ≤ 65536) }
-    ensures failed { IsErrOf result ReadFault.Failed → Rose (S.faults store.old) (S.faults store.new) ⊎ LacksOneOf (S.files store.old) (map (λ name. name.now) names.now) }
+    ensures failed { IsErrOf result ReadFault.Failed
+        → Rose (S.faults store.old) (S.faults store.new) ⊎ LacksOneOf (S.files store.old) (map (λ name. name.now) names.now) }
     ensures files { S.files store.new ≡ S.files store.old }
     ensures count { S.faults store.old ≤ S.faults store.new }
 {
@@ -61,10 +63,11 @@ pub fn read_program<S: ReadFiles>(
     Ok(Program { sources, cut: None })
 }
 
-/// The prelude's text.
-fn prelude(alloc: Global) -> Result<Sources, AllocError>
+/// The texts of a program of no file: the prelude's alone.
+pub fn prelude(alloc: Global) -> Result<Sources, AllocError>
     ensures value { IfOk result (λ sources. sources ≡ no_files) }
     ensures short { IfOk result (λ sources. All (λ text. length text < 4294967295) sources.texts) }
+    ensures small { IfOk result (λ _. length prelude_text < 8192) }
 {
     let mut names = Items::new(alloc);
     names.push(Name::from_slice(alloc, b"prelude")?)?;

@@ -21,7 +21,7 @@ use Rattle.sa_subtypes_lineage.specs.Kept.{IsEdgeOf, AreWritten}
 use Rattle.sa_subtypes_lineage.specs.Lineages.{Tables, At, class_at, AreArgs, AreTried, IsFound, tables}
 use Rattle.sa_subtypes_pairs.specs.Numbers.{AreNamesOf, number_in}
 use Rattle.sa_subtypes_pairs.specs.Spelled.{count_types, spelled_all}
-use Rattle.sa_subtypes_pairs.specs.Words.{behind}
+use Rattle.sa_subtypes_pairs.specs.Terms.{behind}
 use Rattle.sa_subtypes.specs.Subtypes.{IsEdge, Sub, is_immutable_type, top}
 use Rattle.sa_subtypes.proofs.Bounds.{holds-exact}
 use Rattle.sa_subtypes_lineage.proofs.Tests.{or-cases, or_first, or_second}
@@ -32,9 +32,9 @@ use Rattle.sa_subtypes.proofs.Deciding.{at_types, counts-length, found-decides}
 use Rattle.sa_subtypes.proofs.Declarations.{number_of, all_edges}
 use Rattle.sa_subtypes_lineage.proofs.Lineages.{leads-found, found-leads}
 use Rattle.sa_subtypes.proofs.Members.{Among, among-at}
-use Rattle.sa_subtypes_pairs.proofs.Spelling.{spelled_all-words}
+use Rattle.sa_subtypes_pairs.proofs.Spelling.{spelled_all-terms}
 use Rattle.sa_subtypes.proofs.Steps.{AreEdges, IsAtType, HasLeads, read_at, read-at, leads-chain, chain-leads}
-use Rattle.sa_subtypes.proofs.WordChains.{edge-named}
+use Rattle.sa_subtypes.proofs.TermChains.{edge-named}
 
 -- ---- lists
 
@@ -107,7 +107,7 @@ module _ (flat : Flat) (edges : Edges) (are : AreNamesOf flat.classes edges.line
           let at_place = kept.each place.0 own.0 own.1 in
           (place.0, at_place.edge, at_place.declared, subst (IsEdgeOf (tables edges.lineage) at_place.edge) own.2 at_place.is)
 
-  -- ---- a type as a class at words
+  -- ---- a type as a class at terms
 
   abbrev at-type : (name : List ℕ) (class : ℕ) (args : BareTys) → class_in edges name ≡ Some class → IsAtType flat (tables edges.lineage) (Named name args) (at_types class (types_in args))
   at-type name class args is = record {
@@ -119,8 +119,8 @@ module _ (flat : Flat) (edges : Edges) (are : AreNamesOf flat.classes edges.line
     args = ap spelled_all (types-list args);
   }
 
-  at-words : (args : List BareTy) → AreArgs (length args) (spelled_all (bare_tys args))
-  at-words args = ap (behind (spelled_all (bare_tys args))) (sym (counts-length args)) ∙ spelled_all-words (bare_tys args)
+  at-terms : (args : List BareTy) → AreArgs (length args) (spelled_all (bare_tys args))
+  at-terms args = ap (behind (spelled_all (bare_tys args))) (sym (counts-length args)) ∙ spelled_all-terms (bare_tys args)
 
   reads : (name : List ℕ) (class : ℕ) (args : BareTys) → class_in edges name ≡ Some class → read_at flat (tables edges.lineage) (at_types class (types_in args)) ≡ Named name args
   reads name class args is =
@@ -134,7 +134,7 @@ module _ (flat : Flat) (edges : Edges) (are : AreNamesOf flat.classes edges.line
   between-chain name args other above (Some lower) None e f h = absurd (true≢false (sym h))
   between-chain name args other above (Some lower) (Some upper) e f h =
       let found = (found-decides (tables edges.lineage) tried (types_in args) upper (types_in above) lower).0 h in
-      let leads = found-leads (tables edges.lineage) tried (at_types lower (types_in args)) (at_types upper (types_in above)) (at-words (types_in args)) (at-words (types_in above)) found in
+      let leads = found-leads (tables edges.lineage) tried (at_types lower (types_in args)) (at_types upper (types_in above)) (at-terms (types_in args)) (at-terms (types_in above)) found in
       let chain = leads-chain flat (tables edges.lineage) are-edges leads in
       subst (λ t. Chain (IsEdge flat) (Named name args) t) (reads other upper above f) (subst (λ s. Chain (IsEdge flat) s (read_at flat (tables edges.lineage) (at_types upper (types_in above)))) (reads name lower args e) chain)
 

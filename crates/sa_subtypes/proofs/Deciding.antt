@@ -13,7 +13,7 @@ use Rattle.sa_subtypes.specs.Deciding.{some_place, in_tree, is_by, entry_by, pla
 use Rattle.sa_subtypes_lineage.specs.Lineages.{Tables, At, class_at, pair_of, Line, AreLinked, InList, HasForm, AreTried, InLine, ByList, IsFound}
 use Rattle.sa_subtypes.specs.Questions.{pair_fits}
 use Rattle.sa_subtypes_pairs.specs.Spelled.{count_types, spelled_all, read_types}
-use Rattle.sa_subtypes_pairs.specs.Words.{IsInstance}
+use Rattle.sa_subtypes_pairs.specs.Terms.{IsInstance}
 use Rattle.sa_subtypes_lineage.proofs.Tests.{or-cases, or_first, or_second, both}
 use Rattle.sa_subtypes_lineage.proofs.LineTests.{line-decides}
 use Rattle.sa_subtypes.proofs.PairsFor.{BecomesPair, pair-for}
@@ -31,7 +31,7 @@ not-true : (b : Bool) → not b ≡ true → b ≡ false
 not-true true h = absurd (true≢false (sym h))
 not-true false h = refl
 
--- ---- types and their words
+-- ---- types and their terms
 
 types-true : (ts us : List BareTy) → same_types (bare_tys ts) (bare_tys us) ≡ true → ts ≡ us
 types-true [] [] h = refl
@@ -50,8 +50,8 @@ pub counts-length : (ts : List BareTy) → count_types (bare_tys ts) ≡ length 
 counts-length [] = refl
 counts-length (t ∷ ts) = ap suc (counts-length ts)
 
-words-equal : (ts us : BareTys) → count_types ts ≡ count_types us → spelled_all ts ≡ spelled_all us → ts ≡ us
-words-equal ts us c e = sym (read-spelled_all ts) ∙ ap (λ l. read_types l (count_types ts)) e ∙ ap (read_types (spelled_all us)) c ∙ read-spelled_all us
+terms-equal : (ts us : BareTys) → count_types ts ≡ count_types us → spelled_all ts ≡ spelled_all us → ts ≡ us
+terms-equal ts us c e = sym (read-spelled_all ts) ∙ ap (λ l. read_types l (count_types ts)) e ∙ ap (read_types (spelled_all us)) c ∙ read-spelled_all us
 
 -- a class at these types
 abbrev pub at_types : ℕ → List BareTy → At
@@ -115,7 +115,7 @@ module _ (w : Tables) (tried : AreTried w) where
     in_tree-all lower h =
         let apart : not (nat_eq lower upper) ≡ true = ap not (other_test lower upper h.apart) in
         let counts : count_types (bare_tys args) ≡ count_types (bare_tys above) = counts-length args ∙ h.count ∙ sym (counts-length above) in
-        let same : bare_tys args ≡ bare_tys above = words-equal (bare_tys args) (bare_tys above) counts h.args in
+        let same : bare_tys args ≡ bare_tys above = terms-equal (bare_tys args) (bare_tys above) counts h.args in
         let equal : same_types (bare_tys args) (bare_tys above) ≡ true = ap (same_types (bare_tys args)) (sym same) ∙ types-self (bare_tys args) in
         both _ _ (both _ _ (both _ _ apart (eq-eqb (length args) (w.arity lower) h.arity)) equal) ((line-decides w.links linked lower upper).1 h.line)
 
@@ -132,7 +132,7 @@ module _ (w : Tables) (tried : AreTried w) where
     Becomes nodes n m = (head : List ℕ) × IsInstance nodes (pair_of n (spelled_all (bare_tys args)) head m (spelled_all (bare_tys above)))
 
     becomes-of : (nodes : List Node) → BecomesPair nodes (bare_tys args) (bare_tys above) → Becomes nodes (count_types (bare_tys args)) (count_types (bare_tys above))
-    becomes-of nodes (head, values, words, e) = (head, (values, words, e))
+    becomes-of nodes (head, values, terms, e) = (head, (values, terms, e))
 
     becomes-to : (nodes : List Node) → Becomes nodes (count_types (bare_tys args)) (count_types (bare_tys above)) → BecomesPair nodes (bare_tys args) (bare_tys above)
     becomes-to nodes h = (h.0, (h.1).0, (h.1).1, (h.1).2)

@@ -1,4 +1,4 @@
--- The edges of the relation and those that the classes declare as nodes are the same: each edge of the relation is spelled by the nodes of one that is declared, at words for its variables; and the nodes of each that is declared, at any words, are read as an edge of the relation.
+-- The edges of the relation and those that the classes declare as nodes are the same: each edge of the relation is spelled by the nodes of one that is declared, at terms for its variables; and the nodes of each that is declared, at any terms, are read as an edge of the relation.
 use Rattle.std.proofs.Common.{◌≡◌, inl, inr, ◌≢◌, true≢false, ℕ, zero, suc, ◌+◌, ◌<◌, Bool, true, false, cond, nat_eq, List, [], ◌∷◌, ◌++◌, Option, Some, None, length, flat_map, slice_get, refl, sym, ap, subst, ◌∙◌, arith}
 use Rattle.std.proofs.lemmas.Bool.{eqb-true, eq-eqb}
 use Rattle.std.proofs.lemmas.Option.{none-some, slice_get_within}
@@ -11,7 +11,7 @@ use Rattle.sa_types.specs.AtTypes.{own_type, at_instance}
 use Rattle.sa_types.specs.Substitution.{place_of}
 use Rattle.sa_subtypes_pairs.specs.declared.pattern.Node.{Node}
 use Rattle.sa_subtypes_pairs.specs.declared.pattern.Node.TheVariants as node
-use Rattle.sa_subtypes_pairs.specs.Words.{behind, Values, AreWords, put}
+use Rattle.sa_subtypes_pairs.specs.Terms.{behind, Values, AreTerms, substitute}
 use Rattle.sa_subtypes_pairs.specs.Spelled.{count_types, read_type, read_types}
 use Rattle.sa_subtypes_pairs.specs.Patterns.{pair_nodes, below_nodes, above_nodes, IsNamedIn, head_name}
 use Rattle.sa_subtypes_pairs.specs.Numbers.{class_place}
@@ -22,7 +22,7 @@ use Rattle.sa_subtypes_pairs.proofs.Dressed.{count-all_bare, dress_all, all_bare
 use Rattle.sa_subtypes.proofs.Instances.{bare-at_instance}
 use Rattle.sa_subtypes.proofs.Members.{Among, among_left, among_right, among-append, among-contains, contains-among, among-flat_map, among_from-flat_map}
 use Rattle.sa_subtypes_pairs.proofs.Owns.{readings, count-readings}
-use Rattle.sa_subtypes_pairs.proofs.Patterns.{type_in, args_in, type_in-class, spelled_at, spelled_at-words, put-below, put-above, ReadsAs, read-below, read-above}
+use Rattle.sa_subtypes_pairs.proofs.Patterns.{type_in, args_in, type_in-class, spelled_at, spelled_at-terms, substitute-below, substitute-above, ReadsAs, read-below, read-above}
 
 same_number : (m n : ℕ) → Some m ≡ Some n → m ≡ n
 same_number m n e = cc
@@ -155,7 +155,7 @@ module _ (flat : Flat) where
 
   -- ---- each edge of the relation is declared
 
-  -- the nodes of an edge, at words, spell two types, whose classes have the numbers of the edge
+  -- the nodes of an edge, at terms, spell two types, whose classes have the numbers of the edge
   pub record LeadsFrom (e : EdgeNodes) (s t : BareTy) : Type 0 where
     pub lower : Class
     pub lower_there : slice_get flat.classes e.0 ≡ Some lower
@@ -168,8 +168,8 @@ module _ (flat : Flat) where
     pub upper_args : BareTys
     pub upper_is : t ≡ Named upper.name.name upper_args
     pub values : Values
-    pub words : AreWords values
-    pub spells : put values e.2 ≡ pair_nodes lower_args t
+    pub terms : AreTerms values
+    pub spells : substitute values e.2 ≡ pair_nodes lower_args t
 
   pub record IsDeclared (s t : BareTy) : Type 0 where
     pub edge : EdgeNodes
@@ -209,8 +209,8 @@ module _ (flat : Flat) where
           upper_args = args_in place c.name.name (length c.params) (within c r.0 r.1) given v;
           upper_is = upper ∙ type_in-class place c.name.name (length c.params) (within c r.0 r.1) given v up.is_named ∙ ap (λ m. Named m (args_in place c.name.name (length c.params) (within c r.0 r.1) given v)) (sym up.named);
           values = spelled_at place c.name.name (length c.params) (within c r.0 r.1) given count;
-          words = spelled_at-words place c.name.name (length c.params) (within c r.0 r.1) given count;
-          spells = put-below place c.name.name (length c.params) (within c r.0 r.1) given count v ∙ ap (pair_nodes given) (sym upper);
+          terms = spelled_at-terms place c.name.name (length c.params) (within c r.0 r.1) given count;
+          spells = substitute-below place c.name.name (length c.params) (within c r.0 r.1) given count v ∙ ap (pair_nodes given) (sym upper);
         };
       }
 
@@ -243,8 +243,8 @@ module _ (flat : Flat) where
           upper_args = given;
           upper_is = upper;
           values = spelled_at place c.name.name (length c.params) (within c r.0 r.1) given count;
-          words = spelled_at-words place c.name.name (length c.params) (within c r.0 r.1) given count;
-          spells = put-above place c.name.name (length c.params) (within c r.0 r.1) given count v low.is_named ∙ ap (pair_nodes args) (sym upper);
+          terms = spelled_at-terms place c.name.name (length c.params) (within c r.0 r.1) given count;
+          spells = substitute-above place c.name.name (length c.params) (within c r.0 r.1) given count v low.is_named ∙ ap (pair_nodes args) (sym upper);
         };
       }
 
@@ -253,7 +253,7 @@ module _ (flat : Flat) where
 
   -- ---- each declared edge is one of the relation
 
-  -- the nodes of an edge, which are the list of so many words and a word, are read as an edge of the relation between types whose classes have the numbers of the edge
+  -- the nodes of an edge, which are the list of so many terms and a term, are read as an edge of the relation between types whose classes have the numbers of the edge
   pub record IsReadAs (e : EdgeNodes) (n : ℕ) (l x : List Node) : Type 0 where
     pub lower : Class
     pub lower_there : slice_get flat.classes e.0 ≡ Some lower
@@ -263,8 +263,8 @@ module _ (flat : Flat) where
     pub upper_is : read_type x ≡ Named upper.name.name upper_args
     pub is_edge : IsEdge flat (Named lower.name.name (read_types l n)) (read_type x)
 
-  module _ (c : Class) (own : ℕ) (numbered : IsNumbered flat.classes c.name.name own c) (own_class : IsClass flat c) (values : Values) (words : AreWords values) where
-    -- the types of the instance at what is read of the words
+  module _ (c : Class) (own : ℕ) (numbered : IsNumbered flat.classes c.name.name own c) (own_class : IsClass flat c) (values : Values) (terms : AreTerms values) where
+    -- the types of the instance at what is read of the terms
     given : List Ty
     given = dress_all c.name.pos (readings values (length c.params))
 
@@ -285,13 +285,13 @@ module _ (flat : Flat) where
     number-at : (v : BareTy) (k : ℕ) (at_class : IsClassAt c own numbered v) → class_number number_of (place_of c.params 0) own c.name.name (length c.params) v ≡ Some k → slice_get flat.classes k ≡ Some at_class.of
     number-at v k at_class h = ap (slice_get flat.classes) (same_number k at_class.number (sym h ∙ at_class.class_is)) ∙ at_class.there
 
-    from-up : (u : Ty) → Among u c.below → (e : EdgeNodes) (n : ℕ) (l x : List Node) → behind l n ≡ Some [] → put values e.2 ≡ node.List n ∷ l ++ x → (k : ℕ) → class_number number_of (place_of c.params 0) own c.name.name (length c.params) (bare u) ≡ Some k → (own, k, below_nodes (place_of c.params 0) c.name.name (length c.params) (bare u)) ≡ e → IsReadAs e n l x
+    from-up : (u : Ty) → Among u c.below → (e : EdgeNodes) (n : ℕ) (l x : List Node) → behind l n ≡ Some [] → substitute values e.2 ≡ node.List n ∷ l ++ x → (k : ℕ) → class_number number_of (place_of c.params 0) own c.name.name (length c.params) (bare u) ≡ Some k → (own, k, below_nodes (place_of c.params 0) c.name.name (length c.params) (bare u)) ≡ e → IsReadAs e n l x
     from-up u a e n l x h nodes k is same =
         let v = bare u in
         let place = place_of c.params 0 in
         let inside = class-in c own numbered v k is in
         let up = class-at c own numbered v inside in
-        let reads : ReadsAs place c.name.name (length c.params) (within c own numbered) values words n l x (readings values (length c.params)) (at_types c own numbered (readings values (length c.params)) v) = read-below place c.name.name (length c.params) (within c own numbered) values words v n l x h (ap (λ p. put values p.2) same ∙ nodes) in
+        let reads : ReadsAs place c.name.name (length c.params) (within c own numbered) values terms n l x (readings values (length c.params)) (at_types c own numbered (readings values (length c.params)) v) = read-below place c.name.name (length c.params) (within c own numbered) values terms v n l x h (ap (λ p. substitute values p.2) same ∙ nodes) in
         record {
           lower = c;
           lower_there = ap (λ p. slice_get flat.classes p.0) (sym same) ∙ numbered.there;
@@ -302,14 +302,14 @@ module _ (flat : Flat) where
           is_edge = (c, own_class, inl (given, u, length-given, contains-among c.below u a, inside, ap (Named c.name.name) reads.lower ∙ own-given, reads.upper ∙ instance-given u));
         }
 
-    from-down : (u : Ty) → Among u c.above → (e : EdgeNodes) (n : ℕ) (l x : List Node) → behind l n ≡ Some [] → put values e.2 ≡ node.List n ∷ l ++ x → (k : ℕ) → class_number number_of (place_of c.params 0) own c.name.name (length c.params) (bare u) ≡ Some k → (k, own, above_nodes (place_of c.params 0) c.name.name (length c.params) (bare u)) ≡ e → IsReadAs e n l x
+    from-down : (u : Ty) → Among u c.above → (e : EdgeNodes) (n : ℕ) (l x : List Node) → behind l n ≡ Some [] → substitute values e.2 ≡ node.List n ∷ l ++ x → (k : ℕ) → class_number number_of (place_of c.params 0) own c.name.name (length c.params) (bare u) ≡ Some k → (k, own, above_nodes (place_of c.params 0) c.name.name (length c.params) (bare u)) ≡ e → IsReadAs e n l x
     from-down u a e n l x h nodes k is same =
         let v = bare u in
         let place = place_of c.params 0 in
         let inside = class-in c own numbered v k is in
         let low = class-at c own numbered v inside in
         let args = args_in place c.name.name (length c.params) (within c own numbered) (readings values (length c.params)) v in
-        let reads : ReadsAs place c.name.name (length c.params) (within c own numbered) values words n l x args (Named c.name.name (readings values (length c.params))) = read-above place c.name.name (length c.params) (within c own numbered) values words v n l x low.is_named h (ap (λ p. put values p.2) same ∙ nodes) in
+        let reads : ReadsAs place c.name.name (length c.params) (within c own numbered) values terms n l x args (Named c.name.name (readings values (length c.params))) = read-above place c.name.name (length c.params) (within c own numbered) values terms v n l x low.is_named h (ap (λ p. substitute values p.2) same ∙ nodes) in
         let lower : Named low.of.name.name (read_types l n) ≡ bare (at_instance c given u) = ap (Named low.of.name.name) reads.lower ∙ ap (λ m. Named m args) low.named ∙ sym (type_in-class place c.name.name (length c.params) (within c own numbered) (readings values (length c.params)) v low.is_named) ∙ instance-given u in
         record {
           lower = low.of;
@@ -321,7 +321,7 @@ module _ (flat : Flat) where
           is_edge = (c, own_class, inr (given, u, length-given, contains-among c.above u a, inside, lower, reads.upper ∙ own-given));
         }
 
-    from-below : (e : EdgeNodes) (n : ℕ) (l x : List Node) → behind l n ≡ Some [] → put values e.2 ≡ node.List n ∷ l ++ x → (u : Ty) → Among u c.below → Among e (edge_below number_of (place_of c.params 0) own c.name.name (length c.params) (bare u)) → IsReadAs e n l x
+    from-below : (e : EdgeNodes) (n : ℕ) (l x : List Node) → behind l n ≡ Some [] → substitute values e.2 ≡ node.List n ∷ l ++ x → (u : Ty) → Among u c.below → Among e (edge_below number_of (place_of c.params 0) own c.name.name (length c.params) (bare u)) → IsReadAs e n l x
     from-below e n l x h nodes u a b = go (class_number number_of (place_of c.params 0) own c.name.name (length c.params) (bare u)) refl b
       where
         go : (o : Option ℕ) → class_number number_of (place_of c.params 0) own c.name.name (length c.params) (bare u) ≡ o → Among e (edge_up number_of (place_of c.params 0) own c.name.name (length c.params) (bare u) o) → IsReadAs e n l x
@@ -329,7 +329,7 @@ module _ (flat : Flat) where
         go (Some k) is (inl same) = from-up u a e n l x h nodes k is same
         go (Some k) is (inr m) = absurd m
 
-    from-above : (e : EdgeNodes) (n : ℕ) (l x : List Node) → behind l n ≡ Some [] → put values e.2 ≡ node.List n ∷ l ++ x → (u : Ty) → Among u c.above → Among e (edge_above number_of (place_of c.params 0) own c.name.name (length c.params) (bare u)) → IsReadAs e n l x
+    from-above : (e : EdgeNodes) (n : ℕ) (l x : List Node) → behind l n ≡ Some [] → substitute values e.2 ≡ node.List n ∷ l ++ x → (u : Ty) → Among u c.above → Among e (edge_above number_of (place_of c.params 0) own c.name.name (length c.params) (bare u)) → IsReadAs e n l x
     from-above e n l x h nodes u a b = go (class_number number_of (place_of c.params 0) own c.name.name (length c.params) (bare u)) refl b
       where
         go : (o : Option ℕ) → class_number number_of (place_of c.params 0) own c.name.name (length c.params) (bare u) ≡ o → Among e (edge_down number_of (place_of c.params 0) own c.name.name (length c.params) (bare u) o) → IsReadAs e n l x
@@ -337,7 +337,7 @@ module _ (flat : Flat) where
         go (Some k) is (inl same) = from-down u a e n l x h nodes k is same
         go (Some k) is (inr m) = absurd m
 
-    from-class : (e : EdgeNodes) (n : ℕ) (l x : List Node) → behind l n ≡ Some [] → put values e.2 ≡ node.List n ∷ l ++ x → Among e (edges_in number_of (place_of c.params 0) own c.name.name (length c.params) c.below c.above) → IsReadAs e n l x
+    from-class : (e : EdgeNodes) (n : ℕ) (l x : List Node) → behind l n ≡ Some [] → substitute values e.2 ≡ node.List n ∷ l ++ x → Among e (edges_in number_of (place_of c.params 0) own c.name.name (length c.params) c.below c.above) → IsReadAs e n l x
     from-class e n l x h nodes m =
         let below = λ (u : Ty). edge_below number_of (place_of c.params 0) own c.name.name (length c.params) (bare u) in
         let above = λ (u : Ty). edge_above number_of (place_of c.params 0) own c.name.name (length c.params) (bare u) in
@@ -346,8 +346,8 @@ module _ (flat : Flat) where
           | inr b ↦ (let f = among_from-flat_map above c.above e b in from-above e n l x h nodes f.0 f.1 f.2)
         ]
 
-  pub declared-edge : (e : EdgeNodes) → Among e all_edges → (values : Values) → AreWords values → (n : ℕ) (l x : List Node) → behind l n ≡ Some [] → put values e.2 ≡ node.List n ∷ l ++ x → IsReadAs e n l x
-  declared-edge e a values words n l x h nodes =
+  pub declared-edge : (e : EdgeNodes) → Among e all_edges → (values : Values) → AreTerms values → (n : ℕ) (l x : List Node) → behind l n ≡ Some [] → substitute values e.2 ≡ node.List n ∷ l ++ x → IsReadAs e n l x
+  declared-edge e a values terms n l x h nodes =
       let p = upto-among number_of flat.classes (length flat.classes) e a in
       let c = p.by in
       let o = own-among (number_of c.name.name) p.at_place e (edges_in number_of (place_of c.params 0) p.at_place c.name.name (length c.params) c.below c.above) p.has in
@@ -355,4 +355,4 @@ module _ (flat : Flat) where
       let same : q.0 ≡ c = same_class q.0 c (sym q.2.there ∙ p.there) in
       let own_class : IsClass flat c = q.1 ∙ ap Some same in
       let numbered : IsNumbered flat.classes c.name.name p.at_place c = record { number = o.0; there = p.there; named = refl } in
-      from-class c p.at_place numbered own_class values words e n l x h nodes o.1
+      from-class c p.at_place numbered own_class values terms e n l x h nodes o.1

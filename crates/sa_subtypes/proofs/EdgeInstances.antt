@@ -5,7 +5,7 @@ use Rattle.sa_tree.specs.declared.class.Flat.{Flat}
 use Rattle.sa_tree.specs.Types.{BareTy, Named, BareTys}
 use Rattle.sa_subtypes_pairs.specs.declared.pattern.Node.{Node}
 use Rattle.sa_subtypes_pairs.specs.declared.pattern.Node.TheVariants as node
-use Rattle.sa_subtypes_pairs.specs.Words.{behind, Values, AreWords, put}
+use Rattle.sa_subtypes_pairs.specs.Terms.{behind, Values, AreTerms, substitute}
 use Rattle.sa_subtypes_pairs.specs.Spelled.{count_types, spelled, spelled_all, type_of, first_item, read_type, read_types}
 use Rattle.sa_subtypes_pairs.specs.Edges.{EdgeNodes}
 use Rattle.sa_subtypes.specs.Subtypes.{IsEdge}
@@ -28,8 +28,8 @@ module _ (flat : Flat) where
     pub lower_is : edge.0 ≡ lower
     pub upper_is : edge.1 ≡ upper
     pub values : Values
-    pub words : AreWords values
-    pub to : put values edge.2 ≡ instance
+    pub terms : AreTerms values
+    pub to : substitute values edge.2 ≡ instance
 
   -- the classes with these numbers have an edge at these arguments, where the upper one has this name
   pub record IsEdgeAt (lower upper : ℕ) (name : List ℕ) (args above : BareTys) : Type 0 where
@@ -42,7 +42,7 @@ module _ (flat : Flat) where
 
   pub declares-edge : (lower upper n m : ℕ) (args above : List Node) (name : List ℕ) → behind args n ≡ Some [] → behind above m ≡ Some [] → Declares lower upper (node.List n ∷ args ++ node.Class name m ∷ above) → IsEdgeAt lower upper name (read_types args n) (read_types above m)
   declares-edge lower upper n m args above name h k d =
-      let r = declared-edge flat d.edge d.among d.values d.words n args (node.Class name m ∷ above) h d.to in
+      let r = declared-edge flat d.edge d.among d.values d.terms n args (node.Class name m ∷ above) h d.to in
       let is : read_type (node.Class name m ∷ above) ≡ Named name (read_types above m) = read-Class name m above k in
       record {
         lower_class = r.lower;
@@ -92,7 +92,7 @@ module _ (flat : Flat) where
           lower_is = refl;
           upper_is = refl;
           values = d.leads.values;
-          words = d.leads.words;
+          terms = d.leads.terms;
           to = d.leads.spells ∙ ap (λ l. node.List (count_types args) ∷ spelled_all args ++ l) (ap spelled d.leads.upper_is ∙ spelled-Named d.leads.upper.name.name d.leads.upper_args);
         };
       }

@@ -14,6 +14,6 @@ pub mod Members
 pub mod PairsFor
 pub mod Questions
 pub mod Steps
-pub mod TypeWords
+pub mod TypeTerms
 pub mod Walks
-pub mod WordChains
+pub mod TermChains

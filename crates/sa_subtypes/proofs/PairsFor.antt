@@ -1,4 +1,4 @@
--- The nodes of a pair fit two types exactly where words in place of its variables make it the pair of the two types.
+-- The nodes of a pair fit two types exactly where terms for its variables make it the pair of the two types.
 use Rattle.std.proofs.Common.{◌≡◌, ℕ, ◌+◌, List, [], ◌∷◌, ◌++◌, Some, sym, ap, subst, ◌∙◌}
 use Rattle.std.specs.Prelude.{◌↔◌}
 use Rattle.std.proofs.lemmas.List.{append_cancel_right}
@@ -7,18 +7,18 @@ use Rattle.sa_subtypes_pairs.specs.declared.pattern.Node.{Node}
 use Rattle.sa_subtypes_pairs.specs.declared.pattern.Node.TheVariants as node
 use Rattle.sa_subtypes.specs.Questions.{IsPairFor}
 use Rattle.sa_subtypes_pairs.specs.Spelled.{count_types, spelled_all}
-use Rattle.sa_subtypes_pairs.specs.Words.{behind, Values, AreWords, put}
-use Rattle.sa_subtypes.proofs.TypeWords.{cons-head, cons-tail, all-words}
-use Rattle.sa_subtypes_pairs.proofs.Words.{behind_none, behind-append, behind-put, put-append}
+use Rattle.sa_subtypes_pairs.specs.Terms.{behind, Values, AreTerms, substitute}
+use Rattle.sa_subtypes.proofs.TypeTerms.{cons-head, cons-tail, all-terms}
+use Rattle.sa_subtypes_pairs.proofs.Terms.{behind_none, behind-append, behind-substitute, substitute-append}
 
 -- the pair of two types with these arguments
 abbrev pub pair_for : BareTys → List ℕ → BareTys → List Node
 pair_for lower head upper = node.List (count_types lower) ∷ spelled_all lower ++ node.Class head (count_types upper) ∷ spelled_all upper
 
 abbrev pub BecomesPair : List Node → BareTys → BareTys → Type 0
-BecomesPair nodes lower upper = (head : List ℕ) × (values : Values) × AreWords values × (put values nodes ≡ pair_for lower head upper)
+BecomesPair nodes lower upper = (head : List ℕ) × (values : Values) × AreTerms values × (substitute values nodes ≡ pair_for lower head upper)
 
--- what is behind equally many words of one list is the same
+-- what is behind equally many terms of one list is the same
 rest-equal : (first other rest more : List Node) (n : ℕ) → behind first n ≡ Some [] → behind other n ≡ Some [] → first ++ rest ≡ other ++ more → (first ≡ other) × (rest ≡ more)
 rest-equal first other rest more n h k e =
     let left : behind (first ++ rest) (n + 0) ≡ Some rest = behind-append first rest n 0 h ∙ behind_none rest in
@@ -34,29 +34,29 @@ class-equal : (l k : List ℕ) (m n : ℕ) → node.Class l m ≡ node.Class k n
 class-equal l k m n e = cc
 
 becomes : (nodes : List Node) (lower upper : BareTys) → IsPairFor nodes lower upper → BecomesPair nodes lower upper
-becomes nodes lower upper (name, below, above, values, is, words, first, second) =
+becomes nodes lower upper (name, below, above, values, is, terms, first, second) =
     let last = node.Class name (count_types upper) ∷ above in
-    let whole : put values (below ++ last) ≡ spelled_all lower ++ (node.Class name (count_types upper) ∷ spelled_all upper) =
-    put-append values below last ∙ ap (λ l. l ++ put values last) first ∙ ap (λ l. spelled_all lower ++ (node.Class name (count_types upper) ∷ l)) second in
-    (name, values, words, ap (put values) is ∙ ap (λ l. node.List (count_types lower) ∷ l) whole)
+    let whole : substitute values (below ++ last) ≡ spelled_all lower ++ (node.Class name (count_types upper) ∷ spelled_all upper) =
+    substitute-append values below last ∙ ap (λ l. l ++ substitute values last) first ∙ ap (λ l. spelled_all lower ++ (node.Class name (count_types upper) ∷ l)) second in
+    (name, values, terms, ap (substitute values) is ∙ ap (λ l. node.List (count_types lower) ∷ l) whole)
 
 -- where the nodes are those of a pair
 module _ (nodes : List Node) (name : List ℕ) (count : ℕ) (below : List Node) (m : ℕ) (above : List Node) (is : nodes ≡ node.List count ∷ below ++ node.Class name m ∷ above) (given : behind below count ≡ Some []) where
   fits-as : (lower upper : BareTys) → BecomesPair nodes lower upper → IsPairFor nodes lower upper
-  fits-as lower upper (head, values, words, e) =
+  fits-as lower upper (head, values, terms, e) =
       let n = count_types lower in
       let k = count_types upper in
       let last = node.Class name m ∷ above in
       let ends = node.Class head k ∷ spelled_all upper in
-      let whole : node.List count ∷ (put values below ++ put values last) ≡ node.List n ∷ (spelled_all lower ++ ends) =
-      ap (λ l. node.List count ∷ l) (sym (put-append values below last)) ∙ ap (put values) (sym is) ∙ e in
-      let counts : count ≡ n = list-equal count n (cons-head (node.List count) (node.List n) (put values below ++ put values last) (spelled_all lower ++ ends) whole) in
-      let tails : put values below ++ put values last ≡ spelled_all lower ++ ends = cons-tail (node.List count) (node.List n) (put values below ++ put values last) (spelled_all lower ++ ends) whole in
-      let own : behind (put values below) n ≡ Some [] = ap (behind (put values below)) (sym counts) ∙ behind-put values words below [] count given in
-      let parts = rest-equal (put values below) (spelled_all lower) (put values last) ends n own (all-words lower) tails in
-      let arities : m ≡ k = class-equal name head m k (cons-head (node.Class name m) (node.Class head k) (put values above) (spelled_all upper) parts.1) in
-      let uppers : put values above ≡ spelled_all upper = cons-tail (node.Class name m) (node.Class head k) (put values above) (spelled_all upper) parts.1 in
-      (name, below, above, values, is ∙ ap (λ x. node.List x ∷ (below ++ node.Class name m ∷ above)) counts ∙ ap (λ x. node.List n ∷ (below ++ node.Class name x ∷ above)) arities, words, parts.0, uppers)
+      let whole : node.List count ∷ (substitute values below ++ substitute values last) ≡ node.List n ∷ (spelled_all lower ++ ends) =
+      ap (λ l. node.List count ∷ l) (sym (substitute-append values below last)) ∙ ap (substitute values) (sym is) ∙ e in
+      let counts : count ≡ n = list-equal count n (cons-head (node.List count) (node.List n) (substitute values below ++ substitute values last) (spelled_all lower ++ ends) whole) in
+      let tails : substitute values below ++ substitute values last ≡ spelled_all lower ++ ends = cons-tail (node.List count) (node.List n) (substitute values below ++ substitute values last) (spelled_all lower ++ ends) whole in
+      let own : behind (substitute values below) n ≡ Some [] = ap (behind (substitute values below)) (sym counts) ∙ behind-substitute values terms below [] count given in
+      let parts = rest-equal (substitute values below) (spelled_all lower) (substitute values last) ends n own (all-terms lower) tails in
+      let arities : m ≡ k = class-equal name head m k (cons-head (node.Class name m) (node.Class head k) (substitute values above) (spelled_all upper) parts.1) in
+      let uppers : substitute values above ≡ spelled_all upper = cons-tail (node.Class name m) (node.Class head k) (substitute values above) (spelled_all upper) parts.1 in
+      (name, below, above, values, is ∙ ap (λ x. node.List x ∷ (below ++ node.Class name m ∷ above)) counts ∙ ap (λ x. node.List n ∷ (below ++ node.Class name x ∷ above)) arities, terms, parts.0, uppers)
 
   pub pair-for : (lower upper : BareTys) → IsPairFor nodes lower upper ↔ BecomesPair nodes lower upper
   pair-for lower upper = (becomes nodes lower upper, fits-as lower upper)

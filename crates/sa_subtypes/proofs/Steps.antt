@@ -1,4 +1,4 @@
--- The edges of the tables are the edges of the relation: one or more edges of the tables lead from a class at the words of its arguments to another exactly where edges of the relation lead from type to type.
+-- The edges of the tables are the edges of the relation: one or more edges of the tables lead from a class at the terms of its arguments to another exactly where edges of the relation lead from type to type.
 use Rattle.std.proofs.Common.{◌≡◌, ◌⊎◌, inl, inr, ℕ, List, Some, slice_get, refl, sym, ap, subst, ◌∙◌}
 use Rattle.sa_tree.specs.declared.class.Class.{Class}
 use Rattle.sa_tree.specs.declared.class.Flat.{Flat}
@@ -13,7 +13,7 @@ use Rattle.sa_subtypes.proofs.Chains.{Chain, here, step}
 use Rattle.sa_subtypes.proofs.Declarations.{number_of, all_edges}
 use Rattle.sa_subtypes.proofs.EdgeInstances.{Declares, declares-edge, edge-declares}
 use Rattle.sa_subtypes.proofs.Members.{Among}
-use Rattle.sa_subtypes_pairs.proofs.Spelling.{spelled_all-words, read-spelled_all}
+use Rattle.sa_subtypes_pairs.proofs.Spelling.{spelled_all-terms, read-spelled_all}
 
 same_number : (m n : ℕ) → Some m ≡ Some n → m ≡ n
 same_number m n e = cc
@@ -35,7 +35,7 @@ module _ (flat : Flat) (w : Tables) where
   abbrev pub read_at : At → BareTy
   read_at s = Named (w.name s.class) (read_types s.args s.count)
 
-  -- a type is the class with this number at the words of its arguments
+  -- a type is the class with this number at the terms of its arguments
   pub record IsAtType (t : BareTy) (a : At) : Type 0 where
     pub name : List ℕ
     pub types : BareTys
@@ -68,7 +68,7 @@ module _ (flat : Flat) (w : Tables) where
           lower_is = sym l.2.lower ∙ h.begins;
           upper_is = sym l.2.upper ∙ h.ends;
           values = i.0;
-          words = i.1;
+          terms = i.1;
           to = i.2;
         } in
         let r = declares-edge flat s.class t.class s.count t.count s.args t.args (w.name t.class) h.given h.gives d in
@@ -92,7 +92,7 @@ module _ (flat : Flat) (w : Tables) where
         let d = edge-declares flat s t h in
         let e = are.each d.declares.edge d.declares.among in
         let upper_name : d.upper_class.name.name ≡ w.name d.upper = sym (are.names d.upper d.upper_class d.upper_there) in
-        let instance = (e.3.nodes.same (pair_of (count_types d.args) (spelled_all d.args) d.upper_class.name.name (count_types d.above) (spelled_all d.above))).0 (d.declares.values, d.declares.words, d.declares.to) in
+        let instance = (e.3.nodes.same (pair_of (count_types d.args) (spelled_all d.args) d.upper_class.name.name (count_types d.above) (spelled_all d.above))).0 (d.declares.values, d.declares.terms, d.declares.to) in
         record {
           lower = class_at d.lower (count_types d.args) (spelled_all d.args);
           upper = class_at d.upper (count_types d.above) (spelled_all d.above);
@@ -104,8 +104,8 @@ module _ (flat : Flat) (w : Tables) where
             declared = e.2;
             begins = e.3.lower ∙ d.declares.lower_is;
             ends = e.3.upper ∙ d.declares.upper_is;
-            given = spelled_all-words d.args;
-            gives = spelled_all-words d.above;
+            given = spelled_all-terms d.args;
+            gives = spelled_all-terms d.above;
             instance = (instance.0, instance.1, instance.2 ∙ ap (λ m. pair_of (count_types d.args) (spelled_all d.args) m (count_types d.above) (spelled_all d.above)) upper_name);
           };
         }
@@ -140,7 +140,7 @@ module _ (flat : Flat) (w : Tables) where
     chain-leads here = inl refl
     chain-leads (step {s = s} {t = t} {u = u} e h) = inr (more s t u (edge-step s t e) (chain-leads h))
 
-    -- a type that is a class at words is what is read of them
+    -- a type that is a class at terms is what is read of them
     pub read-at : (t : BareTy) (a : At) (c : Class) → slice_get flat.classes a.class ≡ Some c → (k : IsAtType t a) → c.name.name ≡ k.name → read_at a ≡ t
     read-at t a c there k named =
         ap (λ m. Named m (read_types a.args a.count)) (are.names a.class c there ∙ named)

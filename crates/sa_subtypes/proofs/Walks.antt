@@ -1,4 +1,4 @@
--- A walk over nodes beside types: it comes behind the nodes that become the types with words in place of variables, or to an item that is looked for.
+-- A walk over nodes beside types: it comes behind the nodes that become the types with terms for variables, or to an item that is looked for.
 use Rattle.std.proofs.Common.{◌≡◌, ℕ, ◌+◌, Bool, true, false, true≢false, ◌||◌, ◌&&◌, nat_eq, List, [], ◌∷◌, ◌++◌, Some, refl, sym, ap, subst, ◌∙◌, append_assoc, inl, inr}
 use Rattle.std.specs.Prelude.{◌⊎◌}
 use Rattle.std.specs.Cmp.{first_so, second_so}
@@ -11,11 +11,11 @@ use Rattle.sa_tree.specs.TypeEquality.{same_mode}
 use Rattle.sa_tree.specs.Types.{BareTy, Named, Same, Rout, Iter, BareTys, no_types, type, BareArgs, no_args, arg, BareResult, no_result, gives}
 use Rattle.sa_subtypes_pairs.specs.declared.pattern.Node.{Node}
 use Rattle.sa_subtypes_pairs.specs.declared.pattern.Node.TheVariants as node
-use Rattle.sa_subtypes.specs.Questions.{spelled_args, spelled_result, word_of, is_class, is_list, is_routine, is_iter, is_passed, is_head, Met, a_variable, a_head, another, headed, meets, Seen, found, past, unlike, seen_then, met_then, walk_mode, walk_inside, walk_all, walk_args, walk_result}
+use Rattle.sa_subtypes.specs.Questions.{spelled_args, spelled_result, term_of, is_class, is_list, is_routine, is_iter, is_passed, is_head, Met, a_variable, a_head, another, headed, meets, Seen, found, past, unlike, seen_then, met_then, walk_mode, walk_inside, walk_all, walk_args, walk_result}
 use Rattle.sa_subtypes_pairs.specs.Spelled.{count_types, count_args, count_result, spelled, spelled_all, Item, a_type, a_mode}
-use Rattle.sa_subtypes_pairs.specs.Words.{behind, Values, AreWords, value_of, put, is_variable, comes}
-use Rattle.sa_subtypes.proofs.TypeWords.{item_head, item_inside, word-head, inside, spelled-word, args-words, put-empty, put-split, word-cases}
-use Rattle.sa_subtypes_pairs.proofs.Words.{put-append}
+use Rattle.sa_subtypes_pairs.specs.Terms.{behind, Values, AreTerms, value_of, substitute, is_variable, comes}
+use Rattle.sa_subtypes.proofs.TypeTerms.{item_head, item_inside, term-head, inside, spelled-term, args-terms, substitute-empty, substitute-split, term-cases}
+use Rattle.sa_subtypes_pairs.proofs.Terms.{substitute-append}
 
 -- ---- what is seen
 
@@ -130,33 +130,33 @@ meets-cases i (node.List count ∷ rest) = inr (headed-cases i (node.List count)
 
 -- ---- what a walk has passed becomes the types
 
--- the nodes begin with some that become the word
+-- the nodes begin with some that become the term
 abbrev pub IsCut : Values → List Node → List Node → List Node → Type 0
-IsCut values nodes word rest = (first : List Node) × (nodes ≡ first ++ rest) × (put values first ≡ word)
+IsCut values nodes term rest = (first : List Node) × (nodes ≡ first ++ rest) × (substitute values first ≡ term)
 
 cut-nothing : (values : Values) (nodes rest : List Node) → past nodes ≡ past rest → IsCut values nodes [] rest
 cut-nothing values nodes rest h = ([], past-equal nodes rest h, refl)
 
 cut-append : (values : Values) (nodes between rest one other : List Node) → IsCut values nodes one between → IsCut values between other rest → IsCut values nodes (one ++ other) rest
 cut-append values nodes between rest one other a b =
-    (a.0 ++ b.0, a.1 ∙ ap (λ l. a.0 ++ l) b.1 ∙ sym (append_assoc a.0 b.0 rest), put-append values a.0 b.0 ∙ ap (λ l. l ++ put values b.0) a.2 ∙ ap (λ l. one ++ l) b.2)
+    (a.0 ++ b.0, a.1 ∙ ap (λ l. a.0 ++ l) b.1 ∙ sym (append_assoc a.0 b.0 rest), substitute-append values a.0 b.0 ∙ ap (λ l. l ++ substitute values b.0) a.2 ∙ ap (λ l. one ++ l) b.2)
 
 cut-then : (values : Values) (r : Seen) (next : List Node → Seen) (nodes rest one other : List Node) → ((between : List Node) → r ≡ past between → IsCut values nodes one between) → ((between : List Node) → next between ≡ past rest → IsCut values between other rest) → seen_then r next ≡ past rest → IsCut values nodes (one ++ other) rest
 cut-then values (found i) next nodes rest one other f g h = absurd (found-past i rest h)
 cut-then values (past between) next nodes rest one other f g h = cut-append values nodes between rest one other (f between refl) (g between h)
 cut-then values unlike next nodes rest one other f g h = absurd (unlike-past rest h)
 
-module _ (visit : ℕ → Item → List Node → Seen) (values : Values) (visits : (number : ℕ) (i : Item) (rest next : List Node) → visit number i rest ≡ past next → (next ≡ rest) × (values number ≡ word_of i)) where
-  cut-item : (i : Item) (inner : List Node → Seen) (nodes rest : List Node) → ((next : List Node) → inner next ≡ past rest → IsCut values next (item_inside i) rest) → met_then visit i inner (meets i nodes) ≡ past rest → IsCut values nodes (word_of i) rest
+module _ (visit : ℕ → Item → List Node → Seen) (values : Values) (visits : (number : ℕ) (i : Item) (rest next : List Node) → visit number i rest ≡ past next → (next ≡ rest) × (values number ≡ term_of i)) where
+  cut-item : (i : Item) (inner : List Node → Seen) (nodes rest : List Node) → ((next : List Node) → inner next ≡ past rest → IsCut values next (item_inside i) rest) → met_then visit i inner (meets i nodes) ≡ past rest → IsCut values nodes (term_of i) rest
   cut-item i inner nodes rest f h = go (meets-cases i nodes)
     where
-      go : ((number : ℕ) × (next : List Node) × (nodes ≡ node.Variable number ∷ next) × (meets i nodes ≡ a_variable number next)) ⊎ MeetsHead i nodes (meets i nodes) → IsCut values nodes (word_of i) rest
+      go : ((number : ℕ) × (next : List Node) × (nodes ≡ node.Variable number ∷ next) × (meets i nodes ≡ a_variable number next)) ⊎ MeetsHead i nodes (meets i nodes) → IsCut values nodes (term_of i) rest
       go (inl (number, next, is, m)) =
           let both = visits number i next rest (ap (met_then visit i inner) (sym m) ∙ h) in
           (node.Variable number ∷ [], is ∙ ap (λ l. node.Variable number ∷ l) (sym both.0), append-nil (values number) ∙ both.1)
       go (inr (inl (next, is, m))) =
           let cut = f next (ap (met_then visit i inner) (sym m) ∙ h) in
-          (item_head i ∷ cut.0, is ∙ ap (λ l. item_head i ∷ l) cut.1, ap (λ l. l ++ put values cut.0) (head-itself values i) ∙ ap (λ l. item_head i ∷ l) cut.2 ∙ sym (word-head i))
+          (item_head i ∷ cut.0, is ∙ ap (λ l. item_head i ∷ l) cut.1, ap (λ l. l ++ substitute values cut.0) (head-itself values i) ∙ ap (λ l. item_head i ∷ l) cut.2 ∙ sym (term-head i))
       go (inr (inr m)) = absurd (unlike-past rest (ap (met_then visit i inner) (sym m) ∙ h))
 
   cut-mode : (m : Mode) (nodes rest : List Node) → walk_mode visit m nodes ≡ past rest → IsCut values nodes (node.Passed m ∷ []) rest
@@ -227,18 +227,18 @@ module _ (Past : ℕ → Type 0) (Good : Item → Type 0) where
   outcome-under first more rest r f (inl (e, g)) = inl (e, λ number c. g number (f number c))
   outcome-under first more rest r f (inr h) = inr h
 
-module _ (visit : ℕ → Item → List Node → Seen) (values : Values) (words : AreWords values) (Past : ℕ → Type 0) (Good : Item → Type 0) (visits : (number : ℕ) (i : Item) (rest : List Node) → values number ≡ word_of i → ((visit number i rest ≡ past rest) × Past number) ⊎ ((j : Item) × (visit number i rest ≡ found j) × Good j)) where
-  outcome-empty : (first rest : List Node) → put values first ≡ [] → Outcome Past Good first rest (past (first ++ rest))
-  outcome-empty first rest e = subst (λ l. Outcome Past Good l rest (past (l ++ rest))) (sym (put-empty values words first e)) (outcome-nothing Past Good rest)
+module _ (visit : ℕ → Item → List Node → Seen) (values : Values) (terms : AreTerms values) (Past : ℕ → Type 0) (Good : Item → Type 0) (visits : (number : ℕ) (i : Item) (rest : List Node) → values number ≡ term_of i → ((visit number i rest ≡ past rest) × Past number) ⊎ ((j : Item) × (visit number i rest ≡ found j) × Good j)) where
+  outcome-empty : (first rest : List Node) → substitute values first ≡ [] → Outcome Past Good first rest (past (first ++ rest))
+  outcome-empty first rest e = subst (λ l. Outcome Past Good l rest (past (l ++ rest))) (sym (substitute-empty values terms first e)) (outcome-nothing Past Good rest)
 
-  outcome-parts : (one other : List Node) (n : ℕ) → behind one n ≡ Some [] → (start next : List Node → Seen) → ((first rest : List Node) → put values first ≡ one → Outcome Past Good first rest (start (first ++ rest))) → ((first rest : List Node) → put values first ≡ other → Outcome Past Good first rest (next (first ++ rest))) → (first rest : List Node) → put values first ≡ one ++ other → Outcome Past Good first rest (seen_then (start (first ++ rest)) next)
+  outcome-parts : (one other : List Node) (n : ℕ) → behind one n ≡ Some [] → (start next : List Node → Seen) → ((first rest : List Node) → substitute values first ≡ one → Outcome Past Good first rest (start (first ++ rest))) → ((first rest : List Node) → substitute values first ≡ other → Outcome Past Good first rest (next (first ++ rest))) → (first rest : List Node) → substitute values first ≡ one ++ other → Outcome Past Good first rest (seen_then (start (first ++ rest)) next)
   outcome-parts one other n h start next f g first rest e =
-      let s = put-split values words first one other n h e in
+      let s = substitute-split values terms first one other n h e in
       subst (λ l. Outcome Past Good l rest (seen_then (start (l ++ rest)) next)) (sym s.2)
       (subst (λ l. Outcome Past Good (s.0 ++ s.1) rest (seen_then (start l) next)) (sym (append_assoc s.0 s.1 rest))
       (outcome-then Past Good s.0 s.1 rest (start (s.0 ++ (s.1 ++ rest))) next (f s.0 (s.1 ++ rest) s.3) (g s.1 rest s.4)))
 
-  outcome-variable : (number : ℕ) (i : Item) (inner : List Node → Seen) (rest : List Node) → values number ≡ word_of i → Outcome Past Good (node.Variable number ∷ []) rest (met_then visit i inner (meets i (node.Variable number ∷ rest)))
+  outcome-variable : (number : ℕ) (i : Item) (inner : List Node → Seen) (rest : List Node) → values number ≡ term_of i → Outcome Past Good (node.Variable number ∷ []) rest (met_then visit i inner (meets i (node.Variable number ∷ rest)))
   unfolding meets
   outcome-variable number i inner rest e = go (visits number i rest e)
     where
@@ -251,46 +251,46 @@ module _ (visit : ℕ → Item → List Node → Seen) (values : Values) (words 
       subst (λ m. Outcome Past Good (item_head i ∷ more) rest (met_then visit i inner m)) (sym (meets-head i (more ++ rest)))
       (outcome-under Past Good (item_head i ∷ more) more rest (inner (more ++ rest)) (λ number c. sym (ap (λ b. b || comes number more) (head-unbound number i)) ∙ c) h)
 
-  outcome-item : (i : Item) (inner : List Node → Seen) → ((first rest : List Node) → put values first ≡ item_inside i → Outcome Past Good first rest (inner (first ++ rest))) → (first rest : List Node) → put values first ≡ word_of i → Outcome Past Good first rest (met_then visit i inner (meets i (first ++ rest)))
-  outcome-item i inner f first rest e = go (word-cases values words i first e)
+  outcome-item : (i : Item) (inner : List Node → Seen) → ((first rest : List Node) → substitute values first ≡ item_inside i → Outcome Past Good first rest (inner (first ++ rest))) → (first rest : List Node) → substitute values first ≡ term_of i → Outcome Past Good first rest (met_then visit i inner (meets i (first ++ rest)))
+  outcome-item i inner f first rest e = go (term-cases values terms i first e)
     where
-      go : ((number : ℕ) × (first ≡ node.Variable number ∷ []) × (values number ≡ word_of i)) ⊎ ((more : List Node) × (first ≡ item_head i ∷ more) × (put values more ≡ item_inside i)) → Outcome Past Good first rest (met_then visit i inner (meets i (first ++ rest)))
+      go : ((number : ℕ) × (first ≡ node.Variable number ∷ []) × (values number ≡ term_of i)) ⊎ ((more : List Node) × (first ≡ item_head i ∷ more) × (substitute values more ≡ item_inside i)) → Outcome Past Good first rest (met_then visit i inner (meets i (first ++ rest)))
       go (inl (number, is, v)) = subst (λ l. Outcome Past Good l rest (met_then visit i inner (meets i (l ++ rest)))) (sym is) (outcome-variable number i inner rest v)
       go (inr (more, is, v)) = subst (λ l. Outcome Past Good l rest (met_then visit i inner (meets i (l ++ rest)))) (sym is) (outcome-head i inner more rest (f more rest v))
 
-  outcome-mode : (m : Mode) (first rest : List Node) → put values first ≡ node.Passed m ∷ [] → Outcome Past Good first rest (walk_mode visit m (first ++ rest))
+  outcome-mode : (m : Mode) (first rest : List Node) → substitute values first ≡ node.Passed m ∷ [] → Outcome Past Good first rest (walk_mode visit m (first ++ rest))
   unfolding walk_mode
   outcome-mode m first rest e = outcome-item (a_mode m) past (λ l r k. outcome-empty l r k) first rest e
 
   mutual
     unfolding walk_inside walk_all walk_args walk_result
 
-    outcome-inside : (t : BareTy) (first rest : List Node) → put values first ≡ inside t → Outcome Past Good first rest (walk_inside visit t (first ++ rest))
+    outcome-inside : (t : BareTy) (first rest : List Node) → substitute values first ≡ inside t → Outcome Past Good first rest (walk_inside visit t (first ++ rest))
     outcome-inside (Named name args) first rest e = outcome-all args first rest e
     outcome-inside Same first rest e = outcome-empty first rest e
     outcome-inside (Rout args of) first rest e =
-        outcome-parts (spelled_args args) (spelled_result of) (count_args args) (args-words args) (λ l. walk_args visit args l) (λ l. walk_result visit of l) (λ l r k. outcome-args args l r k) (λ l r k. outcome-result of l r k) first rest e
+        outcome-parts (spelled_args args) (spelled_result of) (count_args args) (args-terms args) (λ l. walk_args visit args l) (λ l. walk_result visit of l) (λ l r k. outcome-args args l r k) (λ l r k. outcome-result of l r k) first rest e
     outcome-inside (Iter args of) first rest e =
-        outcome-parts (spelled_args args) (spelled_result of) (count_args args) (args-words args) (λ l. walk_args visit args l) (λ l. walk_result visit of l) (λ l r k. outcome-args args l r k) (λ l r k. outcome-result of l r k) first rest e
+        outcome-parts (spelled_args args) (spelled_result of) (count_args args) (args-terms args) (λ l. walk_args visit args l) (λ l. walk_result visit of l) (λ l r k. outcome-args args l r k) (λ l r k. outcome-result of l r k) first rest e
 
-    pub outcome-all : (ts : BareTys) (first rest : List Node) → put values first ≡ spelled_all ts → Outcome Past Good first rest (walk_all visit ts (first ++ rest))
+    pub outcome-all : (ts : BareTys) (first rest : List Node) → substitute values first ≡ spelled_all ts → Outcome Past Good first rest (walk_all visit ts (first ++ rest))
     outcome-all no_types first rest e = outcome-empty first rest e
     outcome-all (type t more) first rest e =
-        outcome-parts (spelled t) (spelled_all more) 1 (spelled-word t) (λ l. met_then visit (a_type t) (λ next. walk_inside visit t next) (meets (a_type t) l)) (λ l. walk_all visit more l)
+        outcome-parts (spelled t) (spelled_all more) 1 (spelled-term t) (λ l. met_then visit (a_type t) (λ next. walk_inside visit t next) (meets (a_type t) l)) (λ l. walk_all visit more l)
         (λ l r k. outcome-item (a_type t) (λ next. walk_inside visit t next) (λ m s j. outcome-inside t m s j) l r k)
         (λ l r k. outcome-all more l r k) first rest e
 
-    outcome-args : (xs : BareArgs) (first rest : List Node) → put values first ≡ spelled_args xs → Outcome Past Good first rest (walk_args visit xs (first ++ rest))
+    outcome-args : (xs : BareArgs) (first rest : List Node) → substitute values first ≡ spelled_args xs → Outcome Past Good first rest (walk_args visit xs (first ++ rest))
     outcome-args no_args first rest e = outcome-empty first rest e
     outcome-args (arg m t more) first rest e =
         let step = λ (start : List Node). met_then visit (a_type t) (λ next. walk_inside visit t next) (meets (a_type t) start) in
-        outcome-parts (node.Passed m ∷ spelled t) (spelled_args more) 2 (spelled-word t) (λ l. seen_then (walk_mode visit m l) step) (λ l. walk_args visit more l)
+        outcome-parts (node.Passed m ∷ spelled t) (spelled_args more) 2 (spelled-term t) (λ l. seen_then (walk_mode visit m l) step) (λ l. walk_args visit more l)
         (λ l r k.
         outcome-parts (node.Passed m ∷ []) (spelled t) 1 refl (λ n. walk_mode visit m n) step
         (λ n s j. outcome-mode m n s j)
         (λ n s j. outcome-item (a_type t) (λ next. walk_inside visit t next) (λ o q i. outcome-inside t o q i) n s j) l r k)
         (λ l r k. outcome-args more l r k) first rest e
 
-    outcome-result : (r : BareResult) (first rest : List Node) → put values first ≡ spelled_result r → Outcome Past Good first rest (walk_result visit r (first ++ rest))
+    outcome-result : (r : BareResult) (first rest : List Node) → substitute values first ≡ spelled_result r → Outcome Past Good first rest (walk_result visit r (first ++ rest))
     outcome-result no_result first rest e = outcome-empty first rest e
     outcome-result (gives t) first rest e = outcome-item (a_type t) (λ next. walk_inside visit t next) (λ l s j. outcome-inside t l s j) first rest e

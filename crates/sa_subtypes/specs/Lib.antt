@@ -6,7 +6,7 @@ pub mod Subtypes
 pub use Rattle.sa_subtypes_pairs.specs.Edges
 pub use Rattle.sa_subtypes_pairs.specs.Numbers
 pub use Rattle.sa_subtypes_pairs.specs.Pairs
-pub use Rattle.sa_subtypes_pairs.specs.Words
+pub use Rattle.sa_subtypes_pairs.specs.Terms
 pub use Rattle.sa_subtypes_lineage.specs.Kept
 pub use Rattle.sa_subtypes_lineage.specs.Lineages
 pub use Rattle.sa_subtypes_lineage.specs.Lines

@@ -6,7 +6,7 @@ use Rattle.sa_subtypes_pairs.specs.declared.written.Written.{Written}
 use Rattle.sa_subtypes_pairs.specs.Edges.{edge_of}
 use Rattle.sa_subtypes_lineage.specs.Kept.{IsWrittenAt, AreWritten}
 use Rattle.sa_subtypes_lineage.specs.Lineages.{Tables}
-use Rattle.sa_subtypes_pairs.specs.Words.{SameInstances}
+use Rattle.sa_subtypes_pairs.specs.Terms.{SameInstances}
 use Rattle.sa_subtypes_lineage.proofs.Trials.{all-more, all-of}
 
 -- the written edges that were tried so far

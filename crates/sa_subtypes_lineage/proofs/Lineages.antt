@@ -5,7 +5,7 @@ use Rattle.sa_subtypes_pairs.specs.declared.declared.Edge.{Edge}
 use Rattle.sa_subtypes_lineage.specs.declared.lineage.Above.{Above}
 use Rattle.sa_subtypes_lineage.specs.declared.links.Link.{Link}
 use Rattle.sa_subtypes_pairs.specs.declared.pattern.Node.{Node}
-use Rattle.sa_subtypes_pairs.specs.Words.{IsInstance, IsComposed}
+use Rattle.sa_subtypes_pairs.specs.Terms.{IsInstance, IsComposed}
 use Rattle.sa_subtypes_lineage.specs.Lineages.{Tables, At, class_at, AreArgs, pair_of, Step, Leads, by_edge, by_edges, Line, here, up, IsBelow, IsRoot, IsLinked, KeepsArgs, InList, HasForm, GoesOn, IsCovered, IsCovering, IsListed, IsKeptEdge, IsOwn, HasOwn, GoesOnWith, IsSound, AreTried, InLine, ByList, IsFound}
 use Rattle.sa_subtypes_lineage.proofs.Lines.{same-link, line-over, line-one, line-from, line-to, is-below, line-strict, line-root}
 use Rattle.sa_subtypes_lineage.proofs.Pairs.{form-parts, given-pair, between-composed, kept-instance, kept-parts}
@@ -309,10 +309,10 @@ module _ (w : Tables) (tried : AreTried w) where
           let i = (with.gives.same.same (pair_of n args head m above)).1 instance in
           let mid = between-composed (w.nodes edge.pair) (w.nodes with.second.pair) (w.name edge.upper) sound.above sound.form n args head m above given with.gives.composed with.gives.gives i in
           let parts = form-parts (w.nodes edge.pair) (w.name edge.upper) sound.above sound.form n args (w.name edge.upper) mid.count mid.meet given mid.lower in
-          let rest = earlier with.link.root on.0 with.second with.earlier with.listed mid.count mid.meet head m above u mid.words gives mid.upper (inr (subst (λ x. ByList w (class_at x m above) u) with.upper list)) in
+          let rest = earlier with.link.root on.0 with.second with.earlier with.listed mid.count mid.meet head m above u mid.terms gives mid.upper (inr (subst (λ x. ByList w (class_at x m above) u) with.upper list)) in
           let next = by-root (class_at edge.upper mid.count mid.meet) u with.link with.linked (whole with.link.root with.whole mid.count parts.above_is) rest in
           let own = own-covering entry edge with.own sound.declared in
-          covered-list edge own.top own.form own.covers n args (w.name edge.upper) mid.count mid.meet u given mid.words mid.lower next
+          covered-list edge own.top own.form own.covers n args (w.name edge.upper) mid.count mid.meet u given mid.terms mid.lower next
 
   entry-found : (fuel root place : ℕ) (entry : Above) → place < fuel → InList w root place entry → IsPassed root entry
   entry-found zero root place entry less listed n args head m above u given gives instance h = absurd (omega (arith, less))
@@ -381,7 +381,7 @@ module _ (w : Tables) (tried : AreTried w) where
           let with = on.1 in
           let i = (with.gives.same.same (pair_of n args head m above)).1 instance in
           let mid = between-composed (w.nodes edge.pair) (w.nodes with.second.pair) (w.name edge.upper) sound.above sound.form n args head m above given with.gives.composed with.gives.gives i in
-          let rest = earlier on.0 with.second with.earlier with.listed.is mid.count mid.meet head m above mid.words gives mid.upper in
+          let rest = earlier on.0 with.second with.earlier with.listed.is mid.count mid.meet head m above mid.terms gives mid.upper in
           let parts = form-parts (w.nodes edge.pair) (w.name edge.upper) sound.above sound.form n args (w.name edge.upper) mid.count mid.meet given mid.lower in
           let first : Step w (class_at entry.class n args) (class_at edge.upper mid.count mid.meet) = record {
             number = entry.edge;
@@ -390,10 +390,10 @@ module _ (w : Tables) (tried : AreTried w) where
             begins = sound.begins;
             ends = refl;
             given = given;
-            gives = mid.words;
+            gives = mid.terms;
             instance = mid.lower;
           } in
-          let second = from_root edge.upper with.second.class mid.count mid.meet with.link (class_at with.second.upper m above) with.linked with.listed.owner (whole with (with.whole) mid.count parts.above_is) mid.words rest.leads in
+          let second = from_root edge.upper with.second.class mid.count mid.meet with.link (class_at with.second.upper m above) with.linked with.listed.owner (whole with (with.whole) mid.count parts.above_is) mid.terms rest.leads in
           record {
             head_is = rest.head_is ∙ ap w.name (sym with.upper);
             leads = leads-to (ap (λ x. class_at x m above) (sym with.upper)) (by_edges first second);

@@ -4,10 +4,10 @@ use Rattle.std.proofs.lemmas.Bool.{eqb-true, eq-eqb}
 use Rattle.std.proofs.lemmas.Option.{none-some}
 use Rattle.sa_subtypes_pairs.specs.declared.pattern.Node.{Node}
 use Rattle.sa_subtypes_pairs.specs.declared.pattern.Node.TheVariants as node
-use Rattle.sa_subtypes_pairs.specs.Words.{held, behind, comes, IsWord, Values, AreWords, put, IsInstance, IsInstanceOf, IsGiven, Follows, IsComposed}
+use Rattle.sa_subtypes_pairs.specs.Terms.{held, behind, comes, IsTerm, Values, AreTerms, substitute, IsInstance, IsInstanceOf, IsGiven, Follows, IsComposed}
 use Rattle.sa_subtypes_lineage.specs.Lineages.{AreArgs, pair_of, HasForm, counts, kept}
-use Rattle.sa_subtypes_pairs.proofs.Words.{behind_none, behind-split, behind-put, put-append, put-same}
-use Rattle.sa_subtypes_pairs.proofs.Compositions.{same_words}
+use Rattle.sa_subtypes_pairs.proofs.Terms.{behind_none, behind-split, behind-substitute, substitute-append, substitute-same}
+use Rattle.sa_subtypes_pairs.proofs.Compositions.{same_terms}
 
 class_names : (name other : List ℕ) (n m : ℕ) (l k : List Node) → node.Class name n ∷ l ≡ node.Class other m ∷ k → name ≡ other
 class_names name other n m l k e = cc
@@ -35,7 +35,7 @@ same-parts n args head m above n' args' head' m' above' g g' e =
     let count : n ≡ n' = list_counts n n' (args ++ node.Class head m ∷ above) (args' ++ node.Class head' m' ∷ above') e in
     let rest : args ++ node.Class head m ∷ above ≡ args' ++ node.Class head' m' ∷ above' = tails (node.List n) (node.List n') (args ++ node.Class head m ∷ above) (args' ++ node.Class head' m' ∷ above') e in
     let other : behind args' n ≡ Some [] = ap (behind args') count ∙ g' in
-    let both = same_words args args' (node.Class head m ∷ above) (node.Class head' m' ∷ above') n g other rest in
+    let both = same_terms args args' (node.Class head m ∷ above) (node.Class head' m' ∷ above') n g other rest in
     record {
       count = count;
       args_same = both.0;
@@ -44,13 +44,13 @@ same-parts n args head m above n' args' head' m' above' g g' e =
       above_same = tails (node.Class head m) (node.Class head' m') above above' both.1;
     }
 
--- a list of so many words is a word
-list-word : (n : ℕ) (args : List Node) → AreArgs n args → IsWord (node.List n ∷ args)
-list-word n args g = let e : n + 0 ≡ n = omega arith in ap (behind args) e ∙ g
+-- a list of so many terms is a term
+list-term : (n : ℕ) (args : List Node) → AreArgs n args → IsTerm (node.List n ∷ args)
+list-term n args g = let e : n + 0 ≡ n = omega arith in ap (behind args) e ∙ g
 
--- words in place of the variables of a pair
-pub put-pair : (values : Values) (n : ℕ) (args : List Node) (head : List ℕ) (m : ℕ) (above : List Node) → put values (pair_of n args head m above) ≡ pair_of n (put values args) head m (put values above)
-put-pair values n args head m above = ap (λ l. node.List n ∷ l) (put-append values args (node.Class head m ∷ above))
+-- terms for the variables of a pair
+pub substitute-pair : (values : Values) (n : ℕ) (args : List Node) (head : List ℕ) (m : ℕ) (above : List Node) → substitute values (pair_of n args head m above) ≡ pair_of n (substitute values args) head m (substitute values above)
+substitute-pair values n args head m above = ap (λ l. node.List n ∷ l) (substitute-append values args (node.Class head m ∷ above))
 
 -- an instance of a pair has its counts and its class
 pub record HasParts (n : ℕ) (head : List ℕ) (m : ℕ) (count : ℕ) (name : List ℕ) (above : ℕ) : Type 0 where
@@ -60,8 +60,8 @@ pub record HasParts (n : ℕ) (head : List ℕ) (m : ℕ) (count : ℕ) (name : 
 
 pub form-parts : (nodes : List Node) (name : List ℕ) (top : ℕ) (form : HasForm nodes name top) (n : ℕ) (args : List Node) (head : List ℕ) (m : ℕ) (above : List Node) → AreArgs n args → IsInstance nodes (pair_of n args head m above) → HasParts n head m form.count name top
 form-parts nodes name top form n args head m above g i =
-    let whole : pair_of n args head m above ≡ pair_of form.count (put i.0 form.args) name top (put i.0 form.ends) = sym i.2 ∙ ap (put i.0) form.is ∙ put-pair i.0 form.count form.args name top form.ends in
-    let parts = same-parts n args head m above form.count (put i.0 form.args) name top (put i.0 form.ends) g (behind-put i.0 i.1 form.args [] form.count form.given) whole in
+    let whole : pair_of n args head m above ≡ pair_of form.count (substitute i.0 form.args) name top (substitute i.0 form.ends) = sym i.2 ∙ ap (substitute i.0) form.is ∙ substitute-pair i.0 form.count form.args name top form.ends in
+    let parts = same-parts n args head m above form.count (substitute i.0 form.args) name top (substitute i.0 form.ends) g (behind-substitute i.0 i.1 form.args [] form.count form.given) whole in
     record { count_is = parts.count; head_is = parts.head_same; above_is = parts.count_above }
 
 -- ---- what two pairs give
@@ -76,8 +76,8 @@ given-pair first second r composed n args name m meet head k above g h i j = (co
       count = m;
       args = meet;
       upper = node.Class head k ∷ above;
-      word = list-word n args g;
-      words = h;
+      term = list-term n args g;
+      terms = h;
       begins = refl;
       ends = refl;
       joins = refl;
@@ -87,7 +87,7 @@ given-pair first second r composed n args name m meet head k above g h i j = (co
 pub record Between (first second : List Node) (n : ℕ) (args : List Node) (name : List ℕ) (head : List ℕ) (k : ℕ) (above : List Node) : Type 0 where
   pub count : ℕ
   pub meet : List Node
-  pub words : AreArgs count meet
+  pub terms : AreArgs count meet
   pub lower : IsInstance first (pair_of n args name count meet)
   pub upper : IsInstance second (pair_of count meet head k above)
 
@@ -96,16 +96,16 @@ module _ (first second : List Node) (name : List ℕ) (top : ℕ) (form : HasFor
   between g =
       let t = g.4 in
       let i = g.2 in
-      let p : pair_of form.count (put i.0 form.args) name top (put i.0 form.ends) ≡ t.lower ++ node.Class t.name t.count ∷ t.args = sym (put-pair i.0 form.count form.args name top form.ends) ∙ ap (put i.0) (sym form.is) ∙ i.2 ∙ t.begins in
-      let begin = same_words (node.List form.count ∷ put i.0 form.args) t.lower (node.Class name top ∷ put i.0 form.ends) (node.Class t.name t.count ∷ t.args) 1 (list-word form.count (put i.0 form.args) (behind-put i.0 i.1 form.args [] form.count form.given)) t.word p in
-      let end = same_words (node.List n ∷ args) t.lower (node.Class head k ∷ above) t.upper 1 (list-word n args given) t.word t.joins in
-      let named : t.name ≡ name = sym (class_names name t.name top t.count (put i.0 form.ends) t.args begin.1) in
+      let p : pair_of form.count (substitute i.0 form.args) name top (substitute i.0 form.ends) ≡ t.lower ++ node.Class t.name t.count ∷ t.args = sym (substitute-pair i.0 form.count form.args name top form.ends) ∙ ap (substitute i.0) (sym form.is) ∙ i.2 ∙ t.begins in
+      let begin = same_terms (node.List form.count ∷ substitute i.0 form.args) t.lower (node.Class name top ∷ substitute i.0 form.ends) (node.Class t.name t.count ∷ t.args) 1 (list-term form.count (substitute i.0 form.args) (behind-substitute i.0 i.1 form.args [] form.count form.given)) t.term p in
+      let end = same_terms (node.List n ∷ args) t.lower (node.Class head k ∷ above) t.upper 1 (list-term n args given) t.term t.joins in
+      let named : t.name ≡ name = sym (class_names name t.name top t.count (substitute i.0 form.ends) t.args begin.1) in
       let first_is : g.0 ≡ pair_of n args name t.count t.args = t.begins ∙ ap (λ l. l ++ node.Class t.name t.count ∷ t.args) (sym end.0) ∙ ap (λ x. (node.List n ∷ args) ++ node.Class x t.count ∷ t.args) named in
       let second_is : g.1 ≡ pair_of t.count t.args head k above = t.ends ∙ ap (λ l. node.List t.count ∷ t.args ++ l) (sym end.1) in
       record {
         count = t.count;
         meet = t.args;
-        words = t.words;
+        terms = t.terms;
         lower = subst (IsInstance first) first_is i;
         upper = subst (IsInstance second) second_is g.3;
       }
@@ -115,9 +115,9 @@ module _ (first second : List Node) (name : List ℕ) (top : ℕ) (form : HasFor
 
 -- ---- pairs that keep their arguments
 
-counts-words : (from n : ℕ) → behind (counts from n) n ≡ Some []
-counts-words from zero = refl
-counts-words from (suc n) = let e : 0 + n ≡ n = omega arith in ap (behind (counts (suc from) n)) e ∙ counts-words (suc from) n
+counts-terms : (from n : ℕ) → behind (counts from n) n ≡ Some []
+counts-terms from zero = refl
+counts-terms from (suc n) = let e : 0 + n ≡ n = omega arith in ap (behind (counts (suc from) n)) e ∙ counts-terms (suc from) n
 
 counts-over : (from n k : ℕ) → comes k (counts from n) ≡ true → from ≤ k
 counts-over from zero k h = absurd (true≢false (sym h))
@@ -130,7 +130,7 @@ counts-over from (suc n) k h = go (λ e. counts-over (suc from) n k e) (nat_eq f
 some_lists : (l m : List Node) → Some l ≡ Some m → l ≡ m
 some_lists l m e = cc
 
--- the words behind some of them
+-- the terms behind some of them
 behind-plus : (nodes rest : List Node) (k n : ℕ) → behind nodes (k + n) ≡ Some rest → (m : List Node) × (behind nodes k ≡ Some m) × (behind m n ≡ Some rest)
 behind-plus nodes rest zero n h = let e : 0 + n ≡ n = omega arith in (nodes, behind_none nodes, ap (behind nodes) (sym e) ∙ h)
 behind-plus [] rest (suc k) n h = let e : suc k + n ≡ suc (k + n) = omega arith in absurd (none-some rest (ap (behind []) (sym e) ∙ h))
@@ -139,46 +139,46 @@ behind-plus (a ∷ nodes) rest (suc k) n h =
     let f : held a + (k + n) ≡ (held a + k) + n = omega arith in
     behind-plus nodes rest (held a + k) n (ap (behind nodes) (sym f) ∙ ap (behind (a ∷ nodes)) (sym e) ∙ h)
 
--- one variable stands for the word, and the others for what they stood for
-abbrev with_word : ℕ → List Node → Values → Values
-with_word number word values k = cond (nat_eq k number) word (values k)
+-- one variable stands for the term, and the others for what they stood for
+abbrev with_term : ℕ → List Node → Values → Values
+with_term number term values k = cond (nat_eq k number) term (values k)
 
-with_word-words : (number : ℕ) (word : List Node) (values : Values) → IsWord word → AreWords values → AreWords (with_word number word values)
-with_word-words number word values h words k = go (nat_eq k number)
+with_term-terms : (number : ℕ) (term : List Node) (values : Values) → IsTerm term → AreTerms values → AreTerms (with_term number term values)
+with_term-terms number term values h terms k = go (nat_eq k number)
   where
-    go : (b : Bool) → IsWord (cond b word (values k))
+    go : (b : Bool) → IsTerm (cond b term (values k))
     go true = h
-    go false = words k
+    go false = terms k
 
-with_word-later : (number n : ℕ) (word : List Node) (values : Values) → put (with_word number word values) (counts (suc number) n) ≡ put values (counts (suc number) n)
-with_word-later number n word values = put-same (with_word number word values) values (counts (suc number) n) later
+with_term-later : (number n : ℕ) (term : List Node) (values : Values) → substitute (with_term number term values) (counts (suc number) n) ≡ substitute values (counts (suc number) n)
+with_term-later number n term values = substitute-same (with_term number term values) values (counts (suc number) n) later
   where
-    later : (k : ℕ) → comes k (counts (suc number) n) ≡ true → with_word number word values k ≡ values k
+    later : (k : ℕ) → comes k (counts (suc number) n) ≡ true → with_term number term values k ≡ values k
     later k c = go (nat_eq k number) refl
       where
-        go : (b : Bool) → nat_eq k number ≡ b → cond b word (values k) ≡ values k
+        go : (b : Bool) → nat_eq k number ≡ b → cond b term (values k) ≡ values k
         go true e = let same : k ≡ number = eqb-true k number e in let over = counts-over (suc number) n k c in absurd (omega (arith, same, over))
         go false e = refl
 
-with_word-first : (number n : ℕ) (word : List Node) (values : Values) → put (with_word number word values) (counts number (suc n)) ≡ word ++ put values (counts (suc number) n)
-with_word-first number n word values =
-    ap (λ b. cond b word (values number) ++ put (with_word number word values) (counts (suc number) n)) (eq-eqb number number refl) ∙ ap (λ l. word ++ l) (with_word-later number n word values)
+with_term-first : (number n : ℕ) (term : List Node) (values : Values) → substitute (with_term number term values) (counts number (suc n)) ≡ term ++ substitute values (counts (suc number) n)
+with_term-first number n term values =
+    ap (λ b. cond b term (values number) ++ substitute (with_term number term values) (counts (suc number) n)) (eq-eqb number number refl) ∙ ap (λ l. term ++ l) (with_term-later number n term values)
 
--- words that the variables in order stand for
-pub counts-values : (from n : ℕ) (args : List Node) → AreArgs n args → (values : Values) × AreWords values × (put values (counts from n) ≡ args)
+-- terms that the variables in order stand for
+pub counts-values : (from n : ℕ) (args : List Node) → AreArgs n args → (values : Values) × AreTerms values × (substitute values (counts from n) ≡ args)
 counts-values from zero args g = ((λ k. node.List 0 ∷ []), (λ k. refl), some_lists [] args (sym g ∙ behind_none args))
 counts-values from (suc n) args g =
     let e : suc n ≡ 1 + n = omega arith in
     let plus = behind-plus args [] 1 n (ap (behind args) (sym e) ∙ g) in
     let split = behind-split args plus.0 1 plus.1 in
     let more = counts-values (suc from) n plus.0 plus.2 in
-    (with_word from split.0 more.0, with_word-words from split.0 more.0 split.2 more.1, with_word-first from n split.0 more.0 ∙ ap (λ l. split.0 ++ l) more.2 ∙ sym split.1)
+    (with_term from split.0 more.0, with_term-terms from split.0 more.0 split.2 more.1, with_term-first from n split.0 more.0 ∙ ap (λ l. split.0 ++ l) more.2 ∙ sym split.1)
 
--- each list of so many words is kept
+-- each list of so many terms is kept
 pub kept-instance : (head : List ℕ) (n : ℕ) (args : List Node) → AreArgs n args → IsInstance (kept head n) (pair_of n args head n args)
 kept-instance head n args g =
     let v = counts-values 0 n args g in
-    (v.0, v.1, put-pair v.0 n (counts 0 n) head n (counts 0 n) ∙ ap (λ l. pair_of n l head n l) v.2)
+    (v.0, v.1, substitute-pair v.0 n (counts 0 n) head n (counts 0 n) ∙ ap (λ l. pair_of n l head n l) v.2)
 
 -- and nothing else is an instance
 pub record IsKept (n : ℕ) (count : ℕ) (args : List Node) (m : ℕ) (above : List Node) : Type 0 where
@@ -188,21 +188,21 @@ pub record IsKept (n : ℕ) (count : ℕ) (args : List Node) (m : ℕ) (above : 
 
 pub kept-parts : (name : List ℕ) (n : ℕ) (count : ℕ) (args : List Node) (head : List ℕ) (m : ℕ) (above : List Node) → AreArgs count args → IsInstance (kept name n) (pair_of count args head m above) → IsKept n count args m above
 kept-parts name n count args head m above g i =
-    let own = put i.0 (counts 0 n) in
-    let words : AreArgs n own = behind-put i.0 i.1 (counts 0 n) [] n (counts-words 0 n) in
-    let whole : pair_of count args head m above ≡ pair_of n own name n own = sym i.2 ∙ put-pair i.0 n (counts 0 n) name n (counts 0 n) in
-    let parts = same-parts count args head m above n own name n own g words whole in
+    let own = substitute i.0 (counts 0 n) in
+    let terms : AreArgs n own = behind-substitute i.0 i.1 (counts 0 n) [] n (counts-terms 0 n) in
+    let whole : pair_of count args head m above ≡ pair_of n own name n own = sym i.2 ∙ substitute-pair i.0 n (counts 0 n) name n (counts 0 n) in
+    let parts = same-parts count args head m above n own name n own g terms whole in
     record { count_is = parts.count; above_is = parts.count_above; args_same = parts.args_same ∙ sym parts.above_same }
 
 -- ---- a class without arguments
 
--- words for variables where there are none
-no_words : Values
-no_words k = node.List 0 ∷ []
+-- terms for variables where there are none
+no_terms : Values
+no_terms k = node.List 0 ∷ []
 
-no_words-words : AreWords no_words
-unfolding no_words
-no_words-words k = refl
+no_terms-terms : AreTerms no_terms
+unfolding no_terms
+no_terms-terms k = refl
 
 bare-composed : (head : List ℕ) (rest : List Node) → IsComposed (node.List 0 ∷ node.Class head 0 ∷ []) (node.List 0 ∷ rest) (Some (node.List 0 ∷ rest))
 bare-composed head rest = record { same = λ f. (there f, back f) }
@@ -211,16 +211,16 @@ bare-composed head rest = record { same = λ f. (there f, back f) }
     there f i = (
       node.List 0 ∷ node.Class head 0 ∷ [],
       f,
-      (no_words, no_words-words, refl),
+      (no_terms, no_terms-terms, refl),
       i,
       record {
         lower = node.List 0 ∷ [];
         name = head;
         count = 0;
         args = [];
-        upper = put i.0 rest;
-        word = refl;
-        words = refl;
+        upper = substitute i.0 rest;
+        term = refl;
+        terms = refl;
         begins = refl;
         ends = sym i.2;
         joins = sym i.2;
@@ -230,7 +230,7 @@ bare-composed head rest = record { same = λ f. (there f, back f) }
     back : (f : List Node) → IsGiven (node.List 0 ∷ node.Class head 0 ∷ []) (node.List 0 ∷ rest) f → IsInstance (node.List 0 ∷ rest) f
     back f g =
         let t = g.4 in
-        let both = same_words (node.List 0 ∷ []) t.lower (node.Class head 0 ∷ []) (node.Class t.name t.count ∷ t.args) 1 refl t.word ((g.2).2 ∙ t.begins) in
+        let both = same_terms (node.List 0 ∷ []) t.lower (node.Class head 0 ∷ []) (node.Class t.name t.count ∷ t.args) 1 refl t.term ((g.2).2 ∙ t.begins) in
         let none : [] ≡ t.args = tails (node.Class head 0) (node.Class t.name t.count) [] t.args both.1 in
         let zero_is : 0 ≡ t.count = class_counts head t.name 0 t.count [] t.args both.1 in
         let begin : node.List 0 ∷ t.upper ≡ g.1 = ap (λ n. node.List n ∷ t.upper) zero_is ∙ ap (λ l. node.List t.count ∷ l ++ t.upper) none ∙ sym t.ends in

@@ -9,7 +9,7 @@ use Rattle.sa_subtypes_lineage.specs.declared.lineage.Above.{Above}
 use Rattle.sa_subtypes_lineage.specs.declared.links.Link.{Link}
 use Rattle.sa_subtypes_pairs.specs.declared.pattern.Node.{Node}
 use Rattle.sa_subtypes_pairs.specs.declared.pattern.Node.TheVariants as node
-use Rattle.sa_subtypes_pairs.specs.Words.{behind, IsComposed, SameInstances}
+use Rattle.sa_subtypes_pairs.specs.Terms.{behind, IsComposed, SameInstances}
 use Rattle.sa_subtypes_lineage.specs.Lineages.{Tables, counts, kept, HasForm, IsBare, BeginsBare, GivesPair, GoesOn, GoesOnWith, InList, IsBelow, IsRoot, IsLinked, AreLinked, IsTriedLink, KeepsArgs, IsCovered, IsCoveredAt, AreCovered, IsGivenIn, IsCovering, IsListed, IsKeptEdge, IsOwn, HasOwn, IsSound, AreTriedLinks, AreTriedEdges, AreTriedLists, AreTried}
 use Rattle.sa_subtypes_pairs.proofs.Compositions.{cut-first, cut-second}
 use Rattle.sa_subtypes_lineage.proofs.Pairs.{bare-gives}
@@ -58,9 +58,9 @@ cut-tail : (l m k nodes : List Node) → l ++ m ≡ nodes → nodes ≡ l ++ k �
 cut-tail l m k nodes e f = append_cancel_left l m k (e ∙ f)
 
 pub has-form : (nodes : List Node) (end last : ℕ) (a b : Node) (head name : List ℕ) (count above : ℕ) (r : Bool) → behind (drop 0 nodes) 1 ≡ Some (drop end nodes) → end ≤ length nodes → end ≢ length nodes → end ≢ 0 → behind (drop end nodes) 1 ≡ Some (drop last nodes) → last ≡ length nodes → a ≡ get_or nodes end a → a ≡ node.Class head above → b ≡ get_or nodes 0 b → b ≡ node.List count → r ≡ pointwise nat_eq head name → r ≡ true → HasForm nodes name above
-has-form nodes end last a b head name count above r first within left some_words second whole e is f begin g h =
+has-form nodes end last a b head name count above r first within left some_terms second whole e is f begin g h =
     let less : end < length nodes = omega (arith, within, left) in
-    let least : 1 ≤ end = omega (arith, some_words) in
+    let least : 1 ≤ end = omega (arith, some_terms) in
     let any : 0 < length nodes = omega (arith, less) in
     let one = cut-second nodes end count b first least any f begin in
     let two = cut-first nodes end above head a first less e is in

@@ -4,7 +4,7 @@ use Rattle.sa_subtypes_pairs.specs.declared.declared.Edge.{Edge}
 use Rattle.sa_subtypes_pairs.specs.declared.written.Written.{Written}
 use Rattle.sa_subtypes_pairs.specs.Edges.{EdgeNodes, edge_of}
 use Rattle.sa_subtypes_lineage.specs.Lineages.{Tables}
-use Rattle.sa_subtypes_pairs.specs.Words.{SameInstances}
+use Rattle.sa_subtypes_pairs.specs.Terms.{SameInstances}
 
 -- an edge of the tables is a declared one
 pub record IsEdgeOf (w : Tables) (edge : Edge) (e : EdgeNodes) : Type 0 where

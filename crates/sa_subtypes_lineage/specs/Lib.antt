@@ -4,4 +4,4 @@ pub mod Lines
 pub use Rattle.sa_subtypes_pairs.specs.Edges
 pub use Rattle.sa_subtypes_pairs.specs.Numbers
 pub use Rattle.sa_subtypes_pairs.specs.Pairs
-pub use Rattle.sa_subtypes_pairs.specs.Words
+pub use Rattle.sa_subtypes_pairs.specs.Terms

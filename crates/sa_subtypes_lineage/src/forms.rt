@@ -4,7 +4,7 @@ ghost use Rattle.std.specs.Prelude.{◌≡◌, ◌++◌, IfOk, IsTrue, nat_eq};
 ghost use Rattle.std.specs.Cmp.Lexicographic.{pointwise};
 ghost use Rattle.sa_subtypes_lineage.specs.Lineages.{BeginsBare, HasForm, IsBare, counts, kept};
 
-use sa_subtypes_pairs::{Node, word_end};
+use sa_subtypes_pairs::{Node, term_end};
 use sa_tree::{Name, NoMemory};
 use std::alloc::Global;
 
@@ -13,7 +13,7 @@ use std::alloc::Global;
 pub(crate) fn try_form(nodes: &[Node], name: &[u8]) -> Result<u32, NoMemory>
     ensures { IfOk result (λ above. HasForm nodes.now name.now above) }
 {
-    let Some(end) = word_end(nodes, 0) else {
+    let Some(end) = term_end(nodes, 0) else {
         return Err(NoMemory);
     };
     if end == nodes.len() {
@@ -22,7 +22,7 @@ pub(crate) fn try_form(nodes: &[Node], name: &[u8]) -> Result<u32, NoMemory>
     if end == 0 {
         return Err(NoMemory);
     }
-    let Some(last) = word_end(nodes, end) else {
+    let Some(last) = term_end(nodes, end) else {
         return Err(NoMemory);
     };
     if last != nodes.len() {

@@ -25,7 +25,7 @@ append-one xs ys a = append_assoc xs (a ∷ []) ys
 pub append-parts : (xs ys zs : List Node) (a : Node) → ((xs ++ a ∷ []) ++ ys) ++ zs ≡ xs ++ a ∷ ys ++ zs
 append-parts xs ys zs a = simp append_assoc
 
--- ---- how many words the parts take
+-- ---- how many terms the parts take
 
 pub count-all_bare_args : (args : List ModeTy) → count_args (all_bare_args args) ≡ 2 * length args
 count-all_bare_args [] = refl

@@ -13,4 +13,4 @@ pub mod Readings
 pub mod Renumbering
 pub mod Rounds
 pub mod Spelling
-pub mod Words
+pub mod Terms

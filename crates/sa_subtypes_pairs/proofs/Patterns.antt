@@ -1,16 +1,16 @@
--- The nodes of a declared edge at an instance: with the words that spell the types of an instance they spell the two types of the edge there, and with any words they are read as the two types at what is read of the words.
+-- The nodes of a declared edge at an instance: with the terms that spell the types of an instance they spell the two types of the edge there, and with any terms they are read as the two types at what is read of the terms.
 use Rattle.std.proofs.Common.{◌≡◌, ℕ, ◌+◌, ◌<◌, List, [], ◌∷◌, ◌++◌, Option, None, Some, refl, sym, ap, ◌∙◌, arith}
 use Rattle.std.proofs.lemmas.List.{append-nil, append_cancel_right}
 use Rattle.std.specs.Option.{option_map}
 use Rattle.sa_tree.specs.Types.{BareTy, Named, Same, Rout, Iter, BareTys, no_types, type}
 use Rattle.sa_subtypes_pairs.specs.declared.pattern.Node.{Node}
 use Rattle.sa_subtypes_pairs.specs.declared.pattern.Node.TheVariants as node
-use Rattle.sa_subtypes_pairs.specs.Words.{behind, Values, AreWords, put}
+use Rattle.sa_subtypes_pairs.specs.Terms.{behind, Values, AreTerms, substitute}
 use Rattle.sa_subtypes_pairs.specs.Spelled.{count_types, variables, own_nodes, alone, written, written_all, spelled, spelled_all, standing, instance, instance_all, read_type, read_types}
 use Rattle.sa_subtypes_pairs.specs.Patterns.{pair_nodes, below_nodes, lower_nodes, above_nodes, IsNamedIn, head_name}
-use Rattle.sa_subtypes_pairs.proofs.Words.{behind_none, behind-append, behind-put, put-append}
-use Rattle.sa_subtypes_pairs.proofs.Spelling.{count-instance_all, written_all-words, put-written, put-written_all, read-written, read-written_all, spelled-word}
-use Rattle.sa_subtypes_pairs.proofs.Owns.{type_at, readings, type_at-readings, own-word, put-variables, put-variables-words, read-variables, put-own, read-own}
+use Rattle.sa_subtypes_pairs.proofs.Terms.{behind_none, behind-append, behind-substitute, substitute-append}
+use Rattle.sa_subtypes_pairs.proofs.Spelling.{count-instance_all, written_all-terms, substitute-written, substitute-written_all, read-written, read-written_all, spelled-term}
+use Rattle.sa_subtypes_pairs.proofs.Owns.{type_at, readings, type_at-readings, own-term, substitute-variables, substitute-variables-terms, read-variables, substitute-own, read-own}
 
 -- ---- two ways to part the nodes are one
 
@@ -67,88 +67,88 @@ module _ (place : List ℕ → Option ℕ) (name : List ℕ) (arity : ℕ) (with
   type_in-class given (Rout args of) h = absurd h
   type_in-class given (Iter args of) h = absurd h
 
-  -- ---- with the words that spell the types of an instance
+  -- ---- with the terms that spell the types of an instance
 
   module _ (given : BareTys) (count : count_types given ≡ arity) where
     abbrev pub spelled_at : Values
     spelled_at k = spelled (type_at given k)
 
-    pub spelled_at-words : AreWords spelled_at
-    spelled_at-words k = spelled-word (type_at given k)
+    pub spelled_at-terms : AreTerms spelled_at
+    spelled_at-terms k = spelled-term (type_at given k)
 
-    put-alone : (p : Option ℕ) (m : List ℕ) → put spelled_at (alone p m) ≡ spelled (standing (option_map (type_at given) p) m)
-    put-alone None m = refl
-    put-alone (Some k) m = append-nil (spelled (type_at given k))
+    substitute-alone : (p : Option ℕ) (m : List ℕ) → substitute spelled_at (alone p m) ≡ spelled (standing (option_map (type_at given) p) m)
+    substitute-alone None m = refl
+    substitute-alone (Some k) m = append-nil (spelled (type_at given k))
 
-    put-params : put spelled_at (variables arity) ≡ spelled_all given
-    put-params = ap (λ n. put spelled_at (variables n)) (sym count) ∙ put-variables spelled_at given (λ k _. refl)
+    substitute-params : substitute spelled_at (variables arity) ≡ spelled_all given
+    substitute-params = ap (λ n. substitute spelled_at (variables n)) (sym count) ∙ substitute-variables spelled_at given (λ k _. refl)
 
-    put-class : put spelled_at (own_nodes name arity) ≡ spelled (Named name given)
-    put-class = ap (λ n. put spelled_at (own_nodes name n)) (sym count) ∙ put-own spelled_at name given (λ k _. refl)
+    substitute-class : substitute spelled_at (own_nodes name arity) ≡ spelled (Named name given)
+    substitute-class = ap (λ n. substitute spelled_at (own_nodes name n)) (sym count) ∙ substitute-own spelled_at name given (λ k _. refl)
 
-    pub put-below : (u : BareTy) → put spelled_at (below_nodes place name arity u) ≡ pair_nodes given (type_in given u)
-    put-below u =
-        ap (λ l. node.List arity ∷ l) (put-append spelled_at (variables arity) (written place (own_nodes name arity) u))
-        ∙ ap (λ l. node.List arity ∷ l ++ put spelled_at (written place (own_nodes name arity) u)) put-params
-        ∙ ap (λ l. node.List arity ∷ spelled_all given ++ l) (put-written place (own_nodes name arity) spelled_at (value_at given) (Named name given) (λ m. put-alone (place m) m) put-class u)
+    pub substitute-below : (u : BareTy) → substitute spelled_at (below_nodes place name arity u) ≡ pair_nodes given (type_in given u)
+    substitute-below u =
+        ap (λ l. node.List arity ∷ l) (substitute-append spelled_at (variables arity) (written place (own_nodes name arity) u))
+        ∙ ap (λ l. node.List arity ∷ l ++ substitute spelled_at (written place (own_nodes name arity) u)) substitute-params
+        ∙ ap (λ l. node.List arity ∷ spelled_all given ++ l) (substitute-written place (own_nodes name arity) spelled_at (value_at given) (Named name given) (λ m. substitute-alone (place m) m) substitute-class u)
         ∙ ap (λ n. node.List n ∷ spelled_all given ++ spelled (type_in given u)) (sym count)
 
-    put-lower : (u : BareTy) → IsNamedIn place name arity u → put spelled_at (lower_nodes place name arity u) ≡ node.List (count_types (args_in given u)) ∷ spelled_all (args_in given u)
-    put-lower (Named other args) h =
-        ap (λ l. node.List (count_types args) ∷ l) (put-written_all place (own_nodes name arity) spelled_at (value_at given) (Named name given) (λ m. put-alone (place m) m) put-class args)
+    substitute-lower : (u : BareTy) → IsNamedIn place name arity u → substitute spelled_at (lower_nodes place name arity u) ≡ node.List (count_types (args_in given u)) ∷ spelled_all (args_in given u)
+    substitute-lower (Named other args) h =
+        ap (λ l. node.List (count_types args) ∷ l) (substitute-written_all place (own_nodes name arity) spelled_at (value_at given) (Named name given) (λ m. substitute-alone (place m) m) substitute-class args)
         ∙ ap (λ n. node.List n ∷ spelled_all (instance_all (value_at given) (Named name given) args)) (sym (count-instance_all (value_at given) (Named name given) args))
-    put-lower Same h = ap (λ l. node.List arity ∷ l) put-params ∙ ap (λ n. node.List n ∷ spelled_all given) (sym count)
-    put-lower (Rout args of) h = absurd h
-    put-lower (Iter args of) h = absurd h
+    substitute-lower Same h = ap (λ l. node.List arity ∷ l) substitute-params ∙ ap (λ n. node.List n ∷ spelled_all given) (sym count)
+    substitute-lower (Rout args of) h = absurd h
+    substitute-lower (Iter args of) h = absurd h
 
-    pub put-above : (u : BareTy) → IsNamedIn place name arity u → put spelled_at (above_nodes place name arity u) ≡ pair_nodes (args_in given u) (Named name given)
-    put-above u h =
-        put-append spelled_at (lower_nodes place name arity u) (own_nodes name arity)
-        ∙ ap (λ l. l ++ put spelled_at (own_nodes name arity)) (put-lower u h)
-        ∙ ap (λ l. node.List (count_types (args_in given u)) ∷ spelled_all (args_in given u) ++ l) put-class
+    pub substitute-above : (u : BareTy) → IsNamedIn place name arity u → substitute spelled_at (above_nodes place name arity u) ≡ pair_nodes (args_in given u) (Named name given)
+    substitute-above u h =
+        substitute-append spelled_at (lower_nodes place name arity u) (own_nodes name arity)
+        ∙ ap (λ l. l ++ substitute spelled_at (own_nodes name arity)) (substitute-lower u h)
+        ∙ ap (λ l. node.List (count_types (args_in given u)) ∷ spelled_all (args_in given u) ++ l) substitute-class
 
-  -- ---- with any words
+  -- ---- with any terms
 
-  module _ (values : Values) (words : AreWords values) where
-    read-alone : (p : Option ℕ) (m : List ℕ) → ((k : ℕ) → p ≡ Some k → k < arity) → read_type (put values (alone p m)) ≡ standing (option_map (type_at (readings values arity)) p) m
+  module _ (values : Values) (terms : AreTerms values) where
+    read-alone : (p : Option ℕ) (m : List ℕ) → ((k : ℕ) → p ≡ Some k → k < arity) → read_type (substitute values (alone p m)) ≡ standing (option_map (type_at (readings values arity)) p) m
     read-alone None m h = refl
     read-alone (Some k) m h = ap read_type (append-nil (values k)) ∙ sym (type_at-readings values arity k (h k refl))
 
-    read-in : (u : BareTy) → read_type (put values (written place (own_nodes name arity) u)) ≡ type_in (readings values arity) u
+    read-in : (u : BareTy) → read_type (substitute values (written place (own_nodes name arity) u)) ≡ type_in (readings values arity) u
     read-in u =
-        read-written place (own_nodes name arity) (own-word name arity) values words (value_at (readings values arity)) (Named name (readings values arity)) (λ m. read-alone (place m) m (within m)) (read-own values words name arity) u
+        read-written place (own_nodes name arity) (own-term name arity) values terms (value_at (readings values arity)) (Named name (readings values arity)) (λ m. read-alone (place m) m (within m)) (read-own values terms name arity) u
 
-    read-args : (args : BareTys) → read_types (put values (written_all place (own_nodes name arity) args)) (count_types args) ≡ instance_all (value_at (readings values arity)) (Named name (readings values arity)) args
+    read-args : (args : BareTys) → read_types (substitute values (written_all place (own_nodes name arity) args)) (count_types args) ≡ instance_all (value_at (readings values arity)) (Named name (readings values arity)) args
     read-args args =
-        read-written_all place (own_nodes name arity) (own-word name arity) values words (value_at (readings values arity)) (Named name (readings values arity)) (λ m. read-alone (place m) m (within m)) (read-own values words name arity) args
+        read-written_all place (own_nodes name arity) (own-term name arity) values terms (value_at (readings values arity)) (Named name (readings values arity)) (λ m. read-alone (place m) m (within m)) (read-own values terms name arity) args
 
-    -- the nodes are the list of so many words and then a word: the types that these are read as
+    -- the nodes are the list of so many terms and then a term: the types that these are read as
     pub record ReadsAs (n : ℕ) (l x : List Node) (args : BareTys) (t : BareTy) : Type 0 where
       pub lower : read_types l n ≡ args
       pub upper : read_type x ≡ t
 
-    pub read-below : (u : BareTy) (n : ℕ) (l x : List Node) → behind l n ≡ Some [] → put values (below_nodes place name arity u) ≡ node.List n ∷ l ++ x → ReadsAs n l x (readings values arity) (type_in (readings values arity) u)
+    pub read-below : (u : BareTy) (n : ℕ) (l x : List Node) → behind l n ≡ Some [] → substitute values (below_nodes place name arity u) ≡ node.List n ∷ l ++ x → ReadsAs n l x (readings values arity) (type_in (readings values arity) u)
     read-below u n l x h e =
-        let vars = put values (variables arity) in
-        let upper = put values (written place (own_nodes name arity) u) in
-        let same : SameParts arity n vars l upper x = parts-equal arity n vars l upper x (put-variables-words values words arity) h (ap (λ r. node.List arity ∷ r) (sym (put-append values (variables arity) (written place (own_nodes name arity) u))) ∙ e) in
+        let vars = substitute values (variables arity) in
+        let upper = substitute values (written place (own_nodes name arity) u) in
+        let same : SameParts arity n vars l upper x = parts-equal arity n vars l upper x (substitute-variables-terms values terms arity) h (ap (λ r. node.List arity ∷ r) (sym (substitute-append values (variables arity) (written place (own_nodes name arity) u))) ∙ e) in
         record {
-          lower = ap (λ r. read_types r n) (sym same.args) ∙ ap (read_types vars) (sym same.counts) ∙ read-variables values words arity;
+          lower = ap (λ r. read_types r n) (sym same.args) ∙ ap (read_types vars) (sym same.counts) ∙ read-variables values terms arity;
           upper = ap read_type (sym same.upper) ∙ read-in u;
         }
 
-    read-above-at : (count n : ℕ) (lower l x : List Node) (args : BareTys) → behind (put values lower) count ≡ Some [] → read_types (put values lower) count ≡ args → behind l n ≡ Some [] → put values ((node.List count ∷ lower) ++ own_nodes name arity) ≡ node.List n ∷ l ++ x → ReadsAs n l x args (Named name (readings values arity))
+    read-above-at : (count n : ℕ) (lower l x : List Node) (args : BareTys) → behind (substitute values lower) count ≡ Some [] → read_types (substitute values lower) count ≡ args → behind l n ≡ Some [] → substitute values ((node.List count ∷ lower) ++ own_nodes name arity) ≡ node.List n ∷ l ++ x → ReadsAs n l x args (Named name (readings values arity))
     read-above-at count n lower l x args k r h e =
-        let upper = put values (own_nodes name arity) in
-        let same : SameParts count n (put values lower) l upper x = parts-equal count n (put values lower) l upper x k h (ap (λ q. node.List count ∷ q) (sym (put-append values lower (own_nodes name arity))) ∙ e) in
+        let upper = substitute values (own_nodes name arity) in
+        let same : SameParts count n (substitute values lower) l upper x = parts-equal count n (substitute values lower) l upper x k h (ap (λ q. node.List count ∷ q) (sym (substitute-append values lower (own_nodes name arity))) ∙ e) in
         record {
-          lower = ap (λ q. read_types q n) (sym same.args) ∙ ap (read_types (put values lower)) (sym same.counts) ∙ r;
-          upper = ap read_type (sym same.upper) ∙ read-own values words name arity;
+          lower = ap (λ q. read_types q n) (sym same.args) ∙ ap (read_types (substitute values lower)) (sym same.counts) ∙ r;
+          upper = ap read_type (sym same.upper) ∙ read-own values terms name arity;
         }
 
-    pub read-above : (u : BareTy) (n : ℕ) (l x : List Node) → IsNamedIn place name arity u → behind l n ≡ Some [] → put values (above_nodes place name arity u) ≡ node.List n ∷ l ++ x → ReadsAs n l x (args_in (readings values arity) u) (Named name (readings values arity))
+    pub read-above : (u : BareTy) (n : ℕ) (l x : List Node) → IsNamedIn place name arity u → behind l n ≡ Some [] → substitute values (above_nodes place name arity u) ≡ node.List n ∷ l ++ x → ReadsAs n l x (args_in (readings values arity) u) (Named name (readings values arity))
     read-above (Named other args) n l x c h e =
-        read-above-at (count_types args) n (written_all place (own_nodes name arity) args) l x (args_in (readings values arity) (Named other args)) (behind-put values words (written_all place (own_nodes name arity) args) [] (count_types args) (written_all-words place (own_nodes name arity) (own-word name arity) args)) (read-args args) h e
-    read-above Same n l x c h e = read-above-at arity n (variables arity) l x (readings values arity) (put-variables-words values words arity) (read-variables values words arity) h e
+        read-above-at (count_types args) n (written_all place (own_nodes name arity) args) l x (args_in (readings values arity) (Named other args)) (behind-substitute values terms (written_all place (own_nodes name arity) args) [] (count_types args) (written_all-terms place (own_nodes name arity) (own-term name arity) args)) (read-args args) h e
+    read-above Same n l x c h e = read-above-at arity n (variables arity) l x (readings values arity) (substitute-variables-terms values terms arity) (read-variables values terms arity) h e
     read-above (Rout args of) n l x c h e = absurd c
     read-above (Iter args of) n l x c h e = absurd c

@@ -5,8 +5,8 @@ use Rattle.std.proofs.Math.Seq.{drop-length, take-suc}
 use Rattle.std.proofs.lemmas.Bool.{eqb-true}
 use Rattle.sa_subtypes_pairs.specs.declared.pattern.Node.{Node}
 use Rattle.sa_subtypes_pairs.specs.declared.pattern.Node.TheVariants as node
-use Rattle.sa_subtypes_pairs.specs.Words.{after, comes, Differ, free, is_variable}
-use Rattle.sa_subtypes_pairs.proofs.Words.{behind_none}
+use Rattle.sa_subtypes_pairs.specs.Terms.{after, comes, Differ, free, is_variable}
+use Rattle.sa_subtypes_pairs.proofs.Terms.{behind_none}
 
 pub comes-drop : (number : ℕ) (nodes : List Node) (i : ℕ) (a : Node) → i < length nodes → a ≡ get_or nodes i a → comes number (drop i nodes) ≡ (is_variable number a || comes number (drop (i + 1) nodes))
 comes-drop number nodes i a h e = rw (add-one, drop-cons nodes i a, ← e)

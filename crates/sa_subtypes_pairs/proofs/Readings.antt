@@ -1,23 +1,23 @@
--- How words are read: a word is one item, and words one after the other are read one by one.
+-- How terms are read: a term is one item, and terms one after the other are read one by one.
 use Rattle.std.proofs.Common.{◌≡◌, ℕ, zero, suc, ◌+◌, ◌-◌, ◌≤◌, List, [], ◌∷◌, ◌++◌, Some, length, take, drop, refl, sym, ap, ◌∙◌, arith, length-drop}
 use Rattle.std.proofs.Math.ListN.{drop_of_length-le}
 use Rattle.std.proofs.Math.Seq.{take-length}
 use Rattle.std.proofs.lemmas.List.{take-append-le, drop-append-le}
 use Rattle.std.proofs.lemmas.Option.{none-some}
 use Rattle.sa_subtypes_pairs.specs.declared.pattern.Node.{Node}
-use Rattle.sa_subtypes_pairs.specs.Words.{held, behind, IsWord}
+use Rattle.sa_subtypes_pairs.specs.Terms.{held, behind, IsTerm}
 use Rattle.sa_subtypes_pairs.specs.Spelled.{Item, made, read, first_item}
-use Rattle.sa_subtypes_pairs.proofs.Words.{behind-append}
+use Rattle.sa_subtypes_pairs.proofs.Terms.{behind-append}
 
 -- a list that isn't empty is not the empty one
 not_empty : (a : Node) (w : List Node) → Some (a ∷ w) ≡ Some [] → ⊥
 not_empty a w e = cc
 
--- a word from the words that its first node holds
-pub word-node : (a : Node) (nodes : List Node) → behind nodes (held a) ≡ Some [] → IsWord (a ∷ nodes)
-word-node a nodes h = let e : held a + 0 ≡ held a = omega arith in ap (behind nodes) e ∙ h
+-- a term from the terms that its first node holds
+pub term-node : (a : Node) (nodes : List Node) → behind nodes (held a) ≡ Some [] → IsTerm (a ∷ nodes)
+term-node a nodes h = let e : held a + 0 ≡ held a = omega arith in ap (behind nodes) e ∙ h
 
--- so many words are so many items
+-- so many terms are so many items
 pub length-read : (w : List Node) (k : ℕ) → behind w k ≡ Some [] → length (read w k) ≡ k
 length-read [] zero h = refl
 length-read [] (suc k) h = absurd (none-some [] h)
@@ -27,7 +27,7 @@ length-read (a ∷ w) (suc k) h =
     let rest : length (drop (held a) (read w (held a + k))) ≡ length (read w (held a + k)) - held a = length-drop (held a) (read w (held a + k)) in
     omega (arith, more, rest)
 
--- the items of words one after the other
+-- the items of terms one after the other
 pub read-append : (w more : List Node) (k n : ℕ) → behind w k ≡ Some [] → read (w ++ more) (k + n) ≡ read w k ++ read more n
 read-append [] more zero n h = let e : zero + n ≡ n = omega arith in ap (read more) e
 read-append [] more (suc k) n h = absurd (none-some [] h)
@@ -42,7 +42,7 @@ read-append (a ∷ w) more (suc k) n h =
     ∙ ap (λ l. made a l ∷ drop (held a) (read w (held a + k) ++ read more n)) (take-append-le (held a) (read w (held a + k)) (read more n) least)
     ∙ ap (λ l. made a (take (held a) (read w (held a + k))) ∷ l) (drop-append-le (held a) (read w (held a + k)) (read more n) least)
 
--- a word is what its first node makes of the words that it holds
+-- a term is what its first node makes of the terms that it holds
 pub read-node : (a : Node) (nodes : List Node) → behind nodes (held a) ≡ Some [] → read (a ∷ nodes) 1 ≡ made a (read nodes (held a)) ∷ []
 read-node a nodes h =
     let e : held a + 0 ≡ held a = omega arith in
@@ -57,24 +57,24 @@ one_item [] h = absurd (omega (arith, h))
 one_item (x ∷ []) h = refl
 one_item (x ∷ y ∷ more) h = absurd (omega (arith, h))
 
-pub read-one : (w : List Node) → IsWord w → read w 1 ≡ first_item (read w 1) ∷ []
+pub read-one : (w : List Node) → IsTerm w → read w 1 ≡ first_item (read w 1) ∷ []
 read-one w h = one_item (read w 1) (length-read w 1 h)
 
--- a word at the head of words is one item
-pub read-word : (w more : List Node) (n : ℕ) → IsWord w → read (w ++ more) (suc n) ≡ first_item (read w 1) ∷ read more n
-read-word w more n h =
+-- a term at the head of terms is one item
+pub read-term : (w more : List Node) (n : ℕ) → IsTerm w → read (w ++ more) (suc n) ≡ first_item (read w 1) ∷ read more n
+read-term w more n h =
     let e : suc n ≡ 1 + n = omega arith in
     ap (read (w ++ more)) e ∙ read-append w more 1 n h ∙ ap (λ l. l ++ read more n) (read-one w h)
 
--- a node that holds nothing at the head of words is one item
+-- a node that holds nothing at the head of terms is one item
 pub read-single : (a : Node) (more : List Node) (n : ℕ) → held a ≡ 0 → read (a ∷ more) (suc n) ≡ made a [] ∷ read more n
 read-single a more n h =
     let e : 0 + n ≡ n = omega arith in
     ap (λ k. made a (take k (read more (k + n))) ∷ drop k (read more (k + n))) h ∙ ap (λ k. made a [] ∷ read more k) e
 
--- so many words and then more of them
-pub behind-word : (w more : List Node) (n : ℕ) → IsWord w → behind (w ++ more) (suc n) ≡ behind more n
-behind-word w more n h = let e : suc n ≡ 1 + n = omega arith in ap (behind (w ++ more)) e ∙ behind-append w more 1 n h
+-- so many terms and then more of them
+pub behind-term : (w more : List Node) (n : ℕ) → IsTerm w → behind (w ++ more) (suc n) ≡ behind more n
+behind-term w more n h = let e : suc n ≡ 1 + n = omega arith in ap (behind (w ++ more)) e ∙ behind-append w more 1 n h
 
 pub behind-single : (a : Node) (more : List Node) (n : ℕ) → held a ≡ 0 → behind (a ∷ more) (suc n) ≡ behind more n
 behind-single a more n h = let e : 0 + n ≡ n = omega arith in ap (λ k. behind more (k + n)) h ∙ ap (behind more) e

@@ -1,15 +1,15 @@
--- A type of a class's header as nodes: it is a word; with words in place of its variables it spells the type at the instance where the words spell the types of the instance; and whatever the words are, it is read as the type at what is read of them.
+-- A type of a class's header as nodes: it is a term; with terms for its variables it spells the type at the instance where the terms spell the types of the instance; and whatever the terms are, it is read as the type at what is read of them.
 use Rattle.std.proofs.Common.{◌≡◌, ℕ, suc, ◌+◌, List, [], ◌∷◌, ◌++◌, Option, None, Some, refl, sym, ap, ◌∙◌}
 use Rattle.sa_tree.specs.declared.ty.Mode.{Mode}
 use Rattle.sa_tree.specs.Types.{BareTy, Named, Same, Rout, Iter, BareTys, no_types, type, BareArgs, no_args, arg, BareResult, no_result, gives}
 use Rattle.sa_subtypes_pairs.specs.declared.pattern.Node.{Node}
 use Rattle.sa_subtypes_pairs.specs.declared.pattern.Node.TheVariants as node
-use Rattle.sa_subtypes_pairs.specs.Words.{behind, IsWord, Values, AreWords, put}
+use Rattle.sa_subtypes_pairs.specs.Terms.{behind, IsTerm, Values, AreTerms, substitute}
 use Rattle.sa_subtypes_pairs.specs.Spelled.{count_types, count_args, count_result, alone, written, written_all, written_args, written_result, nowhere, same_nodes, spelled, spelled_all, standing, instance, instance_all, instance_args, instance_result, Item, a_mode, type_of, types_of, args_of, result_of, first_item, read, read_type, read_types}
-use Rattle.sa_subtypes_pairs.proofs.Words.{behind-append, put-append, put-word, behind-put}
-use Rattle.sa_subtypes_pairs.proofs.Readings.{word-node, read-append, read-node, read-one, read-word, read-single, behind-word, behind-single}
+use Rattle.sa_subtypes_pairs.proofs.Terms.{behind-append, substitute-append, substitute-term, behind-substitute}
+use Rattle.sa_subtypes_pairs.proofs.Readings.{term-node, read-append, read-node, read-one, read-term, read-single, behind-term, behind-single}
 
--- ---- a type is as many words at an instance
+-- ---- a type is as many terms at an instance
 
 module _ (value : List ℕ → Option BareTy) (same : BareTy) where
   pub count-instance_all : (ts : BareTys) → count_types (instance_all value same ts) ≡ count_types ts
@@ -24,153 +24,153 @@ module _ (value : List ℕ → Option BareTy) (same : BareTy) where
   count-instance_result no_result = refl
   count-instance_result (gives t) = refl
 
--- ---- a type of a header is a word
+-- ---- a type of a header is a term
 
-alone-word : (place : Option ℕ) (name : List ℕ) → IsWord (alone place name)
-alone-word None name = refl
-alone-word (Some k) name = refl
+alone-term : (place : Option ℕ) (name : List ℕ) → IsTerm (alone place name)
+alone-term None name = refl
+alone-term (Some k) name = refl
 
-module _ (place : List ℕ → Option ℕ) (own : List Node) (own_word : IsWord own) where
+module _ (place : List ℕ → Option ℕ) (own : List Node) (own_term : IsTerm own) where
   mutual
-    pub written-word : (t : BareTy) → IsWord (written place own t)
-    written-word (Named name no_types) = alone-word (place name) name
-    written-word (Named name (type t more)) =
-        word-node (node.Class name (suc (count_types more))) (written place own t ++ written_all place own more)
-        (behind-word (written place own t) (written_all place own more) (count_types more) (written-word t) ∙ written_all-words more)
-    written-word Same = own_word
-    written-word (Rout args of) =
-        word-node (node.Routine (count_args args + count_result of)) (written_args place own args ++ written_result place own of)
-        (behind-append (written_args place own args) (written_result place own of) (count_args args) (count_result of) (written_args-words args) ∙ written_result-words of)
-    written-word (Iter args of) =
-        word-node (node.Iter (count_args args + count_result of)) (written_args place own args ++ written_result place own of)
-        (behind-append (written_args place own args) (written_result place own of) (count_args args) (count_result of) (written_args-words args) ∙ written_result-words of)
+    pub written-term : (t : BareTy) → IsTerm (written place own t)
+    written-term (Named name no_types) = alone-term (place name) name
+    written-term (Named name (type t more)) =
+        term-node (node.Class name (suc (count_types more))) (written place own t ++ written_all place own more)
+        (behind-term (written place own t) (written_all place own more) (count_types more) (written-term t) ∙ written_all-terms more)
+    written-term Same = own_term
+    written-term (Rout args of) =
+        term-node (node.Routine (count_args args + count_result of)) (written_args place own args ++ written_result place own of)
+        (behind-append (written_args place own args) (written_result place own of) (count_args args) (count_result of) (written_args-terms args) ∙ written_result-terms of)
+    written-term (Iter args of) =
+        term-node (node.Iter (count_args args + count_result of)) (written_args place own args ++ written_result place own of)
+        (behind-append (written_args place own args) (written_result place own of) (count_args args) (count_result of) (written_args-terms args) ∙ written_result-terms of)
 
-    pub written_all-words : (ts : BareTys) → behind (written_all place own ts) (count_types ts) ≡ Some []
-    written_all-words no_types = refl
-    written_all-words (type t more) =
-        behind-word (written place own t) (written_all place own more) (count_types more) (written-word t) ∙ written_all-words more
+    pub written_all-terms : (ts : BareTys) → behind (written_all place own ts) (count_types ts) ≡ Some []
+    written_all-terms no_types = refl
+    written_all-terms (type t more) =
+        behind-term (written place own t) (written_all place own more) (count_types more) (written-term t) ∙ written_all-terms more
 
-    pub written_args-words : (args : BareArgs) → behind (written_args place own args) (count_args args) ≡ Some []
-    written_args-words no_args = refl
-    written_args-words (arg m t more) =
+    pub written_args-terms : (args : BareArgs) → behind (written_args place own args) (count_args args) ≡ Some []
+    written_args-terms no_args = refl
+    written_args-terms (arg m t more) =
         behind-single (node.Passed m) (written place own t ++ written_args place own more) (suc (count_args more)) refl
-        ∙ behind-word (written place own t) (written_args place own more) (count_args more) (written-word t)
-        ∙ written_args-words more
+        ∙ behind-term (written place own t) (written_args place own more) (count_args more) (written-term t)
+        ∙ written_args-terms more
 
-    pub written_result-words : (of : BareResult) → behind (written_result place own of) (count_result of) ≡ Some []
-    written_result-words no_result = refl
-    written_result-words (gives t) = written-word t
+    pub written_result-terms : (of : BareResult) → behind (written_result place own of) (count_result of) ≡ Some []
+    written_result-terms no_result = refl
+    written_result-terms (gives t) = written-term t
 
   -- the arguments and then the result
-  pub written_parts-words : (args : BareArgs) (of : BareResult) → behind (written_args place own args ++ written_result place own of) (count_args args + count_result of) ≡ Some []
-  written_parts-words args of =
-      behind-append (written_args place own args) (written_result place own of) (count_args args) (count_result of) (written_args-words args) ∙ written_result-words of
+  pub written_parts-terms : (args : BareArgs) (of : BareResult) → behind (written_args place own args ++ written_result place own of) (count_args args + count_result of) ≡ Some []
+  written_parts-terms args of =
+      behind-append (written_args place own args) (written_result place own of) (count_args args) (count_result of) (written_args-terms args) ∙ written_result-terms of
 
--- ---- with the words of an instance
+-- ---- with the terms of an instance
 
-module _ (place : List ℕ → Option ℕ) (own : List Node) (values : Values) (value : List ℕ → Option BareTy) (same : BareTy) (names : (name : List ℕ) → put values (alone (place name) name) ≡ spelled (standing (value name) name)) (owns : put values own ≡ spelled same) where
-  put-two : (xs ys us vs : List Node) → put values xs ≡ us → put values ys ≡ vs → put values (xs ++ ys) ≡ us ++ vs
-  put-two xs ys us vs e f = put-append values xs ys ∙ ap (λ l. l ++ put values ys) e ∙ ap (λ l. us ++ l) f
+module _ (place : List ℕ → Option ℕ) (own : List Node) (values : Values) (value : List ℕ → Option BareTy) (same : BareTy) (names : (name : List ℕ) → substitute values (alone (place name) name) ≡ spelled (standing (value name) name)) (owns : substitute values own ≡ spelled same) where
+  substitute-two : (xs ys us vs : List Node) → substitute values xs ≡ us → substitute values ys ≡ vs → substitute values (xs ++ ys) ≡ us ++ vs
+  substitute-two xs ys us vs e f = substitute-append values xs ys ∙ ap (λ l. l ++ substitute values ys) e ∙ ap (λ l. us ++ l) f
 
-  put-counts : (args : BareArgs) (of : BareResult) → count_args args + count_result of ≡ count_args (instance_args value same args) + count_result (instance_result value same of)
-  put-counts args of =
+  substitute-counts : (args : BareArgs) (of : BareResult) → count_args args + count_result of ≡ count_args (instance_args value same args) + count_result (instance_result value same of)
+  substitute-counts args of =
       ap (λ k. k + count_result of) (sym (count-instance_args value same args)) ∙ ap (λ k. count_args (instance_args value same args) + k) (sym (count-instance_result value same of))
 
   mutual
-    pub put-written : (t : BareTy) → put values (written place own t) ≡ spelled (instance value same t)
-    put-written (Named name no_types) = names name
-    put-written (Named name (type t more)) =
-        ap (λ l. node.Class name (suc (count_types more)) ∷ l) (put-written_all (type t more))
+    pub substitute-written : (t : BareTy) → substitute values (written place own t) ≡ spelled (instance value same t)
+    substitute-written (Named name no_types) = names name
+    substitute-written (Named name (type t more)) =
+        ap (λ l. node.Class name (suc (count_types more)) ∷ l) (substitute-written_all (type t more))
         ∙ ap (λ k. node.Class name (suc k) ∷ spelled_all (instance_all value same (type t more))) (sym (count-instance_all value same more))
-    put-written Same = owns
-    put-written (Rout args of) =
-        ap (λ l. node.Routine (count_args args + count_result of) ∷ l) (put-two (written_args place own args) (written_result place own of) (written_args nowhere same_nodes (instance_args value same args)) (written_result nowhere same_nodes (instance_result value same of)) (put-written_args args) (put-written_result of))
-        ∙ ap (λ k. node.Routine k ∷ written_args nowhere same_nodes (instance_args value same args) ++ written_result nowhere same_nodes (instance_result value same of)) (put-counts args of)
-    put-written (Iter args of) =
-        ap (λ l. node.Iter (count_args args + count_result of) ∷ l) (put-two (written_args place own args) (written_result place own of) (written_args nowhere same_nodes (instance_args value same args)) (written_result nowhere same_nodes (instance_result value same of)) (put-written_args args) (put-written_result of))
-        ∙ ap (λ k. node.Iter k ∷ written_args nowhere same_nodes (instance_args value same args) ++ written_result nowhere same_nodes (instance_result value same of)) (put-counts args of)
+    substitute-written Same = owns
+    substitute-written (Rout args of) =
+        ap (λ l. node.Routine (count_args args + count_result of) ∷ l) (substitute-two (written_args place own args) (written_result place own of) (written_args nowhere same_nodes (instance_args value same args)) (written_result nowhere same_nodes (instance_result value same of)) (substitute-written_args args) (substitute-written_result of))
+        ∙ ap (λ k. node.Routine k ∷ written_args nowhere same_nodes (instance_args value same args) ++ written_result nowhere same_nodes (instance_result value same of)) (substitute-counts args of)
+    substitute-written (Iter args of) =
+        ap (λ l. node.Iter (count_args args + count_result of) ∷ l) (substitute-two (written_args place own args) (written_result place own of) (written_args nowhere same_nodes (instance_args value same args)) (written_result nowhere same_nodes (instance_result value same of)) (substitute-written_args args) (substitute-written_result of))
+        ∙ ap (λ k. node.Iter k ∷ written_args nowhere same_nodes (instance_args value same args) ++ written_result nowhere same_nodes (instance_result value same of)) (substitute-counts args of)
 
-    pub put-written_all : (ts : BareTys) → put values (written_all place own ts) ≡ spelled_all (instance_all value same ts)
-    put-written_all no_types = refl
-    put-written_all (type t more) =
-        put-two (written place own t) (written_all place own more) (spelled (instance value same t)) (spelled_all (instance_all value same more)) (put-written t) (put-written_all more)
+    pub substitute-written_all : (ts : BareTys) → substitute values (written_all place own ts) ≡ spelled_all (instance_all value same ts)
+    substitute-written_all no_types = refl
+    substitute-written_all (type t more) =
+        substitute-two (written place own t) (written_all place own more) (spelled (instance value same t)) (spelled_all (instance_all value same more)) (substitute-written t) (substitute-written_all more)
 
-    put-written_args : (args : BareArgs) → put values (written_args place own args) ≡ written_args nowhere same_nodes (instance_args value same args)
-    put-written_args no_args = refl
-    put-written_args (arg m t more) =
-        ap (λ l. node.Passed m ∷ l) (put-two (written place own t) (written_args place own more) (spelled (instance value same t)) (written_args nowhere same_nodes (instance_args value same more)) (put-written t) (put-written_args more))
+    substitute-written_args : (args : BareArgs) → substitute values (written_args place own args) ≡ written_args nowhere same_nodes (instance_args value same args)
+    substitute-written_args no_args = refl
+    substitute-written_args (arg m t more) =
+        ap (λ l. node.Passed m ∷ l) (substitute-two (written place own t) (written_args place own more) (spelled (instance value same t)) (written_args nowhere same_nodes (instance_args value same more)) (substitute-written t) (substitute-written_args more))
 
-    put-written_result : (of : BareResult) → put values (written_result place own of) ≡ written_result nowhere same_nodes (instance_result value same of)
-    put-written_result no_result = refl
-    put-written_result (gives t) = put-written t
+    substitute-written_result : (of : BareResult) → substitute values (written_result place own of) ≡ written_result nowhere same_nodes (instance_result value same of)
+    substitute-written_result no_result = refl
+    substitute-written_result (gives t) = substitute-written t
 
--- ---- with any words
+-- ---- with any terms
 
-module _ (place : List ℕ → Option ℕ) (own : List Node) (own_word : IsWord own) (values : Values) (words : AreWords values) (value : List ℕ → Option BareTy) (same : BareTy) (names : (name : List ℕ) → read_type (put values (alone (place name) name)) ≡ standing (value name) name) (owns : read_type (put values own) ≡ same) where
-  word : (t : BareTy) → IsWord (put values (written place own t))
-  word t = put-word values (written place own t) words (written-word place own own_word t)
+module _ (place : List ℕ → Option ℕ) (own : List Node) (own_term : IsTerm own) (values : Values) (terms : AreTerms values) (value : List ℕ → Option BareTy) (same : BareTy) (names : (name : List ℕ) → read_type (substitute values (alone (place name) name)) ≡ standing (value name) name) (owns : read_type (substitute values own) ≡ same) where
+  term : (t : BareTy) → IsTerm (substitute values (written place own t))
+  term t = substitute-term values (written place own t) terms (written-term place own own_term t)
 
   -- an argument is its mode and its type
-  read-arg : (m : Mode) (t : BareTy) (more : BareArgs) → read (put values (written_args place own (arg m t more))) (suc (suc (count_args more))) ≡ a_mode m ∷ first_item (read (put values (written place own t)) 1) ∷ read (put values (written_args place own more)) (count_args more)
+  read-arg : (m : Mode) (t : BareTy) (more : BareArgs) → read (substitute values (written_args place own (arg m t more))) (suc (suc (count_args more))) ≡ a_mode m ∷ first_item (read (substitute values (written place own t)) 1) ∷ read (substitute values (written_args place own more)) (count_args more)
   read-arg m t more =
-      read-single (node.Passed m) (put values (written place own t ++ written_args place own more)) (suc (count_args more)) refl
-      ∙ ap (λ l. a_mode m ∷ read l (suc (count_args more))) (put-append values (written place own t) (written_args place own more))
-      ∙ ap (λ l. a_mode m ∷ l) (read-word (put values (written place own t)) (put values (written_args place own more)) (count_args more) (word t))
+      read-single (node.Passed m) (substitute values (written place own t ++ written_args place own more)) (suc (count_args more)) refl
+      ∙ ap (λ l. a_mode m ∷ read l (suc (count_args more))) (substitute-append values (written place own t) (written_args place own more))
+      ∙ ap (λ l. a_mode m ∷ l) (read-term (substitute values (written place own t)) (substitute values (written_args place own more)) (count_args more) (term t))
 
   -- the arguments and then the result
-  read-parts : (args : BareArgs) (of : BareResult) → read (put values (written_args place own args ++ written_result place own of)) (count_args args + count_result of) ≡ read (put values (written_args place own args)) (count_args args) ++ read (put values (written_result place own of)) (count_result of)
+  read-parts : (args : BareArgs) (of : BareResult) → read (substitute values (written_args place own args ++ written_result place own of)) (count_args args + count_result of) ≡ read (substitute values (written_args place own args)) (count_args args) ++ read (substitute values (written_result place own of)) (count_result of)
   read-parts args of =
-      ap (λ l. read l (count_args args + count_result of)) (put-append values (written_args place own args) (written_result place own of))
-      ∙ read-append (put values (written_args place own args)) (put values (written_result place own of)) (count_args args) (count_result of) (behind-put values words (written_args place own args) [] (count_args args) (written_args-words place own own_word args))
+      ap (λ l. read l (count_args args + count_result of)) (substitute-append values (written_args place own args) (written_result place own of))
+      ∙ read-append (substitute values (written_args place own args)) (substitute values (written_result place own of)) (count_args args) (count_result of) (behind-substitute values terms (written_args place own args) [] (count_args args) (written_args-terms place own own_term args))
 
-  no_args_left : (of : BareResult) → args_of (read (put values (written_result place own of)) (count_result of)) ≡ no_args
+  no_args_left : (of : BareResult) → args_of (read (substitute values (written_result place own of)) (count_result of)) ≡ no_args
   no_args_left no_result = refl
-  no_args_left (gives t) = ap args_of (read-one (put values (written place own t)) (word t))
+  no_args_left (gives t) = ap args_of (read-one (substitute values (written place own t)) (term t))
 
-  result_left : (args : BareArgs) (items : List Item) → result_of (read (put values (written_args place own args)) (count_args args) ++ items) ≡ result_of items
+  result_left : (args : BareArgs) (items : List Item) → result_of (read (substitute values (written_args place own args)) (count_args args) ++ items) ≡ result_of items
   result_left no_args items = refl
   result_left (arg m t more) items = ap (λ l. result_of (l ++ items)) (read-arg m t more) ∙ result_left more items
 
   mutual
-    pub read-written : (t : BareTy) → read_type (put values (written place own t)) ≡ instance value same t
+    pub read-written : (t : BareTy) → read_type (substitute values (written place own t)) ≡ instance value same t
     read-written (Named name no_types) = names name
     read-written (Named name (type t more)) =
-        ap (λ l. type_of (first_item l)) (read-node (node.Class name (suc (count_types more))) (put values (written_all place own (type t more))) (behind-put values words (written_all place own (type t more)) [] (suc (count_types more)) (written_all-words place own own_word (type t more))))
+        ap (λ l. type_of (first_item l)) (read-node (node.Class name (suc (count_types more))) (substitute values (written_all place own (type t more))) (behind-substitute values terms (written_all place own (type t more)) [] (suc (count_types more)) (written_all-terms place own own_term (type t more))))
         ∙ ap (Named name) (read-written_all (type t more))
     read-written Same = owns
     read-written (Rout args of) =
         let nodes = written_args place own args ++ written_result place own of in
         let count = count_args args + count_result of in
-        ap (λ l. type_of (first_item l)) (read-node (node.Routine count) (put values nodes) (behind-put values words nodes [] count (written_parts-words place own own_word args of)))
+        ap (λ l. type_of (first_item l)) (read-node (node.Routine count) (substitute values nodes) (behind-substitute values terms nodes [] count (written_parts-terms place own own_term args of)))
         ∙ ap (λ l. Rout (args_of l) (result_of l)) (read-parts args of)
-        ∙ ap (λ x. Rout x (result_of (read (put values (written_args place own args)) (count_args args) ++ read (put values (written_result place own of)) (count_result of)))) (read-written_args args (read (put values (written_result place own of)) (count_result of)) (no_args_left of))
-        ∙ ap (Rout (instance_args value same args)) (result_left args (read (put values (written_result place own of)) (count_result of)) ∙ read-written_result of)
+        ∙ ap (λ x. Rout x (result_of (read (substitute values (written_args place own args)) (count_args args) ++ read (substitute values (written_result place own of)) (count_result of)))) (read-written_args args (read (substitute values (written_result place own of)) (count_result of)) (no_args_left of))
+        ∙ ap (Rout (instance_args value same args)) (result_left args (read (substitute values (written_result place own of)) (count_result of)) ∙ read-written_result of)
     read-written (Iter args of) =
         let nodes = written_args place own args ++ written_result place own of in
         let count = count_args args + count_result of in
-        ap (λ l. type_of (first_item l)) (read-node (node.Iter count) (put values nodes) (behind-put values words nodes [] count (written_parts-words place own own_word args of)))
+        ap (λ l. type_of (first_item l)) (read-node (node.Iter count) (substitute values nodes) (behind-substitute values terms nodes [] count (written_parts-terms place own own_term args of)))
         ∙ ap (λ l. Iter (args_of l) (result_of l)) (read-parts args of)
-        ∙ ap (λ x. Iter x (result_of (read (put values (written_args place own args)) (count_args args) ++ read (put values (written_result place own of)) (count_result of)))) (read-written_args args (read (put values (written_result place own of)) (count_result of)) (no_args_left of))
-        ∙ ap (Iter (instance_args value same args)) (result_left args (read (put values (written_result place own of)) (count_result of)) ∙ read-written_result of)
+        ∙ ap (λ x. Iter x (result_of (read (substitute values (written_args place own args)) (count_args args) ++ read (substitute values (written_result place own of)) (count_result of)))) (read-written_args args (read (substitute values (written_result place own of)) (count_result of)) (no_args_left of))
+        ∙ ap (Iter (instance_args value same args)) (result_left args (read (substitute values (written_result place own of)) (count_result of)) ∙ read-written_result of)
 
-    pub read-written_all : (ts : BareTys) → read_types (put values (written_all place own ts)) (count_types ts) ≡ instance_all value same ts
+    pub read-written_all : (ts : BareTys) → read_types (substitute values (written_all place own ts)) (count_types ts) ≡ instance_all value same ts
     read-written_all no_types = refl
     read-written_all (type t more) =
-        ap (λ l. read_types l (suc (count_types more))) (put-append values (written place own t) (written_all place own more))
-        ∙ ap types_of (read-word (put values (written place own t)) (put values (written_all place own more)) (count_types more) (word t))
-        ∙ ap (λ x. type x (read_types (put values (written_all place own more)) (count_types more))) (read-written t)
+        ap (λ l. read_types l (suc (count_types more))) (substitute-append values (written place own t) (written_all place own more))
+        ∙ ap types_of (read-term (substitute values (written place own t)) (substitute values (written_all place own more)) (count_types more) (term t))
+        ∙ ap (λ x. type x (read_types (substitute values (written_all place own more)) (count_types more))) (read-written t)
         ∙ ap (type (instance value same t)) (read-written_all more)
 
-    read-written_args : (args : BareArgs) (items : List Item) → args_of items ≡ no_args → args_of (read (put values (written_args place own args)) (count_args args) ++ items) ≡ instance_args value same args
+    read-written_args : (args : BareArgs) (items : List Item) → args_of items ≡ no_args → args_of (read (substitute values (written_args place own args)) (count_args args) ++ items) ≡ instance_args value same args
     read-written_args no_args items left = left
     read-written_args (arg m t more) items left =
         ap (λ l. args_of (l ++ items)) (read-arg m t more)
-        ∙ ap (λ x. arg m x (args_of (read (put values (written_args place own more)) (count_args more) ++ items))) (read-written t)
+        ∙ ap (λ x. arg m x (args_of (read (substitute values (written_args place own more)) (count_args more) ++ items))) (read-written t)
         ∙ ap (arg m (instance value same t)) (read-written_args more items left)
 
-    read-written_result : (of : BareResult) → result_of (read (put values (written_result place own of)) (count_result of)) ≡ instance_result value same of
+    read-written_result : (of : BareResult) → result_of (read (substitute values (written_result place own of)) (count_result of)) ≡ instance_result value same of
     read-written_result no_result = refl
-    read-written_result (gives t) = ap result_of (read-one (put values (written place own t)) (word t)) ∙ ap gives (read-written t)
+    read-written_result (gives t) = ap result_of (read-one (substitute values (written place own t)) (term t)) ∙ ap gives (read-written t)
 
 -- ---- a type without parameters
 
@@ -194,28 +194,28 @@ mutual
   instance_result-itself no_result = refl
   instance_result-itself (gives t) = ap gives (instance-itself t)
 
-pub spelled-word : (t : BareTy) → IsWord (spelled t)
-spelled-word t = written-word nowhere same_nodes refl t
+pub spelled-term : (t : BareTy) → IsTerm (spelled t)
+spelled-term t = written-term nowhere same_nodes refl t
 
-pub spelled_all-words : (ts : BareTys) → behind (spelled_all ts) (count_types ts) ≡ Some []
-spelled_all-words ts = written_all-words nowhere same_nodes refl ts
+pub spelled_all-terms : (ts : BareTys) → behind (spelled_all ts) (count_types ts) ≡ Some []
+spelled_all-terms ts = written_all-terms nowhere same_nodes refl ts
 
--- words in place of variables leave it as it is
-pub put-spelled : (values : Values) (t : BareTy) → put values (spelled t) ≡ spelled t
-put-spelled values t = put-written nowhere same_nodes values (λ name. None) Same (λ name. refl) refl t ∙ ap spelled (instance-itself t)
+-- terms for variables leave it as it is
+pub substitute-spelled : (values : Values) (t : BareTy) → substitute values (spelled t) ≡ spelled t
+substitute-spelled values t = substitute-written nowhere same_nodes values (λ name. None) Same (λ name. refl) refl t ∙ ap spelled (instance-itself t)
 
-pub put-spelled_all : (values : Values) (ts : BareTys) → put values (spelled_all ts) ≡ spelled_all ts
-put-spelled_all values ts = put-written_all nowhere same_nodes values (λ name. None) Same (λ name. refl) refl ts ∙ ap spelled_all (instance_all-itself ts)
+pub substitute-spelled_all : (values : Values) (ts : BareTys) → substitute values (spelled_all ts) ≡ spelled_all ts
+substitute-spelled_all values ts = substitute-written_all nowhere same_nodes values (λ name. None) Same (λ name. refl) refl ts ∙ ap spelled_all (instance_all-itself ts)
 
 -- what is spelled is read again
 pub read-spelled : (t : BareTy) → read_type (spelled t) ≡ t
 read-spelled t =
-    ap read_type (sym (put-spelled (λ number. same_nodes) t))
+    ap read_type (sym (substitute-spelled (λ number. same_nodes) t))
     ∙ read-written nowhere same_nodes refl (λ number. same_nodes) (λ number. refl) (λ name. None) Same (λ name. refl) refl t
     ∙ instance-itself t
 
 pub read-spelled_all : (ts : BareTys) → read_types (spelled_all ts) (count_types ts) ≡ ts
 read-spelled_all ts =
-    ap (λ l. read_types l (count_types ts)) (sym (put-spelled_all (λ number. same_nodes) ts))
+    ap (λ l. read_types l (count_types ts)) (sym (substitute-spelled_all (λ number. same_nodes) ts))
     ∙ read-written_all nowhere same_nodes refl (λ number. same_nodes) (λ number. refl) (λ name. None) Same (λ name. refl) refl ts
     ∙ instance_all-itself ts

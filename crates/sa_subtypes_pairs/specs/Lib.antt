@@ -4,4 +4,4 @@ pub mod Numbers
 pub mod Pairs
 pub mod Patterns
 pub mod Spelled
-pub mod Words
+pub mod Terms

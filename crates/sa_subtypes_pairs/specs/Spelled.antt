@@ -1,13 +1,15 @@
--- Types as words: how a type is spelled as nodes, how a type of a class's header is, the type that such a type is at an instance, and the type that is read from nodes.
+-- Types as terms: how a type is spelled as nodes, how a type of a class's header is,
+-- the type that such a type is at an instance, and the type that is read from nodes.
 use Rattle.std.specs.Prelude.{ℕ, zero, suc, ◌+◌, List, [], ◌∷◌, ◌++◌, Option, None, Some, take, drop}
 use Rattle.sa_tree.specs.declared.ty.Mode.{Mode}
 use Rattle.sa_tree.specs.declared.ty.Mode.TheVariants.{In}
-use Rattle.sa_tree.specs.Types.{BareTy, Named, Same, Rout, Iter, BareTys, no_types, type, BareArgs, no_args, arg, BareResult, no_result, gives}
+use Rattle.sa_tree.specs.Types.{BareTy, Named, Same, Rout, Iter, BareTys, no_types, type}
+use Rattle.sa_tree.specs.Types.{BareArgs, no_args, arg, BareResult, no_result, gives}
 use Rattle.sa_subtypes_pairs.specs.declared.pattern.Node.{Node}
 use Rattle.sa_subtypes_pairs.specs.declared.pattern.Node.TheVariants as node
-use Rattle.sa_subtypes_pairs.specs.Words.{held}
+use Rattle.sa_subtypes_pairs.specs.Terms.{held}
 
--- ---- how many words the parts take
+-- ---- how many terms the parts take
 
 abbrev pub count_types : BareTys → ℕ
 count_types no_types = 0
@@ -101,7 +103,7 @@ module _ (value : List ℕ → Option BareTy) (same : BareTy) where
     instance_result no_result = no_result
     instance_result (gives t) = gives (instance t)
 
--- ---- reading: what each word is, where one that fits nowhere is read as SAME
+-- ---- reading: what each term is, where one that fits nowhere is read as SAME
 
 pub data Item : Type 0 where
   a_type : BareTy → Item
@@ -138,7 +140,7 @@ made (node.Iter count) items = a_type (Iter (args_of items) (result_of items))
 made (node.Passed mode) items = a_mode mode
 made (node.List count) items = a_type Same
 
--- what so many words at the head of the nodes are
+-- what so many terms at the head of the nodes are
 abbrev pub read : List Node → ℕ → List Item
 read [] n = []
 read (a ∷ more) zero = []
@@ -148,10 +150,10 @@ abbrev pub first_item : List Item → Item
 first_item [] = a_type Same
 first_item (x ∷ more) = x
 
--- the type that a word is
+-- the type that a term is
 abbrev pub read_type : List Node → BareTy
-read_type word = type_of (first_item (read word 1))
+read_type term = type_of (first_item (read term 1))
 
--- the types that so many words are
+-- the types that so many terms are
 abbrev pub read_types : List Node → ℕ → BareTys
-read_types words count = types_of (read words count)
+read_types terms count = types_of (read terms count)

@@ -1,11 +1,11 @@
 //! The pair that two pairs give, where the second begins at the type at which the first ends.
 
 ghost use Rattle.std.specs.Prelude.{IfOk, option_map};
-ghost use Rattle.sa_subtypes_pairs.specs.Words.{IsComposed, IsJoined};
+ghost use Rattle.sa_subtypes_pairs.specs.Terms.{IsComposed, IsJoined};
 
-use crate::equations::{add_all, copied, free_number, later_of, shifted, solve, word_end};
 use crate::pair::Pairs;
 use crate::pattern::Node;
+use crate::unification::{add_all, copied, free_number, later_of, shifted, term_end, unify};
 use crate::work::Work;
 use sa_tree::NoMemory;
 use std::alloc::Global;
@@ -45,10 +45,10 @@ pub fn composed(
 ) -> Result<Option<Vec<Node>>, NoMemory>
     ensures { IfOk result (λ nodes. IsComposed first.now second.now (option_map (λ v. v.items) nodes)) }
 {
-    let Some(one) = word_end(first, 0) else {
+    let Some(one) = term_end(first, 0) else {
         return Err(NoMemory);
     };
-    let Some(two) = word_end(second, 0) else {
+    let Some(two) = term_end(second, 0) else {
         return Err(NoMemory);
     };
     if one == first.len() {
@@ -72,7 +72,7 @@ pub fn composed(
     Ok(nodes)
 }
 
-/// The nodes `below` and then `above`, where `ends` and `begins` are made equal by words for their variables: those of
+/// The nodes `below` and then `above`, where `ends` and `begins` are unified by terms for their variables: those of
 /// `below` and `ends` are other ones than those of `begins` and `above`. There are none where they can't be.
 fn joined(
     alloc: Global,
@@ -94,6 +94,6 @@ fn joined(
     add_all(alloc, &mut kept, later.as_slice())?;
     let one = copied(alloc, ends)?;
     let other = shifted(alloc, begins, more)?;
-    let solved = solve(alloc, work, kept, one, other)?;
-    Ok(solved)
+    let unified = unify(alloc, work, kept, one, other)?;
+    Ok(unified)
 }

@@ -1,8 +1,8 @@
 //! The pairs of the edges that classes declare, and the rule that what stands after `<` is an abstract class.
 
-use crate::equations::copied;
 use crate::names::Names;
 use crate::pair::Pairs;
+use crate::unification::copied;
 use crate::work::Work;
 use crate::written::Written;
 use sa_tree::{Class, FrontFault, Kind, NoMemory, Pos, Rule, Ty};

@@ -4,19 +4,19 @@
 
 mod composition;
 mod declared;
-mod equations;
 mod header;
 mod names;
 mod pair;
 mod pattern;
+mod unification;
 mod work;
 mod written;
 
 pub use composition::{compose, composed};
 pub use declared::{Edge, check_supertypes, edges_of, lowers, uppers};
-pub use equations::word_end;
 pub use names::{Names, Row};
 pub use pair::{Pairs, Shape, renumbered, try_equal};
 pub use pattern::Node;
+pub use unification::term_end;
 pub use work::Work;
 pub use written::{Written, written_edges};

@@ -2,10 +2,10 @@
 
 ghost use Rattle.std.specs.Prelude.{◌≡◌, ◌∷◌, [], IfOk, get_or};
 ghost use Rattle.sa_subtypes_pairs.specs.Pairs.{nodes_of};
-ghost use Rattle.sa_subtypes_pairs.specs.Words.{SameInstances, named, put, value_of};
+ghost use Rattle.sa_subtypes_pairs.specs.Terms.{SameInstances, named, substitute, value_of};
 
-use crate::equations::{difference, free_number, word_end};
 use crate::pattern::Node;
+use crate::unification::{difference, free_number, term_end};
 use crate::work::Work;
 use indexmap::IndexSet;
 use sa_graph::{entry, put, word};
@@ -142,7 +142,7 @@ pub fn renumbered(alloc: Global, nodes: &[Node]) -> Result<Vec<Node>, NoMemory>
 /// The nodes with the variables numbered by a list.
 #[tactic(auto, using(crate::proofs::Places::places))]
 fn renamed(alloc: Global, nodes: &[Node], numbers: &[u32]) -> Result<Vec<Node>, NoMemory>
-    ensures { IfOk result (λ v. v.items ≡ put (named numbers.now) nodes.now) }
+    ensures { IfOk result (λ v. v.items ≡ substitute (named numbers.now) nodes.now) }
 {
     let mut out = Vec::new(alloc);
     for node in nodes {
@@ -187,7 +187,7 @@ pub fn try_equal(one: &[Node], other: &[Node]) -> Result<(), NoMemory>
 
 fn shape_of(nodes: &[Node], head: u32) -> Result<Shape, NoMemory> {
     let below = nodes.first().ok_or(NoMemory)?.holds();
-    let upper = word_end(nodes, 0).ok_or(NoMemory)?;
+    let upper = term_end(nodes, 0).ok_or(NoMemory)?;
     let Some(Node::Class(_, above)) = nodes.get(upper) else {
         return Err(NoMemory);
     };

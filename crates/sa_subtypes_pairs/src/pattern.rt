@@ -1,7 +1,7 @@
 //! Types with variables, spelled as a list of nodes: a node comes before those that it holds.
 
 ghost use Rattle.std.specs.Prelude.{◌≡◌, IfOk};
-ghost use Rattle.sa_subtypes_pairs.specs.Words.{held};
+ghost use Rattle.sa_subtypes_pairs.specs.Terms.{held};
 
 use sa_tree::{Mode, Name, NoMemory};
 use std::alloc::Global;

@@ -6,7 +6,8 @@ use Rattle.std.specs.Cmp.Lexicographic.{pointwise, bytes_decides}
 use Rattle.std.proofs.Common.{ap, subst, sym}
 use Rattle.sa_tree.specs.declared.ty.Mode.{Mode}
 use Rattle.sa_tree.specs.declared.ty.Mode.TheVariants.{In, Out, Inout, Once}
-use Rattle.sa_tree.specs.Types.{BareTy, Named, Same, Rout, Iter, BareTys, no_types, type, BareArgs, no_args, arg, BareResult, no_result, gives}
+use Rattle.sa_tree.specs.Types.{BareTy, Named, Same, Rout, Iter, BareTys, no_types, type}
+use Rattle.sa_tree.specs.Types.{BareArgs, no_args, arg, BareResult, no_result, gives}
 
 -- whether two modes are equal
 abbrev pub same_mode : Mode → Mode → Bool
@@ -141,7 +142,10 @@ pub same_type_equiv : IsEquivalence same_type
 same_type_equiv = decided_equiv same_type same_type_Decides
 
 pub same_arg_Decides : (a b : Mode × BareTy) → Decides (same_arg a b) (a ≡ b)
-same_arg_Decides a b = (λ h i. (modes h i, types h i), λ e. subst (λ c. same_arg a c ≡ true) e (both _ _ (mode_itself a.0) (type_itself a.1)))
+same_arg_Decides a b = (
+  λ h i. (modes h i, types h i),
+  λ e. subst (λ c. same_arg a c ≡ true) e (both _ _ (mode_itself a.0) (type_itself a.1)),
+)
   where
     modes : same_arg a b ≡ true → a.0 ≡ b.0
     modes h = equal_modes a.0 b.0 (first_so (same_mode a.0 b.0) (same_type a.1 b.1) h)

@@ -5,7 +5,8 @@ use Rattle.std.specs.Hash.{HashWrites}
 use Rattle.sa_tree.specs.declared.ty.Mode.{Mode}
 use Rattle.sa_tree.specs.declared.ty.Mode.TheVariants.{In, Out, Inout, Once}
 use Rattle.sa_tree.specs.Names.{name_writes}
-use Rattle.sa_tree.specs.Types.{BareTy, Named, Same, Rout, Iter, BareTys, no_types, type, BareArgs, no_args, arg, BareResult, no_result, gives}
+use Rattle.sa_tree.specs.Types.{BareTy, Named, Same, Rout, Iter, BareTys, no_types, type}
+use Rattle.sa_tree.specs.Types.{BareArgs, no_args, arg, BareResult, no_result, gives}
 
 -- the variant's number, from 0
 abbrev pub mode_writes : Mode → HashWrites

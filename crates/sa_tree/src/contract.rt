@@ -22,5 +22,8 @@ pub enum Contract {
         post: Option<Condition>,
     },
     /// What holds of an object of the class whenever a public routine of it ends.
-    Invariant { class: u32, holds: Condition },
+    Invariant {
+        class: u32,
+        holds: Condition,
+    },
 }

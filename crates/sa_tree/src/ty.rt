@@ -5,7 +5,8 @@ ghost use Rattle.std.specs.Cmp.{on_equiv, partial_equiv_from_equiv};
 ghost use Rattle.std.specs.Cmp.Lexicographic.{pointwise};
 ghost use Rattle.std.specs.Hash.{on_Alike, same_Alike};
 ghost use Rattle.std.specs.Ordering.{on};
-ghost use Rattle.sa_tree.specs.TypeEquality.{same_arg, same_arg_Decides, same_arg_equiv, same_result, same_type, same_type_Decides, same_type_equiv};
+ghost use Rattle.sa_tree.specs.TypeEquality.{same_arg, same_result, same_type};
+ghost use Rattle.sa_tree.specs.TypeEquality.{same_arg_Decides, same_arg_equiv, same_type_Decides, same_type_equiv};
 ghost use Rattle.sa_tree.specs.TypeHash.{arg_writes, args_writes, result_writes, type_writes, types_writes};
 ghost use Rattle.sa_tree.specs.Types.{SameArg, SameType, all_bare, all_bare_args, bare, bare_arg, option_bare};
 

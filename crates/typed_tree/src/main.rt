@@ -59,8 +59,8 @@ fn add_tree(alloc: Global, writer: &mut Writer, program: &Program) -> Result<(),
     }
     let texts = program.sources.texts.as_slice();
     let parsed = parse_program(alloc, texts)?;
-    let core = check(alloc, parsed.classes.as_slice())?;
-    writer.program(&core, texts)?;
+    let core = check(alloc, parsed.classes.as_slice(), texts)?;
+    writer.program(&core)?;
     Ok(())
 }
 

@@ -6,12 +6,9 @@ use sa_tree::{Kind, Mode, Ty};
 use sqlite_items::Items;
 use std::alloc::AllocError;
 
-/// The byte that ends a line.
-const LINE_FEED: u8 = b'\n';
-
 impl Writer {
-    /// A typed program, with the places in each of its texts at which a line ends.
-    pub fn program(&mut self, core: &Core, texts: &[Items<u8>]) -> Result<(), AllocError> {
+    /// A typed program.
+    pub fn program(&mut self, core: &Core) -> Result<(), AllocError> {
         self.open_record()?;
         self.key("types")?;
         self.type_infos(core.types.as_slice())?;
@@ -24,7 +21,7 @@ impl Writer {
         self.key("main")?;
         self.number(core.main)?;
         self.key("feeds")?;
-        self.texts_feeds(texts)?;
+        self.feeds(core.feeds.as_slice())?;
         self.close_record()
     }
 
@@ -185,23 +182,11 @@ impl Writer {
         self.close_record()
     }
 
-    fn texts_feeds(&mut self, texts: &[Items<u8>]) -> Result<(), AllocError> {
+    /// The places of the line feeds in each text.
+    fn feeds(&mut self, feeds: &[Items<u32>]) -> Result<(), AllocError> {
         self.open_list()?;
-        for text in texts {
-            self.feeds(text.as_slice())?;
-        }
-        self.close_list()
-    }
-
-    /// The places of the line feeds in a text, rising.
-    fn feeds(&mut self, text: &[u8]) -> Result<(), AllocError> {
-        self.open_list()?;
-        let mut at = 0u32;
-        for byte in text {
-            if *byte == LINE_FEED {
-                self.number(at)?;
-            }
-            at = at.saturating_add(1);
+        for places in feeds {
+            self.numbers(places.as_slice())?;
         }
         self.close_list()
     }

@@ -1,7 +1,7 @@
 //! Statements as JSON: each a list of the name of its form and of its fields, in their order.
 
 use crate::writer::Writer;
-use sa_core::{ArmCore, ExprCore, StmtCore, TestCore};
+use sa_core::{ArmCore, ExprCore, LoopExit, StmtCore, TestCore};
 use std::alloc::AllocError;
 
 impl Writer {
@@ -28,10 +28,9 @@ impl Writer {
                 self.number(*number)?;
                 self.stmts(body.as_slice())?;
             }
-            StmtCore::Leave(kind, test) => {
+            StmtCore::Leave(exit) => {
                 self.open("Leave")?;
-                self.number(u32::from(*kind))?;
-                self.expr_or_nothing(test)?;
+                self.exit(exit)?;
             }
             StmtCore::TypeCase(var, arms, other, pos) => {
                 self.open("TypeCase")?;
@@ -68,7 +67,7 @@ impl Writer {
             }
             StmtCore::Stop(kind, pos) => {
                 self.open("Stop")?;
-                self.number(u32::from(*kind))?;
+                self.number(u32::from(kind.number()))?;
                 self.pos(*pos)?;
             }
         }
@@ -120,6 +119,24 @@ impl Writer {
         self.number(arm.var)?;
         self.stmts(arm.body.as_slice())?;
         self.close_list()
+    }
+
+    /// What leaves a loop: 0 and `null` for always, 1 and the test that is false, or 2 and the test that is true.
+    fn exit(&mut self, exit: &LoopExit) -> Result<(), AllocError> {
+        match exit {
+            LoopExit::Break => {
+                self.number(0)?;
+                self.nothing()
+            }
+            LoopExit::While(test) => {
+                self.number(1)?;
+                self.expr(test)
+            }
+            LoopExit::Until(test) => {
+                self.number(2)?;
+                self.expr(test)
+            }
+        }
     }
 
     /// An expression, or `null` for none.

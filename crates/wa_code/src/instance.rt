@@ -11,7 +11,7 @@ use crate::segments::{least, offset, segments_fit, value};
 use crate::table::Table;
 use std::alloc::{AllocError, AllocFailed, Global};
 use thiserror::Error;
-use wa_syntax::{Elem, GlobalDef, Module, NoMemory};
+use wa_syntax::{ElemSegment, GlobalDef, Module, NoMemory};
 use wa_valid::Valid;
 
 /// Bytes in a page of the linear memory.
@@ -135,7 +135,7 @@ fn put_all(table: &mut Table, from: usize, funcs: &[u32]) -> Result<(), NoMemory
 }
 
 /// How many places the segments fill, those that are filled twice counted twice.
-fn filled(elems: &[Elem]) -> usize {
+fn filled(elems: &[ElemSegment]) -> usize {
     let mut filled: usize = 0;
     for elem in elems {
         filled = filled.saturating_add(elem.funcs.len());

@@ -1,7 +1,7 @@
 -- Imports, exports, globals and segments, by what their parts are.
 use Rattle.std.proofs.Common.{◌≡◌, ℕ, List, ◌++◌, refl, sym, ap, ◌∙◌, append_assoc, arith}
 use Rattle.std.specs.Prelude.{Ok, Err}
-use Rattle.wa_syntax.specs.declared.module.Elem.{Elem}
+use Rattle.wa_syntax.specs.declared.module.ElemSegment.{ElemSegment}
 use Rattle.wa_syntax.specs.declared.module.Export.{Export}
 use Rattle.wa_syntax.specs.declared.module.ExportKind.{ExportKind}
 use Rattle.wa_syntax.specs.declared.module.ExportKind.TheVariants as exported
@@ -13,7 +13,7 @@ use Rattle.wa_syntax.specs.declared.module.ImportKind.TheVariants as imported
 use Rattle.wa_syntax.specs.declared.module.Init.{Init}
 use Rattle.wa_syntax.specs.declared.module.Init.TheVariants.{Const32, Const64, Global}
 use Rattle.wa_syntax.specs.declared.module.Limits.{Limits}
-use Rattle.wa_syntax.specs.declared.module.Segment.{Segment}
+use Rattle.wa_syntax.specs.declared.module.DataSegment.{DataSegment}
 use Rattle.wa_syntax.specs.Binary.{tabletype, memtype, globaltype, importdesc, import, exportdesc, export, global, elem, segment}
 use Rattle.wa_syntax.specs.BinaryInstructions.{init}
 use Rattle.wa_syntax.specs.Formats.{Format, ◌then◌, byte, name, vec, u32, i32, i64}
@@ -206,18 +206,18 @@ global-err = as-err (λ (t : GlobalDef). (t.ty, t.init)) (λ t s h. h)
 -- ---- a segment of a table
 
 pub elem-ok : {bytes : List ℕ} {at end : ℕ} (table : ℕ) (offset : Init) (funcs : List ℕ) → Reads (pair u32 (pair init (vec u32))) bytes at (Ok ((table, (offset, funcs)), end)) → Reads elem bytes at (Ok (record { table = table; offset = offset; funcs = funcs }, end))
-elem-ok table offset funcs = as-ok (λ (p : ℕ × (Init × List ℕ)). let t : Elem = record { table = p.0; offset = p.1.0; funcs = p.1.1 } in t) (λ (t : Elem). (t.table, (t.offset, t.funcs))) (λ t. refl) (λ t s h. h) (λ h. h)
+elem-ok table offset funcs = as-ok (λ (p : ℕ × (Init × List ℕ)). let t : ElemSegment = record { table = p.0; offset = p.1.0; funcs = p.1.1 } in t) (λ (t : ElemSegment). (t.table, (t.offset, t.funcs))) (λ t. refl) (λ t s h. h) (λ h. h)
 
 pub elem-err : {bytes : List ℕ} {at : ℕ} {e : DecodeFault} → Reads (pair u32 (pair init (vec u32))) bytes at (Err e) → Reads elem bytes at (Err e)
-elem-err = as-err (λ (t : Elem). (t.table, (t.offset, t.funcs))) (λ t s h. h)
+elem-err = as-err (λ (t : ElemSegment). (t.table, (t.offset, t.funcs))) (λ t s h. h)
 
 -- ---- a segment of a memory
 
 pub segment-ok : {source : List ℕ} {at end : ℕ} (memory : ℕ) (offset : Init) (bytes : List ℕ) → Reads (pair u32 (pair init (vec byte))) source at (Ok ((memory, (offset, bytes)), end)) → Reads segment source at (Ok (record { memory = memory; offset = offset; bytes = bytes }, end))
-segment-ok memory offset bytes = as-ok (λ (p : ℕ × (Init × List ℕ)). let t : Segment = record { memory = p.0; offset = p.1.0; bytes = p.1.1 } in t) (λ (t : Segment). (t.memory, (t.offset, t.bytes))) (λ t. refl) (λ t s h. h) (λ h. h)
+segment-ok memory offset bytes = as-ok (λ (p : ℕ × (Init × List ℕ)). let t : DataSegment = record { memory = p.0; offset = p.1.0; bytes = p.1.1 } in t) (λ (t : DataSegment). (t.memory, (t.offset, t.bytes))) (λ t. refl) (λ t s h. h) (λ h. h)
 
 pub segment-err : {bytes : List ℕ} {at : ℕ} {e : DecodeFault} → Reads (pair u32 (pair init (vec byte))) bytes at (Err e) → Reads segment bytes at (Err e)
-segment-err = as-err (λ (t : Segment). (t.memory, (t.offset, t.bytes))) (λ t s h. h)
+segment-err = as-err (λ (t : DataSegment). (t.memory, (t.offset, t.bytes))) (λ t s h. h)
 
 -- ---- what is exported, by its kind and its number
 

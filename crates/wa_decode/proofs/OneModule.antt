@@ -4,7 +4,8 @@ use Rattle.std.proofs.lemmas.List.{length-map}
 use Rattle.std.proofs.lemmas.List.Folds.{drop_split}
 use Rattle.wa_syntax.specs.declared.instr.Instr.{Instr}
 use Rattle.wa_syntax.specs.declared.locals.Run.{Run}
-use Rattle.wa_syntax.specs.declared.module.Elem.{Elem}
+use Rattle.wa_syntax.specs.declared.module.DataSegment.{DataSegment}
+use Rattle.wa_syntax.specs.declared.module.ElemSegment.{ElemSegment}
 use Rattle.wa_syntax.specs.declared.module.Export.{Export}
 use Rattle.wa_syntax.specs.declared.module.Func.{Func}
 use Rattle.wa_syntax.specs.declared.module.FuncTy.{FuncTy}
@@ -12,7 +13,6 @@ use Rattle.wa_syntax.specs.declared.module.GlobalDef.{GlobalDef}
 use Rattle.wa_syntax.specs.declared.module.Import.{Import}
 use Rattle.wa_syntax.specs.declared.module.Limits.{Limits}
 use Rattle.wa_syntax.specs.declared.module.Module.{Module}
-use Rattle.wa_syntax.specs.declared.module.Segment.{Segment}
 use Rattle.wa_syntax.specs.declared.module.ValTy.{ValTy}
 use Rattle.wa_syntax.specs.Binary.{vecsec, custom, customs, startsec, run, locals, code, SpellsModule}
 use Rattle.wa_syntax.specs.BinaryInstructions.{expr}
@@ -166,8 +166,8 @@ same_parts m n types imports funcs tables memories globals exports start elems s
     ∙ ap (λ (x : List GlobalDef). let it : Module = record { types = n.types; imports = n.imports; funcs = n.funcs; tables = n.tables; memories = n.memories; globals = x; exports = m.exports; start = m.start; elems = m.elems; segments = m.segments } in it) globals
     ∙ ap (λ (x : List Export). let it : Module = record { types = n.types; imports = n.imports; funcs = n.funcs; tables = n.tables; memories = n.memories; globals = n.globals; exports = x; start = m.start; elems = m.elems; segments = m.segments } in it) exports
     ∙ ap (λ (x : Option ℕ). let it : Module = record { types = n.types; imports = n.imports; funcs = n.funcs; tables = n.tables; memories = n.memories; globals = n.globals; exports = n.exports; start = x; elems = m.elems; segments = m.segments } in it) start
-    ∙ ap (λ (x : List Elem). let it : Module = record { types = n.types; imports = n.imports; funcs = n.funcs; tables = n.tables; memories = n.memories; globals = n.globals; exports = n.exports; start = n.start; elems = x; segments = m.segments } in it) elems
-    ∙ ap (λ (x : List Segment). let it : Module = record { types = n.types; imports = n.imports; funcs = n.funcs; tables = n.tables; memories = n.memories; globals = n.globals; exports = n.exports; start = n.start; elems = n.elems; segments = x } in it) segments
+    ∙ ap (λ (x : List ElemSegment). let it : Module = record { types = n.types; imports = n.imports; funcs = n.funcs; tables = n.tables; memories = n.memories; globals = n.globals; exports = n.exports; start = n.start; elems = x; segments = m.segments } in it) elems
+    ∙ ap (λ (x : List DataSegment). let it : Module = record { types = n.types; imports = n.imports; funcs = n.funcs; tables = n.tables; memories = n.memories; globals = n.globals; exports = n.exports; start = n.start; elems = n.elems; segments = x } in it) segments
 
 sections_one : (bytes : List ℕ) (at a b : ℕ) (m n : Module) → IsSections bytes at m a → IsSections bytes at n b → m ≡ n
 sections_one bytes at a b m n s t =

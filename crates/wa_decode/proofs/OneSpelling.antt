@@ -1,6 +1,6 @@
 -- No spelling of a value begins another's, and no bytes spell two values: by the productions, up to those of types, imports, exports and initial values.
 use Rattle.std.proofs.Common.{◌≡◌, ℕ, ◌+◌, List, [], ◌∷◌, ◌++◌, length, Bool, true, false, Option, None, Some, refl, sym, ap, subst, ◌∙◌, arith, append_assoc}
-use Rattle.wa_syntax.specs.declared.module.Elem.{Elem}
+use Rattle.wa_syntax.specs.declared.module.ElemSegment.{ElemSegment}
 use Rattle.wa_syntax.specs.declared.module.Export.{Export}
 use Rattle.wa_syntax.specs.declared.module.ExportKind.{ExportKind}
 use Rattle.wa_syntax.specs.declared.module.ExportKind.TheVariants as exported
@@ -13,7 +13,7 @@ use Rattle.wa_syntax.specs.declared.module.ImportKind.TheVariants as imported
 use Rattle.wa_syntax.specs.declared.module.Init.{Init}
 use Rattle.wa_syntax.specs.declared.module.Init.TheVariants.{Const32, Const64, Global}
 use Rattle.wa_syntax.specs.declared.module.Limits.{Limits}
-use Rattle.wa_syntax.specs.declared.module.Segment.{Segment}
+use Rattle.wa_syntax.specs.declared.module.DataSegment.{DataSegment}
 use Rattle.wa_syntax.specs.declared.module.ValTy.{ValTy}
 use Rattle.wa_syntax.specs.declared.module.ValTy.TheVariants.{I32, I64}
 use Rattle.wa_syntax.specs.Binary.{functype, limits, limits_of, tabletype, mut, globaltype, importdesc, import, exportdesc, export, global, elem, segment}
@@ -356,10 +356,10 @@ one-global =
 
 pub one-elem : IsOne elem
 one-elem =
-    one-as (λ (t : Elem). (t.table, (t.offset, t.funcs))) (λ t u same. ap (λ (p : ℕ × (Init × List ℕ)). let it : Elem = record { table = p.0; offset = p.1.0; funcs = p.1.1 } in it) same) (λ t s h. h)
+    one-as (λ (t : ElemSegment). (t.table, (t.offset, t.funcs))) (λ t u same. ap (λ (p : ℕ × (Init × List ℕ)). let it : ElemSegment = record { table = p.0; offset = p.1.0; funcs = p.1.1 } in it) same) (λ t s h. h)
     (one-pair one-u32 (one-pair one-init (one-vec one-u32)))
 
 pub one-segment : IsOne segment
 one-segment =
-    one-as (λ (t : Segment). (t.memory, (t.offset, t.bytes))) (λ t u same. ap (λ (p : ℕ × (Init × List ℕ)). let it : Segment = record { memory = p.0; offset = p.1.0; bytes = p.1.1 } in it) same) (λ t s h. h)
+    one-as (λ (t : DataSegment). (t.memory, (t.offset, t.bytes))) (λ t u same. ap (λ (p : ℕ × (Init × List ℕ)). let it : DataSegment = record { memory = p.0; offset = p.1.0; bytes = p.1.1 } in it) same) (λ t s h. h)
     (one-pair one-u32 (one-pair one-init (one-vec one-byte)))

@@ -1,7 +1,8 @@
 -- The reader of the sections of a module.
 use Rattle.std.proofs.Common.{◌≡◌, ℕ, List, map, Option, refl, sym, ap, subst}
 use Rattle.std.specs.Prelude.{Result, Ok, Err}
-use Rattle.wa_syntax.specs.declared.module.Elem.{Elem}
+use Rattle.wa_syntax.specs.declared.module.DataSegment.{DataSegment}
+use Rattle.wa_syntax.specs.declared.module.ElemSegment.{ElemSegment}
 use Rattle.wa_syntax.specs.declared.module.Export.{Export}
 use Rattle.wa_syntax.specs.declared.module.Func.{Func}
 use Rattle.wa_syntax.specs.declared.module.FuncTy.{FuncTy}
@@ -9,7 +10,6 @@ use Rattle.wa_syntax.specs.declared.module.GlobalDef.{GlobalDef}
 use Rattle.wa_syntax.specs.declared.module.Import.{Import}
 use Rattle.wa_syntax.specs.declared.module.Limits.{Limits}
 use Rattle.wa_syntax.specs.declared.module.Module.{Module}
-use Rattle.wa_syntax.specs.declared.module.Segment.{Segment}
 use Rattle.wa_syntax.specs.Binary.{functype, tabletype, memtype, vecsec, import, global, export, startsec, elem, code, segment}
 use Rattle.wa_syntax.specs.Formats.{u32}
 use Rattle.wa_decode.specs.declared.fault.DecodeFault.{DecodeFault}
@@ -51,13 +51,13 @@ and-none Q h = record {
 -- ---- the sections, with the numbers of the functions' types for themselves
 
 abbrev pub Parts_11 : Type 0
-Parts_11 = List Segment
+Parts_11 = List DataSegment
 
 abbrev pub Parts_10 : Type 0
 Parts_10 = List Func × Parts_11
 
 abbrev pub Parts_9 : Type 0
-Parts_9 = List Elem × Parts_10
+Parts_9 = List ElemSegment × Parts_10
 
 abbrev pub Parts_8 : Type 0
 Parts_8 = Option ℕ × Parts_9
@@ -162,7 +162,7 @@ to_module {bytes = bytes} p s =
     let indices = subst (λ (l : List ℕ). IsSection 3 (vecsec 3 u32) bytes s.second.mid l s.second.second.mid) (sym same) s.second.second.first in
     (s.mid, s.first, s.second.mid, s.second.first, s.second.second.mid, indices, s.second.second.second.mid, s.second.second.second.first, s.second.second.second.second.mid, s.second.second.second.second.first, s.second.second.second.second.second.mid, s.second.second.second.second.second.first, s.second.second.second.second.second.second.mid, s.second.second.second.second.second.second.first, s.second.second.second.second.second.second.second.mid, s.second.second.second.second.second.second.second.first, s.second.second.second.second.second.second.second.second.mid, s.second.second.second.second.second.second.second.second.first, s.second.second.second.second.second.second.second.second.second.mid, uncoded codes, s.second.second.second.second.second.second.second.second.second.second)
 
-pub module-ok : {bytes : List ℕ} {at end : ℕ} (types : List FuncTy) (imports : List Import) (indices : List ℕ) (tables : List Limits) (memories : List Limits) (globals : List GlobalDef) (exports : List Export) (start : Option ℕ) (elems : List Elem) (funcs : List Func) (segments : List Segment) → ReadsTo (parts_1 bytes at) (Ok ((types, (imports, (indices, (tables, (memories, (globals, (exports, (start, (elems, (funcs, segments)))))))))), end)) → ReadsTo (IsSections bytes at) (Ok (record { types = types; imports = imports; funcs = funcs; tables = tables; memories = memories; globals = globals; exports = exports; start = start; elems = elems; segments = segments }, end))
+pub module-ok : {bytes : List ℕ} {at end : ℕ} (types : List FuncTy) (imports : List Import) (indices : List ℕ) (tables : List Limits) (memories : List Limits) (globals : List GlobalDef) (exports : List Export) (start : Option ℕ) (elems : List ElemSegment) (funcs : List Func) (segments : List DataSegment) → ReadsTo (parts_1 bytes at) (Ok ((types, (imports, (indices, (tables, (memories, (globals, (exports, (start, (elems, (funcs, segments)))))))))), end)) → ReadsTo (IsSections bytes at) (Ok (record { types = types; imports = imports; funcs = funcs; tables = tables; memories = memories; globals = globals; exports = exports; start = start; elems = elems; segments = segments }, end))
 unfolding module_of parts_of
 module-ok types imports indices tables memories globals exports start elems funcs segments h = record {
   found = to_module (types, (imports, (indices, (tables, (memories, (globals, (exports, (start, (elems, (funcs, segments)))))))))) h.found;

@@ -11,7 +11,7 @@ use crate::external::{ExportEntry, ImportEntry};
 use crate::fault::DecodeFault;
 use crate::production::Decoded;
 use crate::section::{code_section, customs, start_section, vector_section};
-use crate::segment::{DataSegment, ElementSegment, OwnGlobal};
+use crate::segment::{OwnDataSegment, OwnElemSegment, OwnGlobal};
 use crate::types::{FunctionType, MemoryType, TableType};
 use crate::value::{Index, ends};
 use std::alloc::Global;
@@ -58,9 +58,9 @@ fn sections(alloc: Global, bytes: &[u8], at: u32) -> Decoded<Module>
     let (globals, at) = vector_section::<OwnGlobal>(alloc, bytes, at, 6)?;
     let (exports, at) = vector_section::<ExportEntry>(alloc, bytes, at, 7)?;
     let (start, at) = start_section(bytes, at)?;
-    let (elems, at) = vector_section::<ElementSegment>(alloc, bytes, at, 9)?;
+    let (elems, at) = vector_section::<OwnElemSegment>(alloc, bytes, at, 9)?;
     let (funcs, at) = code_section(alloc, bytes, at, func_types.as_slice())?;
-    let (segments, end) = vector_section::<DataSegment>(alloc, bytes, at, 11)?;
+    let (segments, end) = vector_section::<OwnDataSegment>(alloc, bytes, at, 11)?;
     let module = Module {
         types,
         imports,

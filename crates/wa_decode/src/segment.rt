@@ -14,7 +14,7 @@ use crate::value::{Index, byte, byte_vector, expect, signed_32, signed_64, unsig
 use sqlite_items::Items;
 use std::alloc::Global;
 use wa_syntax::opcode::{END, GLOBAL_GET, I32_CONST, I64_CONST};
-use wa_syntax::{Elem, GlobalDef, Init, Segment};
+use wa_syntax::{DataSegment, ElemSegment, GlobalDef, Init};
 
 /// An initial value or an offset: one instruction that gives a constant or reads a global, and an end (5.4.6).
 fn initial_value(bytes: &[u8], at: u32) -> Decoded<Init>
@@ -67,18 +67,18 @@ impl Production for OwnGlobal {
 }
 
 /// A segment of a table (5.5.12).
-pub struct ElementSegment;
+pub struct OwnElemSegment;
 
-impl Production for ElementSegment {
-    type Value = Elem;
+impl Production for OwnElemSegment {
+    type Value = ElemSegment;
 
     ghost format = { elem };
 
-    fn read(alloc: Global, bytes: &[u8], at: u32) -> Decoded<Elem> {
+    fn read(alloc: Global, bytes: &[u8], at: u32) -> Decoded<ElemSegment> {
         let (table, at) = unsigned(bytes, at)?;
         let (offset, at) = initial_value(bytes, at)?;
         let (funcs, end) = vector::<Index>(alloc, bytes, at)?;
-        let elem = Elem {
+        let elem = ElemSegment {
             table,
             offset,
             funcs,
@@ -88,19 +88,19 @@ impl Production for ElementSegment {
 }
 
 /// A segment of a memory (5.5.14).
-pub struct DataSegment;
+pub struct OwnDataSegment;
 
-impl Production for DataSegment {
-    type Value = Segment;
+impl Production for OwnDataSegment {
+    type Value = DataSegment;
 
     ghost format = { segment };
 
-    fn read(alloc: Global, bytes: &[u8], at: u32) -> Decoded<Segment> {
+    fn read(alloc: Global, bytes: &[u8], at: u32) -> Decoded<DataSegment> {
         let (memory, at) = unsigned(bytes, at)?;
         let (offset, at) = initial_value(bytes, at)?;
         let (content, end) = byte_vector(bytes, at)?;
         let bytes = Items::from_slice(alloc, content)?;
-        let segment = Segment {
+        let segment = DataSegment {
             memory,
             offset,
             bytes,

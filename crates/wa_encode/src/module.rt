@@ -12,7 +12,8 @@ use crate::types::{function_type, global_type, limits, table_type};
 use crate::value::{byte, bytes, name, number, vector};
 use std::alloc::Global;
 use wa_syntax::{
-    Elem, Export, ExportKind, Func, GlobalDef, Import, ImportKind, Module, NoMemory, Segment,
+    DataSegment, ElemSegment, Export, ExportKind, Func, GlobalDef, Import, ImportKind, Module,
+    NoMemory,
 };
 
 /// The magic number and the version (5.5.15).
@@ -177,7 +178,7 @@ fn start(alloc: Global, out: &mut Vec<u8>, func: Option<u32>) -> Result<(), NoMe
 }
 
 /// An element segment (5.5.12).
-fn element_segment(out: &mut Vec<u8>, elem: &Elem) -> Result<(), NoMemory>
+fn element_segment(out: &mut Vec<u8>, elem: &ElemSegment) -> Result<(), NoMemory>
     ensures { OnOk result (Adds (binary.elem elem.now) out.old.items out.new.items) }
 {
     number(out, &elem.table)?;
@@ -196,7 +197,7 @@ fn code(alloc: Global, out: &mut Vec<u8>, func: &Func) -> Result<(), NoMemory>
 }
 
 /// A data segment (5.5.14).
-fn data_segment(out: &mut Vec<u8>, segment: &Segment) -> Result<(), NoMemory>
+fn data_segment(out: &mut Vec<u8>, segment: &DataSegment) -> Result<(), NoMemory>
     ensures { OnOk result (Adds (binary.segment segment.now) out.old.items out.new.items) }
 {
     number(out, &segment.memory)?;

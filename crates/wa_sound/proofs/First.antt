@@ -10,7 +10,7 @@ use Rattle.wa_syntax.specs.declared.module.Limits.{Limits}
 use Rattle.wa_syntax.specs.declared.module.GlobalTy.{GlobalTy}
 use Rattle.wa_syntax.specs.declared.module.GlobalDef.{GlobalDef}
 use Rattle.wa_syntax.specs.declared.module.Init.{Init}
-use Rattle.wa_syntax.specs.declared.module.Segment.{Segment}
+use Rattle.wa_syntax.specs.declared.module.DataSegment.{DataSegment}
 use Rattle.wa_syntax.specs.declared.module.Module.{Module}
 use Rattle.wa_syntax.specs.ValidModule.{IsValid, IsConstant, IsMemory, imported, imported_global}
 use Rattle.wa_syntax.specs.Operations.{page, overwritten}
@@ -47,23 +47,23 @@ module _ (r : Setting) where
 
 module _ (at : Init → ℕ) where
   -- the bytes with these segments
-  abbrev with_segments : List ℕ → List Segment → List ℕ
+  abbrev with_segments : List ℕ → List DataSegment → List ℕ
   with_segments bytes segments = fold (λ bytes segment. overwritten bytes (at segment.offset) segment.bytes) bytes segments
 
-  bytes-segments : (bytes : List ℕ) (segments : List Segment) → All IsByte bytes → All (λ (s : Segment). All IsByte s.bytes) segments → All IsByte (with_segments bytes segments)
+  bytes-segments : (bytes : List ℕ) (segments : List DataSegment) → All IsByte bytes → All (λ (s : DataSegment). All IsByte s.bytes) segments → All IsByte (with_segments bytes segments)
   bytes-segments bytes [] h all = h
   bytes-segments bytes (s ∷ segments) h all =
       bytes-segments (overwritten bytes (at s.offset) s.bytes) segments
-      (bytes-overwritten bytes s.bytes (at s.offset) h (All-head (λ (s : Segment). All IsByte s.bytes) s segments all))
-      (All-tail (λ (s : Segment). All IsByte s.bytes) s segments all)
+      (bytes-overwritten bytes s.bytes (at s.offset) h (All-head (λ (s : DataSegment). All IsByte s.bytes) s segments all))
+      (All-tail (λ (s : DataSegment). All IsByte s.bytes) s segments all)
 
-  length-segments : (n : ℕ) (bytes : List ℕ) (segments : List Segment) → length bytes ≡ n → All (λ (s : Segment). at s.offset + length s.bytes ≤ n) segments → length (with_segments bytes segments) ≡ n
+  length-segments : (n : ℕ) (bytes : List ℕ) (segments : List DataSegment) → length bytes ≡ n → All (λ (s : DataSegment). at s.offset + length s.bytes ≤ n) segments → length (with_segments bytes segments) ≡ n
   length-segments n bytes [] h all = h
   length-segments n bytes (s ∷ segments) h all =
-      let fits : at s.offset + length s.bytes ≤ n = All-head (λ (s : Segment). at s.offset + length s.bytes ≤ n) s segments all in
+      let fits : at s.offset + length s.bytes ≤ n = All-head (λ (s : DataSegment). at s.offset + length s.bytes ≤ n) s segments all in
       length-segments n (overwritten bytes (at s.offset) s.bytes) segments
       (length-overwritten bytes s.bytes (at s.offset) (omega (arith, h, fits)) ∙ h)
-      (All-tail (λ (s : Segment). at s.offset + length s.bytes ≤ n) s segments all)
+      (All-tail (λ (s : DataSegment). at s.offset + length s.bytes ≤ n) s segments all)
 
 -- ---- pages
 

@@ -8,10 +8,10 @@ use Rattle.wa_syntax.specs.declared.instr.Instr.{Instr, out-Instr}
 use Rattle.wa_syntax.specs.declared.instr.Instr.TheOpen.{Instr-F}
 use Rattle.wa_syntax.specs.declared.instr.Instr.TheFolds.{fold-roll-Instr}
 use Rattle.wa_syntax.specs.declared.instr.Instr.TheViews.{roll-Instr, roll-out-Instr}
+use Rattle.wa_syntax.specs.declared.module.DataSegment.{DataSegment}
 use Rattle.wa_syntax.specs.declared.module.Func.{Func}
 use Rattle.wa_syntax.specs.declared.module.GlobalDef.{GlobalDef}
 use Rattle.wa_syntax.specs.declared.module.Init.{Init}
-use Rattle.wa_syntax.specs.declared.module.Segment.{Segment}
 use Rattle.wa_syntax.specs.declared.module.Module.{Module}
 use Rattle.wa_syntax.specs.declared.opcode.TheConstants.{UNREACHABLE, NOP, RETURN, DROP, SELECT, MEMORY_SIZE, MEMORY_GROW}
 use Rattle.wa_syntax.specs.Instructions.{Instruction, plain, instruction, instruction_at, sequence}
@@ -134,7 +134,7 @@ global-in_range g bytes are s = init-in_range g.init s.1 s.4
 code-in_range : (f : Func) (bytes : List ℕ) → All IsByte bytes → code f bytes → AreConstants (sequence f.body)
 code-in_range f bytes are s = each-constants (instr max_nesting) f.body s.1.4.0 (instr-constants max_nesting) s.1.4.3
 
-segment-in_range : (x : Segment) (bytes : List ℕ) → All IsByte bytes → segment x bytes → All IsByte x.bytes
+segment-in_range : (x : DataSegment) (bytes : List ℕ) → All IsByte bytes → segment x bytes → All IsByte x.bytes
 segment-in_range x bytes are s =
     each-all byte IsByte x.bytes s.4.4.1 (λ b front are e. All-head IsByte b [] (subst (All IsByte) e are)) (behind _ _ s.4.4.2 (behind _ _ s.4.2 (behind _ _ s.2 are))) s.4.4.4
 
@@ -167,7 +167,7 @@ spelled-in_range m bytes s are input input_is fit =
     record {
       bodies = section-all 10 code (λ (f : Func). AreConstants (sequence f.body)) m.funcs codes.4.0 code-in_range (in_front _ _ codes.4.2 (behind _ _ codes.2 in_codes)) codes.4.3;
       globals = section-all 6 global (λ (g : GlobalDef). IsInitInRange g.init) m.globals globals.4.0 global-in_range (in_front _ _ globals.4.2 (behind _ _ globals.2 in_globals)) globals.4.3;
-      segments = section-all 11 segment (λ (x : Segment). All IsByte x.bytes) m.segments segments.4.0 segment-in_range (in_front _ _ segments.4.2 (behind _ _ segments.2 in_segments)) segments.4.3;
+      segments = section-all 11 segment (λ (x : DataSegment). All IsByte x.bytes) m.segments segments.4.0 segment-in_range (in_front _ _ segments.4.2 (behind _ _ segments.2 in_segments)) segments.4.3;
       input_is = input_is;
       fit = fit;
     }

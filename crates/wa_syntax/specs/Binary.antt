@@ -2,7 +2,7 @@
 -- part: which bytes spell which module.
 use Rattle.std.specs.Prelude.{◌≡◌, ℕ, ◌≤◌, ◌⊎◌, Bool, true, false, List, [], ◌∷◌, length, map, Option, None, Some}
 use Rattle.wa_syntax.specs.declared.locals.Run.{Run}
-use Rattle.wa_syntax.specs.declared.module.Elem.{Elem}
+use Rattle.wa_syntax.specs.declared.module.ElemSegment.{ElemSegment}
 use Rattle.wa_syntax.specs.declared.module.Export.{Export}
 use Rattle.wa_syntax.specs.declared.module.ExportKind.{ExportKind}
 use Rattle.wa_syntax.specs.declared.module.ExportKind.TheVariants as exported
@@ -15,7 +15,7 @@ use Rattle.wa_syntax.specs.declared.module.ImportKind.{ImportKind}
 use Rattle.wa_syntax.specs.declared.module.ImportKind.TheVariants as imported
 use Rattle.wa_syntax.specs.declared.module.Limits.{Limits}
 use Rattle.wa_syntax.specs.declared.module.Module.{Module}
-use Rattle.wa_syntax.specs.declared.module.Segment.{Segment}
+use Rattle.wa_syntax.specs.declared.module.DataSegment.{DataSegment}
 use Rattle.wa_syntax.specs.declared.module.ValTy.{ValTy}
 use Rattle.wa_syntax.specs.BinaryInstructions.{valtype, expr, init}
 use Rattle.wa_syntax.specs.Formats.{Format, ◌then◌, exactly, each, vec, byte, name, sized, u32}
@@ -102,7 +102,7 @@ startsec None = exactly []
 startsec (Some x) = section 8 (u32 x)
 
 -- a segment of a table (5.5.12)
-abbrev pub elem : Elem → Format
+abbrev pub elem : ElemSegment → Format
 elem e = u32 e.table then init e.offset then vec u32 e.funcs
 
 -- locals of one type in a row (5.5.13)
@@ -119,7 +119,7 @@ abbrev pub code : Func → Format
 code f = sized (locals f.locals then expr f.body)
 
 -- a segment of a memory (5.5.14)
-abbrev pub segment : Segment → Format
+abbrev pub segment : DataSegment → Format
 segment s = u32 s.memory then init s.offset then vec byte s.bytes
 
 -- ---- modules (5.5.15)

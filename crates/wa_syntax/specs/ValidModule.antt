@@ -1,5 +1,6 @@
 -- Which modules are valid (sections 3.2 and 3.4 of the WebAssembly Core Specification 1.0, in its integer part).
-use Rattle.std.specs.Prelude.{ℕ, ◌<◌, ◌≤◌, ◌^◌, ◌-◌, ◌+◌, ◌≡◌, ◌≢◌, IsFalse, List, [], ◌++◌, length, map, filter_map, slice_get, All, AllPairs, Option, Some, None, IfSome}
+use Rattle.std.specs.Prelude.{ℕ, ◌<◌, ◌≤◌, ◌^◌, ◌-◌, ◌+◌, ◌≡◌, ◌≢◌, IsFalse, List, [], ◌++◌, length}
+use Rattle.std.specs.Prelude.{map, filter_map, slice_get, All, AllPairs, Option, Some, None, IfSome}
 use Rattle.wa_syntax.specs.declared.module.ValTy.{ValTy}
 use Rattle.wa_syntax.specs.declared.module.ValTy.TheVariants.{I32, I64}
 use Rattle.wa_syntax.specs.declared.module.Limits.{Limits}
@@ -7,8 +8,8 @@ use Rattle.wa_syntax.specs.declared.module.GlobalTy.{GlobalTy}
 use Rattle.wa_syntax.specs.declared.module.Init.{Init}
 use Rattle.wa_syntax.specs.declared.module.ImportKind.{ImportKind}
 use Rattle.wa_syntax.specs.declared.module.ExportKind.{ExportKind}
-use Rattle.wa_syntax.specs.declared.module.Elem.{Elem}
-use Rattle.wa_syntax.specs.declared.module.Segment.{Segment}
+use Rattle.wa_syntax.specs.declared.module.ElemSegment.{ElemSegment}
+use Rattle.wa_syntax.specs.declared.module.DataSegment.{DataSegment}
 use Rattle.wa_syntax.specs.declared.module.Module.{Module}
 use Rattle.wa_syntax.specs.Validity.{Context, HasFunction, IsTypedFunction}
 
@@ -89,11 +90,11 @@ IsConstant globals ty (Init.Const64 n) = ty ≡ I64
 IsConstant globals ty (Init.Global x) = (g : GlobalTy) × (slice_get globals x ≡ Some g) × IsFalse g.mutable × (g.val ≡ ty)
 
 -- an element segment (3.4.5)
-abbrev pub IsElem : Context → Elem → Type 0
+abbrev pub IsElem : Context → ElemSegment → Type 0
 IsElem c elem = (elem.table < c.tables) × IsConstant c.globals I32 elem.offset × All (λ func. func < length c.funcs) elem.funcs
 
 -- a data segment (3.4.6)
-abbrev pub IsSegment : Context → Segment → Type 0
+abbrev pub IsSegment : Context → DataSegment → Type 0
 IsSegment c segment = (segment.memory < c.memories) × IsConstant c.globals I32 segment.offset
 
 -- a start function takes nothing and gives nothing (3.4.7)

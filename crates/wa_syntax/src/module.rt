@@ -91,7 +91,7 @@ pub struct GlobalDef {
 
 /// A segment of a table (2.5.7): functions by their numbers, from the offset on.
 #[derive(Drop)]
-pub struct Elem {
+pub struct ElemSegment {
     pub table: u32,
     pub offset: Init,
     pub funcs: Items<u32>,
@@ -99,7 +99,7 @@ pub struct Elem {
 
 /// A segment of a memory (2.5.8): bytes, from the offset on.
 #[derive(Drop)]
-pub struct Segment {
+pub struct DataSegment {
     pub memory: u32,
     pub offset: Init,
     pub bytes: Items<u8>,
@@ -117,6 +117,6 @@ pub struct Module {
     pub exports: Items<Export>,
     /// The number of the start function (2.5.9).
     pub start: Option<u32>,
-    pub elems: Items<Elem>,
-    pub segments: Items<Segment>,
+    pub elems: Items<ElemSegment>,
+    pub segments: Items<DataSegment>,
 }

@@ -1,7 +1,8 @@
 //! The parts of a module outside the bodies of functions (section 3.4).
 
 ghost use Rattle.std.specs.Prelude.{◌≤◌, ◌<◌, ◌≢◌, All, AllPairs, IfSome, length, map};
-ghost use Rattle.wa_syntax.specs.ValidModule.{IsValidOutside, IsConstant, IsElem, IsExport, IsImport, IsMemory, IsSegment, IsStart, IsTable, imported, imported_global};
+ghost use Rattle.wa_syntax.specs.ValidModule.{IsValidOutside, IsConstant, IsElem, IsExport, IsImport};
+ghost use Rattle.wa_syntax.specs.ValidModule.{IsMemory, IsSegment, IsStart, IsTable, imported, imported_global};
 ghost use Rattle.wa_valid.specs.Names.{names};
 ghost use Rattle.wa_valid.specs.Rules.{Says};
 
@@ -11,8 +12,8 @@ use crate::types::{external_type, function_type, memory_type, table_type};
 use indexmap::IndexSet;
 use std::alloc::Global;
 use wa_syntax::{
-    Elem, Export, ExportKind, Func, FuncTy, GlobalDef, GlobalTy, Import, Init, Limits, Module,
-    Segment, ValTy,
+    DataSegment, ElemSegment, Export, ExportKind, Func, FuncTy, GlobalDef, GlobalTy, Import, Init,
+    Limits, Module, ValTy,
 };
 
 /// All rules of a module outside the bodies (3.4.10).
@@ -114,7 +115,7 @@ fn constant_expression(globals: &[GlobalTy], init: Init, ty: ValTy) -> Rule
 }
 
 /// Element segments (3.4.5).
-fn element_segments(context: &Context, elems: &[Elem]) -> Rule
+fn element_segments(context: &Context, elems: &[ElemSegment]) -> Rule
     ensures { Says (All (IsElem (names context.now)) elems.now) result }
 {
     for elem in elems {
@@ -124,7 +125,7 @@ fn element_segments(context: &Context, elems: &[Elem]) -> Rule
 }
 
 /// An element segment (3.4.5): the table and the functions exist, and the offset is an i32.
-fn element_segment(context: &Context, elem: &Elem) -> Rule
+fn element_segment(context: &Context, elem: &ElemSegment) -> Rule
     ensures { Says (IsElem (names context.now) elem.now) result }
 {
     require((elem.table as usize) < context.tables)?;
@@ -150,7 +151,7 @@ fn function_exists(context: &Context, func: u32) -> Rule
 }
 
 /// Data segments (3.4.6).
-fn data_segments(context: &Context, segments: &[Segment]) -> Rule
+fn data_segments(context: &Context, segments: &[DataSegment]) -> Rule
     ensures { Says (All (IsSegment (names context.now)) segments.now) result }
 {
     for segment in segments {
@@ -160,7 +161,7 @@ fn data_segments(context: &Context, segments: &[Segment]) -> Rule
 }
 
 /// A data segment (3.4.6): the memory exists, and the offset is an i32.
-fn data_segment(context: &Context, segment: &Segment) -> Rule
+fn data_segment(context: &Context, segment: &DataSegment) -> Rule
     ensures { Says (IsSegment (names context.now) segment.now) result }
 {
     require((segment.memory as usize) < context.memories)?;

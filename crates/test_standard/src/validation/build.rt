@@ -85,12 +85,12 @@ fn add(alloc: Global, m: &mut Module, part: Part) -> Result<(), Fail> {
             init,
         })?,
         Part::Start(func) => m.start = Some(func),
-        Part::Elem(table, offset, funcs) => m.elems.push(Elem {
+        Part::Elem(table, offset, funcs) => m.elems.push(ElemSegment {
             table,
             offset,
             funcs: Items::from_slice(alloc, funcs)?,
         })?,
-        Part::Data(memory, offset) => m.segments.push(Segment {
+        Part::Data(memory, offset) => m.segments.push(DataSegment {
             memory,
             offset,
             bytes: Items::new(alloc),

@@ -1,6 +1,6 @@
 use Rattle.std.proofs.Common.{◌≡◌, ◌+◌, ◌<◌, ◌≤◌, ◌∙◌, length, get_or, rules}
 use Rattle.std.proofs.lemmas.List.{with_items_is}
-use Rattle.wa_syntax.specs.declared.module.Segment.{Segment}
+use Rattle.wa_syntax.specs.declared.module.DataSegment.{DataSegment}
 use Rattle.wa_syntax.specs.Runs.{memory_size, offset_of}
 use Rattle.wa_code.proofs.Filled.{memory-next, put_segment, room-at}
 use Rattle.wa_code.proofs.instance.memory.Goals as goal
@@ -13,7 +13,7 @@ put_bytes-requires c =
     let within : at < length m.segments = search rules in
     let is : c.segment-item.result ≡ get_or m.segments at c.segment-item.result = search rules in
     let size : length bytes ≡ memory_size m = c.as_mut_slice.ensures.len ∙ c.loop-segment.invariant.size in
-    let fits : offset_of m c.segment-item.result.offset + length c.segment-item.result.bytes ≤ length bytes = room-at (λ (segment : Segment). offset_of m segment.offset + length segment.bytes) (memory_size m) m.segments at c.segment-item.result (length bytes) within is size c.requires.segments in
+    let fits : offset_of m c.segment-item.result.offset + length c.segment-item.result.bytes ≤ length bytes = room-at (λ (segment : DataSegment). offset_of m segment.offset + length segment.bytes) (memory_size m) m.segments at c.segment-item.result (length bytes) within is size c.requires.segments in
     search rules
 
 pub loop-segment-preserved : goal.loop-segment-preserved

@@ -1,7 +1,7 @@
 use Rattle.std.proofs.Common.{◌≡◌, ◌+◌, ◌≤◌, ◌∙◌, sym, ap, length, subst, rules}
 use Rattle.std.specs.Prelude.{All}
 use Rattle.std.proofs.lemmas.List.{take_all}
-use Rattle.wa_syntax.specs.declared.module.Elem.{Elem}
+use Rattle.wa_syntax.specs.declared.module.ElemSegment.{ElemSegment}
 use Rattle.wa_syntax.specs.Runs.{offset_of, table_size}
 use Rattle.wa_code.proofs.Filled.{filled, put_elem, room-at, table-next}
 use Rattle.wa_code.proofs.instance.table.Goals as goal
@@ -10,8 +10,8 @@ pub put_all-requires : goal.put_all-requires
 put_all-requires c =
     let m = c.args.m.now in
     let elems = c.as_slice-elems.result.now in
-    let all = subst (All (λ (elem : Elem). offset_of m elem.offset + length elem.funcs ≤ table_size m)) (sym c.as_slice-elems.ensures) c.requires.elems in
-    let fits : offset_of m c.elem-item.result.offset + length c.elem-item.result.funcs ≤ length c.loop-elem.table = room-at (λ (elem : Elem). offset_of m elem.offset + length elem.funcs) (table_size m) elems c.loop-elem.elem-index c.elem-item.result (length c.loop-elem.table) c.loop-elem-test.true c.elem-item.is c.loop-elem.invariant.size all in
+    let all = subst (All (λ (elem : ElemSegment). offset_of m elem.offset + length elem.funcs ≤ table_size m)) (sym c.as_slice-elems.ensures) c.requires.elems in
+    let fits : offset_of m c.elem-item.result.offset + length c.elem-item.result.funcs ≤ length c.loop-elem.table = room-at (λ (elem : ElemSegment). offset_of m elem.offset + length elem.funcs) (table_size m) elems c.loop-elem.elem-index c.elem-item.result (length c.loop-elem.table) c.loop-elem-test.true c.elem-item.is c.loop-elem.invariant.size all in
     search rules
 
 pub loop-elem-preserved : goal.loop-elem-preserved

@@ -2,7 +2,7 @@ use Rattle.std.proofs.Common.{List, refl, ap, subst, true≢false}
 use Rattle.std.specs.Prelude.{All, is_ok}
 use Rattle.std.proofs.lemmas.List.{take_all}
 use Rattle.wa_valid.proofs.Elements.{All-more_item}
-use Rattle.wa_syntax.specs.declared.module.Elem.{Elem}
+use Rattle.wa_syntax.specs.declared.module.ElemSegment.{ElemSegment}
 use Rattle.wa_syntax.specs.ValidModule.{IsElem}
 use Rattle.wa_valid.specs.Names.{names}
 use Rattle.wa_valid.proofs.module.element_segments.Goals as goal
@@ -13,6 +13,6 @@ loop-elem-preserved c =
 
 pub returns : goal.returns
 returns c = (
-  λ ok. subst (λ (all : List Elem). All (IsElem (names c.args.context.now)) all) (take_all c.loop-elem.elem-index c.args.elems.now c.loop-elem-test.false) c.loop-elem.invariant,
+  λ ok. subst (λ (all : List ElemSegment). All (IsElem (names c.args.context.now)) all) (take_all c.loop-elem.elem-index c.args.elems.now c.loop-elem-test.false) c.loop-elem.invariant,
   λ is. absurd (true≢false (ap is_ok is)),
 )

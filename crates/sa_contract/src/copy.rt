@@ -1,0 +1,162 @@
+//! Expressions once more, as far as the budget allows.
+
+ghost use Rattle.std.specs.Prelude.{◌≡◌, IfOk};
+
+use crate::budget::Budget;
+use sa_tree::{Expr, Given, Name, NoMemory, Recv, Ty};
+use sqlite_items::{Boxed, Items};
+use std::alloc::Global;
+
+/// The same expression once more. It fails where memory runs out, or the budget.
+#[cycle(copying)]
+pub(crate) fn copy_expr(alloc: Global, e: &Expr, budget: &mut Budget) -> Result<Expr, NoMemory>
+    ensures { IfOk result (λ copy. copy ≡ e.now) }
+{
+    budget.take_expr()?;
+    match e {
+        Expr::Int(value, pos) => Ok(Expr::Int(*value, *pos)),
+        Expr::Bool(value, pos) => Ok(Expr::Bool(*value, *pos)),
+        Expr::Char(value, pos) => Ok(Expr::Char(*value, *pos)),
+        Expr::Text(text, pos) => Ok(Expr::Text(copy_name(alloc, text, budget)?, *pos)),
+        Expr::Me(pos) => Ok(Expr::Me(*pos)),
+        Expr::Void(pos) => Ok(Expr::Void(*pos)),
+        Expr::Exception(pos) => Ok(Expr::Exception(*pos)),
+        Expr::IsVoid(tested, pos) => Ok(Expr::IsVoid(copy_boxed(alloc, tested, budget)?, *pos)),
+        Expr::New(count, pos) => Ok(Expr::New(copy_optional_boxed(alloc, count, budget)?, *pos)),
+        Expr::Create(ty, args, pos) => {
+            let ty = copy_optional_type(alloc, ty, budget)?;
+            Ok(Expr::Create(ty, copy_args(alloc, args.as_slice(), budget)?, *pos))
+        }
+        Expr::Items(items, pos) => {
+            Ok(Expr::Items(copy_exprs(alloc, items.as_slice(), budget)?, *pos))
+        }
+        Expr::Call(on, name, args, pos) => {
+            let on = copy_receiver(alloc, on, budget)?;
+            let name = copy_name(alloc, name, budget)?;
+            Ok(Expr::Call(on, name, copy_args(alloc, args.as_slice(), budget)?, *pos))
+        }
+        Expr::Binary(op, left, right, pos) => {
+            let left = copy_boxed(alloc, left, budget)?;
+            Ok(Expr::Binary(*op, left, copy_boxed(alloc, right, budget)?, *pos))
+        }
+        Expr::Unary(op, of, pos) => Ok(Expr::Unary(*op, copy_boxed(alloc, of, budget)?, *pos)),
+        Expr::Index(of, at, pos) => {
+            let of = copy_optional_boxed(alloc, of, budget)?;
+            Ok(Expr::Index(of, copy_exprs(alloc, at.as_slice(), budget)?, *pos))
+        }
+        Expr::Bind(call, pos) => Ok(Expr::Bind(copy_boxed(alloc, call, budget)?, *pos)),
+    }
+}
+
+#[cycle(copying)]
+fn copy_boxed(alloc: Global, e: &Boxed<Expr>, budget: &mut Budget) -> Result<Boxed<Expr>, NoMemory>
+    ensures { IfOk result (λ copy. copy ≡ e.now) }
+{
+    let copy = copy_expr(alloc, e.get(), budget)?;
+    Ok(Boxed::new(alloc, copy)?)
+}
+
+#[cycle(copying)]
+fn copy_optional_boxed(
+    alloc: Global,
+    e: &Option<Boxed<Expr>>,
+    budget: &mut Budget,
+) -> Result<Option<Boxed<Expr>>, NoMemory>
+    ensures { IfOk result (λ copy. copy ≡ e.now) }
+{
+    match e {
+        None => Ok(None),
+        Some(e) => Ok(Some(Boxed::new(alloc, copy_expr(alloc, e.get(), budget)?)?)),
+    }
+}
+
+#[cycle(copying)]
+pub(crate) fn copy_exprs(
+    alloc: Global,
+    list: &[Expr],
+    budget: &mut Budget,
+) -> Result<Items<Expr>, NoMemory>
+    ensures { IfOk result (λ copies. copies ≡ list.now) }
+{
+    let mut copies = Items::new(alloc);
+    for e in list {
+        copies.push(copy_expr(alloc, e, budget)?)?;
+    }
+    Ok(copies)
+}
+
+#[cycle(copying)]
+fn copy_receiver(alloc: Global, on: &Recv, budget: &mut Budget) -> Result<Recv, NoMemory>
+    ensures { IfOk result (λ copy. copy ≡ on.now) }
+{
+    match on {
+        Recv::Implied => Ok(Recv::Implied),
+        Recv::Of(e) => Ok(Recv::Of(copy_boxed(alloc, e, budget)?)),
+        Recv::OfClass(ty) => Ok(Recv::OfClass(copy_type(alloc, ty, budget)?)),
+    }
+}
+
+#[cycle(copying)]
+fn copy_args(alloc: Global, args: &[Given], budget: &mut Budget) -> Result<Items<Given>, NoMemory>
+    ensures { IfOk result (λ copies. copies ≡ args.now) }
+{
+    let mut copies = Items::new(alloc);
+    for arg in args {
+        copies.push(copy_arg(alloc, arg, budget)?)?;
+    }
+    Ok(copies)
+}
+
+#[cycle(copying)]
+fn copy_arg(alloc: Global, arg: &Given, budget: &mut Budget) -> Result<Given, NoMemory>
+    ensures { IfOk result (λ copy. copy ≡ arg.now) }
+{
+    match arg {
+        Given::Value(mode, e) => Ok(Given::Value(*mode, copy_expr(alloc, e, budget)?)),
+        Given::Left(ty, pos) => Ok(Given::Left(copy_optional_type(alloc, ty, budget)?, *pos)),
+    }
+}
+
+/// The same of an expression that may be missing.
+pub(crate) fn copy_optional_expr(
+    alloc: Global,
+    e: &Option<Expr>,
+    budget: &mut Budget,
+) -> Result<Option<Expr>, NoMemory>
+    ensures { IfOk result (λ copy. copy ≡ e.now) }
+{
+    match e {
+        None => Ok(None),
+        Some(e) => Ok(Some(copy_expr(alloc, e, budget)?)),
+    }
+}
+
+/// The same of a type.
+pub(crate) fn copy_type(alloc: Global, ty: &Ty, budget: &mut Budget) -> Result<Ty, NoMemory>
+    ensures { IfOk result (λ copy. copy ≡ ty.now) }
+{
+    budget.take_type(ty)?;
+    Ok(ty.copy(alloc)?)
+}
+
+/// The same of a type that may be missing.
+pub(crate) fn copy_optional_type(
+    alloc: Global,
+    ty: &Option<Ty>,
+    budget: &mut Budget,
+) -> Result<Option<Ty>, NoMemory>
+    ensures { IfOk result (λ copy. copy ≡ ty.now) }
+{
+    match ty {
+        None => Ok(None),
+        Some(ty) => Ok(Some(copy_type(alloc, ty, budget)?)),
+    }
+}
+
+/// The same of a name or a text.
+pub(crate) fn copy_name(alloc: Global, name: &Name, budget: &mut Budget) -> Result<Name, NoMemory>
+    ensures { IfOk result (λ copy. copy ≡ name.now) }
+{
+    budget.take_name(name)?;
+    Ok(name.copy(alloc)?)
+}

@@ -1,0 +1,131 @@
+//! Which typed expressions are quiet: they only read, so that a program with them runs as one without them, but where they stop it.
+
+ghost use Rattle.std.specs.Prelude.{◌≡◌};
+ghost use Rattle.sa_core.specs.Copy.{arg_of, args_of, expr_of};
+ghost use Rattle.sa_contract.specs.Quiet.{is_quiet, is_quiet_arg, are_quiet_args, is_quiet_builtin, is_quiet_target};
+
+use sa_core::{ArgCore, CalledCore, ExprCore, Target};
+use sa_prelude::BuiltinFeature;
+
+/// Whether an expression is quiet: it is made of literals, void values, `self`, variables, reads of attributes and of shareds,
+/// tests for void, `and` and `or`, and calls of built-in features that make and change nothing.
+#[cycle(quiet)]
+pub fn quiet(e: &ExprCore) -> bool
+    ensures { result ≡ is_quiet (expr_of e.now) }
+{
+    match e {
+        ExprCore::Int(_)
+        | ExprCore::Bool(_)
+        | ExprCore::Char(_)
+        | ExprCore::Text(_)
+        | ExprCore::VoidOf(_)
+        | ExprCore::Me
+        | ExprCore::Var(_) => true,
+        ExprCore::IsVoid(of) => quiet(of.get()),
+        ExprCore::And(first, second) | ExprCore::Or(first, second) => {
+            quiet(first.get()) && quiet(second.get())
+        }
+        ExprCore::Call(CalledCore::Static(target, _), on, args, _) => {
+            is_quiet_target(*target) && quiet(on.get()) && are_quiet_args(args.as_slice())
+        }
+        ExprCore::Swapped(target, first, second, _) => {
+            is_quiet_builtin(*target) && quiet(first.get()) && quiet(second.get())
+        }
+        ExprCore::Call(CalledCore::Dispatch(_) | CalledCore::Bound, _, _, _)
+        | ExprCore::Exception
+        | ExprCore::New(_, _)
+        | ExprCore::NewArray(_, _, _)
+        | ExprCore::Items(_, _, _)
+        | ExprCore::IterCall(_, _, _, _)
+        | ExprCore::Bind(_, _, _, _, _)
+        | ExprCore::Widen(_, _, _) => false,
+    }
+}
+
+/// Whether the arguments are quiet: all are values.
+#[cycle(quiet)]
+fn are_quiet_args(args: &[ArgCore]) -> bool
+    ensures { result ≡ are_quiet_args (args_of args.now) }
+{
+    for arg in args {
+        if !is_quiet_arg(arg) {
+            return false;
+        }
+    }
+    true
+}
+
+#[cycle(quiet)]
+fn is_quiet_arg(arg: &ArgCore) -> bool
+    ensures { result ≡ is_quiet_arg (arg_of arg.now) }
+{
+    match arg {
+        ArgCore::Value(_, value) => quiet(value),
+        ArgCore::Variable(_, _) | ArgCore::Left => false,
+    }
+}
+
+/// Whether what is called reads an attribute or a shared, or is a built-in feature that makes and changes nothing.
+fn is_quiet_target(target: Target) -> bool
+    ensures { result ≡ is_quiet_target target }
+{
+    match target {
+        Target::Get(_) | Target::GetShared(_) => true,
+        Target::Builtin(_) => is_quiet_builtin(target),
+        Target::Feature(_) | Target::Set(_) | Target::SetShared(_) => false,
+    }
+}
+
+/// Whether what is called is a built-in feature that makes and changes nothing.
+fn is_quiet_builtin(target: Target) -> bool
+    ensures { result ≡ is_quiet_builtin target }
+{
+    match target {
+        Target::Builtin(number) => match BuiltinFeature::of_number(number) {
+            Some(feature) => reads_alone(feature),
+            None => false,
+        },
+        _ => false,
+    }
+}
+
+/// Whether a built-in feature makes no object, changes nothing, and neither puts nor takes anything.
+fn reads_alone(feature: BuiltinFeature) -> bool
+    ensures { result ≡ reads_alone feature }
+{
+    match feature {
+        BuiltinFeature::BoolIsEq
+        | BuiltinFeature::BoolNot
+        | BuiltinFeature::IntPlus
+        | BuiltinFeature::IntMinus
+        | BuiltinFeature::IntTimes
+        | BuiltinFeature::IntNegate
+        | BuiltinFeature::IntDiv
+        | BuiltinFeature::IntMod
+        | BuiltinFeature::IntIsEq
+        | BuiltinFeature::IntIsLt
+        | BuiltinFeature::IntBand
+        | BuiltinFeature::IntBor
+        | BuiltinFeature::IntBxor
+        | BuiltinFeature::IntChar
+        | BuiltinFeature::CharIsEq
+        | BuiltinFeature::CharIsLt
+        | BuiltinFeature::CharInt
+        | BuiltinFeature::StrSize
+        | BuiltinFeature::StrAget
+        | BuiltinFeature::SysObEq
+        | BuiltinFeature::ArefAsize
+        | BuiltinFeature::ArefAget => true,
+        BuiltinFeature::IntStr
+        | BuiltinFeature::CharStr
+        | BuiltinFeature::StrCat
+        | BuiltinFeature::StrSubstring
+        | BuiltinFeature::StrOf
+        | BuiltinFeature::OutPut
+        | BuiltinFeature::OutPutInt
+        | BuiltinFeature::OutPutChar
+        | BuiltinFeature::InGetByte
+        | BuiltinFeature::ArefAset
+        | BuiltinFeature::ArrayCreate => false,
+    }
+}
