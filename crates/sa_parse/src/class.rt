@@ -14,7 +14,7 @@
 //! members       = [member] {";" [member]}
 //! ```
 
-ghost use Rattle.std.specs.Prelude.{◌≡◌, ◌+◌, ◌<◌, ◌≤◌, [], IfErr, IfOk, OnOk, length};
+ghost use Rattle.std.specs.Prelude.{◌≡◌, ◌+◌, ◌<◌, ◌≤◌, [], ◌∷◌, ◌++◌, IfErr, IfOk, OnOk, length};
 ghost use Rattle.sa_parse.specs.Features.{features_in};
 ghost use Rattle.sa_parse_expr.specs.Places.{IsBehind, IsFrom, IsUnexpected};
 
@@ -74,7 +74,7 @@ impl Inside {
     /// Puts what a member of the class at this place gives at the end.
     fn put(&mut self, class: u32, member: Option<Declaration>) -> Result<(), AllocError>
         requires { length self.old.features < 4294967296 }
-        ensures { OnOk result (length self.new.features ≡ length self.old.features + length (features_in member)) }
+        ensures { OnOk result (self.new.features ≡ self.old.features ++ features_in member) }
     {
         match member {
             Some(Declaration::Variables(features)) => self.features.append(features),
@@ -96,7 +96,7 @@ impl Inside {
         clauses: Clauses,
     ) -> Result<(), AllocError>
         requires { length self.old.features < 4294967296 }
-        ensures { OnOk result (length self.new.features ≡ length self.old.features + 1) }
+        ensures { OnOk result (self.new.features ≡ self.old.features ++ feature ∷ []) }
     {
         let place = self.features.len() as u32;
         if let Some(contract) = clauses.of(class, place) {
