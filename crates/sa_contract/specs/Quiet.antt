@@ -40,6 +40,11 @@ is_quiet_target (target.Get place) = true
 is_quiet_target (target.GetShared number) = true
 is_quiet_target called = is_quiet_builtin called
 
+-- what is reached is known, and is one of these
+abbrev pub is_quiet_call : CalledCore → Bool
+is_quiet_call (Static called class) = is_quiet_target called
+is_quiet_call _ = false
+
 abbrev mutual
   pub is_quiet : Expr → Bool
   is_quiet (Int value) = true
@@ -52,7 +57,7 @@ abbrev mutual
   is_quiet (IsVoid of) = is_quiet of
   is_quiet (And first second) = is_quiet first && is_quiet second
   is_quiet (Or first second) = is_quiet first && is_quiet second
-  is_quiet (Call (Static called class) on arguments pos) = is_quiet_target called && (is_quiet on && are_quiet_args arguments)
+  is_quiet (Call called on arguments pos) = is_quiet_call called && (is_quiet on && are_quiet_args arguments)
   is_quiet (Swapped called first second pos) = is_quiet_builtin called && (is_quiet first && is_quiet second)
   is_quiet _ = false
 

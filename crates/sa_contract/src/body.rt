@@ -30,19 +30,12 @@ pub(crate) fn weave_body(
     let mut declared = Items::new(alloc);
     let conditions = kept_conditions(alloc, contract, &mut declared, budget)?;
     let checks = checks_of(alloc, contract, declared.as_slice())?;
-    let mut list = Items::new(alloc);
-    if let Some(pre) = contract.pre {
-        list.push(asserted(alloc, pre, budget)?)?;
-    }
-    list.append(declared)?;
     let kept = Kept {
         conditions: conditions.as_slice(),
         result: &feature.result,
     };
-    list.append(check_leaving(alloc, body, &kept, budget)?)?;
-    if ends_without_value(feature) {
-        add_asserts(alloc, conditions.as_slice(), &mut list, budget)?;
-    }
+    let start = start_of(alloc, contract, declared, budget)?;
+    let list = checked_body(alloc, start, feature, body, &kept, budget)?;
     Ok(WovenBody { list, checks })
 }
 
@@ -64,6 +57,38 @@ fn kept_conditions(
         conditions.push(of_object(alloc, invariant, budget)?)?;
     }
     Ok(conditions)
+}
+
+/// What stands before the statements: the assert of the `pre`, and the declared variables.
+fn start_of(
+    alloc: Global,
+    contract: &FeatureContract<'_>,
+    declared: Items<Stmt>,
+    budget: &mut Budget,
+) -> Result<Items<Stmt>, NoMemory> {
+    let mut start = Items::new(alloc);
+    if let Some(pre) = contract.pre {
+        start.push(asserted(alloc, pre, budget)?)?;
+    }
+    start.append(declared)?;
+    Ok(start)
+}
+
+/// The statements behind this start, which check what is kept.
+fn checked_body(
+    alloc: Global,
+    start: Items<Stmt>,
+    feature: &Feature,
+    body: &[Stmt],
+    kept: &Kept<'_>,
+    budget: &mut Budget,
+) -> Result<Items<Stmt>, NoMemory> {
+    let mut list = start;
+    list.append(check_leaving(alloc, body, kept, budget)?)?;
+    if ends_without_value(feature) {
+        add_asserts(alloc, kept.conditions, &mut list, budget)?;
+    }
+    Ok(list)
 }
 
 /// Whether the feature is a routine without a result, which may come to its end.

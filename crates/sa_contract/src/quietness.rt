@@ -1,14 +1,16 @@
 //! Which typed expressions are quiet: they only read, so that a program with them runs as one without them, but where they stop it.
 
-ghost use Rattle.std.specs.Prelude.{◌≡◌};
+ghost use Rattle.std.specs.Prelude.{◌≡◌, ◌&&◌};
 ghost use Rattle.sa_core.specs.Copy.{arg_of, args_of, expr_of};
-ghost use Rattle.sa_contract.specs.Quiet.{is_quiet, is_quiet_arg, are_quiet_args, is_quiet_builtin, is_quiet_target};
+ghost use Rattle.sa_contract.specs.Quiet.{are_quiet_args, is_quiet, is_quiet_arg, is_quiet_builtin, is_quiet_call, is_quiet_target, reads_alone};
 
 use sa_core::{ArgCore, CalledCore, ExprCore, Target};
 use sa_prelude::BuiltinFeature;
+use sqlite_items::Boxed;
 
 /// Whether an expression is quiet: it is made of literals, void values, `self`, variables, reads of attributes and of shareds,
 /// tests for void, `and` and `or`, and calls of built-in features that make and change nothing.
+#[tactic(auto, using(crate::proofs::QuietArgs::quiet))]
 #[cycle(quiet)]
 pub fn quiet(e: &ExprCore) -> bool
     ensures { result ≡ is_quiet (expr_of e.now) }
@@ -22,17 +24,17 @@ pub fn quiet(e: &ExprCore) -> bool
         | ExprCore::Me
         | ExprCore::Var(_) => true,
         ExprCore::IsVoid(of) => quiet(of.get()),
-        ExprCore::And(first, second) | ExprCore::Or(first, second) => {
-            quiet(first.get()) && quiet(second.get())
-        }
-        ExprCore::Call(CalledCore::Static(target, _), on, args, _) => {
-            is_quiet_target(*target) && quiet(on.get()) && are_quiet_args(args.as_slice())
+        ExprCore::And(first, second) | ExprCore::Or(first, second) => are_quiet(first, second),
+        ExprCore::Call(called, on, args, _) => {
+            if !is_quiet_call(*called) {
+                return false;
+            }
+            quiet(on.get()) && are_quiet_args(args.as_slice())
         }
         ExprCore::Swapped(target, first, second, _) => {
-            is_quiet_builtin(*target) && quiet(first.get()) && quiet(second.get())
+            is_quiet_builtin(*target) && are_quiet(first, second)
         }
-        ExprCore::Call(CalledCore::Dispatch(_) | CalledCore::Bound, _, _, _)
-        | ExprCore::Exception
+        ExprCore::Exception
         | ExprCore::New(_, _)
         | ExprCore::NewArray(_, _, _)
         | ExprCore::Items(_, _, _)
@@ -42,7 +44,17 @@ pub fn quiet(e: &ExprCore) -> bool
     }
 }
 
+/// Whether two expressions are quiet.
+#[tactic(auto, using(crate::proofs::QuietArgs::quiet))]
+#[cycle(quiet)]
+fn are_quiet(first: &Boxed<ExprCore>, second: &Boxed<ExprCore>) -> bool
+    ensures { result ≡ (is_quiet (expr_of first.now) && is_quiet (expr_of second.now)) }
+{
+    quiet(first.get()) && quiet(second.get())
+}
+
 /// Whether the arguments are quiet: all are values.
+#[tactic(auto, using(crate::proofs::QuietArgs::quiet))]
 #[cycle(quiet)]
 fn are_quiet_args(args: &[ArgCore]) -> bool
     ensures { result ≡ are_quiet_args (args_of args.now) }
@@ -55,6 +67,7 @@ fn are_quiet_args(args: &[ArgCore]) -> bool
     true
 }
 
+#[tactic(auto, using(crate::proofs::QuietArgs::quiet))]
 #[cycle(quiet)]
 fn is_quiet_arg(arg: &ArgCore) -> bool
     ensures { result ≡ is_quiet_arg (arg_of arg.now) }
@@ -62,6 +75,16 @@ fn is_quiet_arg(arg: &ArgCore) -> bool
     match arg {
         ArgCore::Value(_, value) => quiet(value),
         ArgCore::Variable(_, _) | ArgCore::Left => false,
+    }
+}
+
+/// Whether a call is quiet by what it reaches, which is known.
+fn is_quiet_call(called: CalledCore) -> bool
+    ensures { result ≡ is_quiet_call called }
+{
+    match called {
+        CalledCore::Static(target, _) => is_quiet_target(target),
+        CalledCore::Dispatch(_) | CalledCore::Bound => false,
     }
 }
 

@@ -193,36 +193,42 @@ fn checked_giving(
     kept: &Kept<'_>,
     budget: &mut Budget,
 ) -> Result<Stmt, NoMemory> {
-    let value = copy_optional_expr(alloc, value, budget)?;
     if kept.conditions.is_empty() {
-        return Ok(giving.form(value, pos));
+        return Ok(giving.form(copy_optional_expr(alloc, value, budget)?, pos));
     }
     let mut list = Items::new(alloc);
-    let given = declare_result(alloc, value, pos, kept.result, &mut list)?;
+    if let Some(value) = value {
+        list.push(result_declared(alloc, value, pos, kept.result, budget)?)?;
+    }
     add_asserts(alloc, kept.conditions, &mut list, budget)?;
-    list.push(giving.form(given, pos))?;
+    list.push(giving.form(result_read(alloc, value, pos)?, pos))?;
     Ok(always(alloc, list, pos)?)
 }
 
-/// Declares `result` with the value, if there is one, and gives the variable then.
-fn declare_result(
+/// `result`, declared with the value.
+fn result_declared(
     alloc: Global,
-    value: Option<Expr>,
+    value: &Expr,
     pos: Pos,
     ty: &Option<Ty>,
-    list: &mut Items<Stmt>,
-) -> Result<Option<Expr>, NoMemory> {
+    budget: &mut Budget,
+) -> Result<Stmt, NoMemory> {
+    let mut names = Items::new(alloc);
+    names.push(result_name(alloc, pos)?)?;
+    let ty = copy_optional_type(alloc, ty, budget)?;
+    Ok(Stmt::Declare(names, ty, Some(copy_expr(alloc, value, budget)?)))
+}
+
+fn result_name(alloc: Global, pos: Pos) -> Result<Local, AllocError> {
+    let name = Name::from_slice(alloc, RESULT)?;
+    Ok(Local { name, pos })
+}
+
+/// `result`, where there is a value.
+fn result_read(alloc: Global, value: &Option<Expr>, pos: Pos) -> Result<Option<Expr>, AllocError> {
     if value.is_none() {
         return Ok(None);
     }
-    let mut names = Items::new(alloc);
-    let name = Name::from_slice(alloc, RESULT)?;
-    names.push(Local { name, pos })?;
-    let ty = match ty {
-        None => None,
-        Some(ty) => Some(ty.copy(alloc)?),
-    };
-    list.push(Stmt::Declare(names, ty, value))?;
     let name = Name::from_slice(alloc, RESULT)?;
     Ok(Some(Expr::Call(Recv::Implied, name, Items::new(alloc), pos)))
 }

@@ -15,6 +15,13 @@ pub struct Woven {
     pub checks: Checks,
 }
 
+/// What is left of the budget, and the checks that were woven so far.
+#[derive(Drop)]
+struct Weaving {
+    budget: Budget,
+    checks: Checks,
+}
+
 /// The classes of a program with the checks of its contracts, which are about these classes, woven into the bodies. Bodies
 /// without checks are shared, as they are.
 ///
@@ -26,85 +33,98 @@ pub fn weave(
     classes: Items<Class>,
     contracts: &[Contract],
 ) -> Result<Woven, NoMemory> {
-    let mut weaver = Weaver {
-        alloc,
-        contracts: ContractTable::new(alloc, contracts)?,
+    let table = ContractTable::new(alloc, contracts)?;
+    let mut weaving = Weaving {
         budget: Budget::new(),
         checks: Checks::new(alloc),
     };
-    let classes = weaver.classes(classes)?;
+    let classes = weave_classes(alloc, &table, classes, &mut weaving)?;
     Ok(Woven {
         classes,
-        checks: weaver.checks,
+        checks: weaving.checks,
     })
 }
 
-/// What is needed to weave a program, and what was put into it so far.
-#[derive(Drop)]
-struct Weaver<'a> {
+fn weave_classes(
     alloc: Global,
-    contracts: ContractTable<'a>,
-    budget: Budget,
-    checks: Checks,
+    table: &ContractTable<'_>,
+    classes: Items<Class>,
+    weaving: &mut Weaving,
+) -> Result<Items<Class>, NoMemory> {
+    let mut rest = classes;
+    let mut last_first = Vec::new(alloc);
+    while let Some(class) = rest.pop() {
+        last_first.push(weave_class(alloc, table, class, rest.len(), weaving)?)?;
+    }
+    last_first.reverse();
+    Ok(Items::from_vec(last_first))
 }
 
-impl<'a> Weaver<'a> {
-    fn classes(&mut self, classes: Items<Class>) -> Result<Items<Class>, NoMemory> {
-        let mut rest = classes;
-        let mut last_first = Vec::new(self.alloc);
-        while let Some(class) = rest.pop() {
-            last_first.push(self.class(class, rest.len())?)?;
-        }
-        last_first.reverse();
-        Ok(Items::from_vec(last_first))
-    }
+/// The class with this number.
+fn weave_class(
+    alloc: Global,
+    table: &ContractTable<'_>,
+    class: Class,
+    number: usize,
+    weaving: &mut Weaving,
+) -> Result<Class, NoMemory> {
+    let features = weave_features(alloc, table, class.features, number, weaving)?;
+    Ok(Class { features, ..class })
+}
 
-    /// The class with this number.
-    fn class(&mut self, class: Class, number: usize) -> Result<Class, NoMemory> {
-        let features = self.features(class.features, number)?;
-        Ok(Class { features, ..class })
-    }
-
-    /// The features that the class with this number writes.
-    fn features(
-        &mut self,
-        features: Items<Feature>,
-        class: usize,
-    ) -> Result<Items<Feature>, NoMemory> {
-        let mut rest = features;
-        let mut last_first = Vec::new(self.alloc);
-        while let Some(feature) = rest.pop() {
-            let place = FeaturePlace {
-                class,
-                feature: rest.len(),
-            };
-            last_first.push(self.feature(feature, place)?)?;
-        }
-        last_first.reverse();
-        Ok(Items::from_vec(last_first))
-    }
-
-    /// The feature at a place.
-    fn feature(&mut self, feature: Feature, place: FeaturePlace) -> Result<Feature, NoMemory> {
-        match self.part(&feature, place)? {
-            Some(part) => Ok(Feature { part, ..feature }),
-            None => Ok(feature),
-        }
-    }
-
-    /// The part of the feature at a place with checks in its body, or none where it has nothing to keep.
-    fn part(&mut self, feature: &Feature, place: FeaturePlace) -> Result<Option<Part>, NoMemory> {
-        let Part::Routine(body) = &feature.part else {
-            return Ok(None);
+/// The features that the class with this number writes.
+fn weave_features(
+    alloc: Global,
+    table: &ContractTable<'_>,
+    features: Items<Feature>,
+    class: usize,
+    weaving: &mut Weaving,
+) -> Result<Items<Feature>, NoMemory> {
+    let mut rest = features;
+    let mut last_first = Vec::new(alloc);
+    while let Some(feature) = rest.pop() {
+        let place = FeaturePlace {
+            class,
+            feature: rest.len(),
         };
-        let contract = self.contracts.of(place, feature);
-        if contract.is_empty() {
-            return Ok(None);
-        }
-        let body = body.get().as_slice();
-        let woven = weave_body(self.alloc, feature, body, &contract, &mut self.budget)?;
-        let WovenBody { list, checks } = woven;
-        self.checks.add(feature.name.pos, checks)?;
-        Ok(Some(Part::Routine(Shared::new(self.alloc, list)?)))
+        last_first.push(weave_feature(alloc, table, feature, place, weaving)?)?;
     }
+    last_first.reverse();
+    Ok(Items::from_vec(last_first))
+}
+
+/// The feature at a place.
+fn weave_feature(
+    alloc: Global,
+    table: &ContractTable<'_>,
+    feature: Feature,
+    place: FeaturePlace,
+    weaving: &mut Weaving,
+) -> Result<Feature, NoMemory> {
+    match woven_part(alloc, table, &feature, place, weaving)? {
+        Some(part) => Ok(Feature { part, ..feature }),
+        None => Ok(feature),
+    }
+}
+
+/// The part of the feature at a place with checks in its body, or none where it has nothing to keep.
+fn woven_part(
+    alloc: Global,
+    table: &ContractTable<'_>,
+    feature: &Feature,
+    place: FeaturePlace,
+    weaving: &mut Weaving,
+) -> Result<Option<Part>, NoMemory> {
+    let Part::Routine(body) = &feature.part else {
+        return Ok(None);
+    };
+    let contract = table.of(place, feature);
+    if contract.is_empty() {
+        return Ok(None);
+    }
+    let body = body.get().as_slice();
+    let woven = weave_body(alloc, feature, body, &contract, &mut weaving.budget)?;
+    let WovenBody { list, checks } = woven;
+    weaving.checks.add(feature.name.pos, checks)?;
+    Ok(Some(Part::Routine(Shared::new(alloc, list)?)))
 }
