@@ -22,6 +22,8 @@ use Rattle.sa_flat.specs.declared.step.FlatExit.{FlatExit}
 use Rattle.sa_flat.specs.declared.step.FlatExit.TheVariants.{Jump, Branch, Return, Suspend, Quit, Raise}
 use Rattle.sa_flat.specs.declared.step.FlatStep.{FlatStep}
 use Rattle.sa_flat.specs.declared.step.FlatStep.TheVariants.{Const, Move, Me, Turn, New, Widen, WidenFor, Unwrap, TypeIs, Call, Bind, HasEntry, Start, Resume, HasFrame, Enter, Release}
+use Rattle.sa_prelude.specs.declared.feature.BuiltinFeature.{BuiltinFeature}
+use Rattle.sa_prelude.specs.declared.feature.BuiltinFeature.TheVariants.{IntPlus, IntIsLt, OutPutInt}
 use Rattle.sa_meaning.specs.Value.{int_type, fault_type}
 
 -- ---- words for flat programs, all of whose faults stand at one place
@@ -60,14 +62,14 @@ abbrev pub of_type : ℕ → ℕ → FlatStep
 of_type to ty = Const to (const.Void ty)
 
 -- a built-in feature of INT
-abbrev pub on_ints : ℕ → ℕ → ℕ → ℕ → FlatStep
-on_ints number to a b = Call (plan (Builtin number) int_type a (args In (b ∷ [])) (Some to))
+abbrev pub on_ints : BuiltinFeature → ℕ → ℕ → ℕ → FlatStep
+on_ints feature to a b = Call (plan (Builtin feature) int_type a (args In (b ∷ [])) (Some to))
 
 abbrev pub plus : ℕ → ℕ → ℕ → FlatStep
-plus = on_ints 2
+plus = on_ints IntPlus
 
 abbrev pub is_lt : ℕ → ℕ → ℕ → FlatStep
-is_lt = on_ints 9
+is_lt = on_ints IntIsLt
 
 -- MAIN, OUT and the first type of a program's own
 abbrev pub main_type : ℕ
@@ -80,7 +82,7 @@ abbrev pub own_type : ℕ
 own_type = 10
 
 abbrev pub put_int : ℕ → ℕ → FlatStep
-put_int out var = Call (plan (Builtin 25) out_type out (args In (var ∷ [])) None)
+put_int out var = Call (plan (Builtin OutPutInt) out_type out (args In (var ∷ [])) None)
 
 abbrev pub layout : Kind → List ℕ → Layout
 layout kind attrs = record { kind = kind; attrs = attrs; array = false; elem = None; above = [] }
@@ -125,7 +127,7 @@ overflowing = program (body (Some 0) [] 1 (blocks (block (
 abbrev pub caught : FlatProgram
 caught = program (body (Some 0) [] 1 (blocks (block (
     int 203 2147483647 ∷ Move 0 203 ∷
-    int 203 1 ∷ Call (record { callee = Builtin 2; class = int_type; recv = 0; args = args In (203 ∷ []); value = Some 204; fail = fails_to (record { block = 3; value = 210; place = 211; kind = 212 }) }) ∷
+    int 203 1 ∷ Call (record { callee = Builtin IntPlus; class = int_type; recv = 0; args = args In (203 ∷ []); value = Some 204; fail = fails_to (record { block = 3; value = 210; place = 211; kind = 212 }) }) ∷
     Move 0 204 ∷ []) (Jump 2)) (
     block [] (Return None) ∷
     block (TypeIs 203 210 fault_type ∷ []) (Branch 203 4 5) ∷
@@ -296,7 +298,7 @@ widening_once = program (
 -- main is loop upto!(3); x ::= 2147483647; x := x + 1; end; end
 -- The raise releases the instance that is suspended.
 abbrev pub failing : FlatProgram
-failing = program (looping (Me 206) (Body 1) (int 210 2147483647 ∷ int 211 1 ∷ Call (record { callee = Builtin 2; class = int_type; recv = 210; args = args In (211 ∷ []); value = Some 212; fail = fails_to out_of_loop }) ∷ []) (Jump 2) ∷ upto ∷ []) [] []
+failing = program (looping (Me 206) (Body 1) (int 210 2147483647 ∷ int 211 1 ∷ Call (record { callee = Builtin IntPlus; class = int_type; recv = 210; args = args In (211 ∷ []); value = Some 212; fail = fails_to out_of_loop }) ∷ []) (Jump 2) ∷ upto ∷ []) [] []
 
 -- main is loop #OUT + broken!(3); end; end
 -- broken!(once n:INT):INT is yield n; n := n + 2147483647; end
