@@ -5,7 +5,7 @@ use crate::constant::constant_value;
 use crate::view::View;
 use sa_check_program::{Program, Side};
 use sa_core::{CalledCore, ExprCore, Target};
-use sa_prelude::builtin;
+use sa_prelude::{BuiltinFeature, builtin};
 use sa_tree::{NoMemory, Part, held};
 
 /// What a call reaches.
@@ -57,7 +57,7 @@ pub fn member_target(program: &Program<'_>, ty: u32, place: u32) -> Option<Targe
         Part::Builtin(class, name) => {
             let args = u32::try_from(feature.formals.len()).ok()?;
             let found = builtin(class.as_slice(), name.as_slice(), args)?;
-            Some(Target::Builtin(found.number))
+            Some(Target::Builtin(BuiltinFeature::of_number(found.number)?))
         }
         Part::Attr => attribute(member.side, program.slot_of(ty, member.feature)?),
         Part::Shared(_) => shared(member.side, program.shared_number(ty, member.feature)?),

@@ -1,6 +1,7 @@
 //! Routines and iters, what a call reaches, and the sites of iter calls.
 
 use crate::stmt::StmtCore;
+use sa_prelude::BuiltinFeature;
 use sa_tree::{Mode, Pos};
 use sqlite_items::Items;
 
@@ -9,8 +10,8 @@ use sqlite_items::Items;
 pub enum Target {
     /// A routine or an iter by its number.
     Feature(u32),
-    /// A built-in feature by its number.
-    Builtin(u8),
+    /// A built-in feature.
+    Builtin(BuiltinFeature),
     /// Reads an attribute, by its place among the attributes of the class.
     Get(u32),
     /// Writes an attribute.

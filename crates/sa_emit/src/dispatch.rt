@@ -1,6 +1,5 @@
 //! The superblocks of a body behind one another, and the choice between them by the number of the dispatch target in the local
-//! `BLOCK`: a tree of tables of up to eight parts. A choice of level 0 is between dispatch targets, one of level `n` between runs
-//! of `8^n` dispatch targets.
+//! `BLOCK`: a `br_table` between up to eight, and above such tables `if`s that halve their number.
 
 use crate::sums::{number, sum};
 use crate::superblock::{add_repeated_target, add_target};
@@ -9,10 +8,10 @@ use sqlite_items::Items;
 use std::alloc::Global;
 use wa_syntax::{Instr, NoMemory, opcode};
 
-/// How many parts a choice has at most.
+/// How many dispatch targets a table is between at most.
 const FAN_OUT: u32 = 8;
 
-/// How many bits of a dispatch target's number a choice looks at.
+/// How many bits of a number tell them apart.
 const BITS: u32 = 3;
 
 /// The body whose dispatch targets are placed, and what is around a place of it.
@@ -44,66 +43,83 @@ pub(crate) fn add_loop(
     dispatch: &Dispatch<'_>,
 ) -> Result<(), NoMemory> {
     let mut body = Items::new(alloc);
-    add_targets(
-        alloc,
-        &mut body,
-        dispatch,
-        0,
-        level_of(dispatch.targets.len()),
-    )?;
+    let level = level_of(dispatch.targets.len());
+    add_choice(alloc, &mut body, dispatch, 0, level)?;
     code.push(Instr::Loop(None, body))?;
     code.push(Instr::Plain(opcode::UNREACHABLE))?;
     Ok(())
 }
 
-/// The level of the choice between so many dispatch targets.
+/// How many `if`s stand at most above a table in the choice between so many dispatch targets: one for each bit that the greatest
+/// number has above those of a table.
 fn level_of(targets: usize) -> u32 {
     match targets.saturating_sub(1).checked_ilog2() {
-        Some(bits) => bits / BITS,
+        Some(bits) => bits.saturating_add(1).saturating_sub(BITS),
         None => 0,
     }
 }
 
-/// Adds the code of the dispatch targets from `first` on that a choice of this level is between.
+/// Adds the choice between the dispatch targets from `first` on, as many as there are and up to `8 * 2^level`, and their code.
 #[cycle(choice)]
-fn add_targets(
+fn add_choice(
     alloc: Global,
     code: &mut Items<Instr>,
     dispatch: &Dispatch<'_>,
     first: u32,
     level: u32,
 ) -> Result<(), NoMemory> {
-    let last = last_part(dispatch.targets.len(), first, level)?;
-    if last == 0 {
-        return add_part(alloc, code, dispatch, first, level);
+    if level == 0 {
+        return add_table(alloc, code, dispatch, first);
     }
-    let mut before = choosing(alloc, last, level, level_of(dispatch.targets.len()))?;
-    for part in 0..last {
-        let inner = dispatch.further_in(last - part)?;
-        let target = first_of(first, part, level)?;
-        let mut behind = Items::new(alloc);
-        behind.push(Instr::Block(None, before))?;
-        add_part(alloc, &mut behind, &inner, target, level)?;
-        before = behind;
+    let middle = sum(first, half_of(level)?)?;
+    if middle as usize >= dispatch.targets.len() {
+        return add_choice(alloc, code, dispatch, first, level - 1);
     }
-    code.push(Instr::Block(None, before))?;
-    let target = first_of(first, last, level)?;
-    add_part(alloc, code, dispatch, target, level)
+    let inner = dispatch.further_in(1)?;
+    let mut low = Items::new(alloc);
+    add_choice(alloc, &mut low, &inner, first, level - 1)?;
+    let mut high = Items::new(alloc);
+    add_choice(alloc, &mut high, &inner, middle, level - 1)?;
+    add_is_below(code, middle)?;
+    code.push(Instr::If(None, low, high))?;
+    Ok(())
 }
 
-/// Adds the code of the part of a choice that begins with this dispatch target.
-#[cycle(choice)]
-fn add_part(
+/// How many dispatch targets the first half of a choice of this level has.
+fn half_of(level: u32) -> Result<u32, NoMemory> {
+    let tables = held(2u32.checked_pow(level.saturating_sub(1)))?;
+    held(FAN_OUT.checked_mul(tables))
+}
+
+/// Adds whether the dispatch target in `BLOCK` is before this one.
+fn add_is_below(code: &mut Items<Instr>, target: u32) -> Result<(), NoMemory> {
+    code.push(Instr::LocalGet(BLOCK))?;
+    code.push(Instr::I32Const(target))?;
+    code.push(Instr::Plain(opcode::I32_LT_U))?;
+    Ok(())
+}
+
+/// Adds the table between the dispatch targets from `first` on, up to eight, and their code.
+fn add_table(
     alloc: Global,
     code: &mut Items<Instr>,
     dispatch: &Dispatch<'_>,
-    target: u32,
-    level: u32,
+    first: u32,
 ) -> Result<(), NoMemory> {
-    if level == 0 {
-        return add_superblock(alloc, code, dispatch, target);
+    let last = last_behind(dispatch.targets.len(), first)?;
+    if last == 0 {
+        return add_superblock(alloc, code, dispatch, first);
     }
-    add_targets(alloc, code, dispatch, target, level - 1)
+    let mut before = choosing(alloc, first, last)?;
+    for place in 0..last {
+        let inner = dispatch.further_in(last - place)?;
+        let mut behind = Items::new(alloc);
+        behind.push(Instr::Block(None, before))?;
+        add_superblock(alloc, &mut behind, &inner, sum(first, place)?)?;
+        before = behind;
+    }
+    code.push(Instr::Block(None, before))?;
+    add_superblock(alloc, code, dispatch, sum(first, last)?)
 }
 
 /// Adds the superblock of a dispatch target.
@@ -120,41 +136,25 @@ fn add_superblock(
     add_target(alloc, code, dispatch.around, block)
 }
 
-/// The number of the last part of the choice between the dispatch targets from `first` on.
-fn last_part(targets: usize, first: u32, level: u32) -> Result<u32, NoMemory> {
+/// How many dispatch targets behind `first` stand in the table that begins with it.
+fn last_behind(targets: usize, first: u32) -> Result<u32, NoMemory> {
     let behind = number(targets)?.saturating_sub(first).saturating_sub(1);
-    let last = held(behind.checked_div(width_of(level)?))?;
-    Ok(last.min(FAN_OUT - 1))
+    Ok(behind.min(FAN_OUT - 1))
 }
 
-/// The first dispatch target of a part of the choice between the dispatch targets from `first` on.
-fn first_of(first: u32, part: u32, level: u32) -> Result<u32, NoMemory> {
-    sum(first, held(part.checked_mul(width_of(level)?))?)
-}
-
-/// How many dispatch targets a part of a choice of this level has.
-fn width_of(level: u32) -> Result<u32, NoMemory> {
-    held(FAN_OUT.checked_pow(level))
-}
-
-/// The code that goes to the end of the block that the part of the dispatch target in `BLOCK` stands behind. The choice of the
-/// highest level sees no bits of the number but its own.
-fn choosing(alloc: Global, last: u32, level: u32, highest: u32) -> Result<Items<Instr>, NoMemory> {
+/// The code that goes to the end of the block that the dispatch target in `BLOCK` stands behind, one of those from `first` on.
+fn choosing(alloc: Global, first: u32, last: u32) -> Result<Items<Instr>, NoMemory> {
     let mut code = Items::new(alloc);
     code.push(Instr::LocalGet(BLOCK))?;
-    if level > 0 {
-        code.push(Instr::I32Const(held(level.checked_mul(BITS))?))?;
-        code.push(Instr::Plain(opcode::I32_SHR_U))?;
-    }
-    if level < highest {
-        code.push(Instr::I32Const(FAN_OUT - 1))?;
-        code.push(Instr::Plain(opcode::I32_AND))?;
+    if first > 0 {
+        code.push(Instr::I32Const(first))?;
+        code.push(Instr::Plain(opcode::I32_SUB))?;
     }
     code.push(Instr::BrTable(labels(alloc, last)?, last))?;
     Ok(code)
 }
 
-/// The labels of the parts before the last.
+/// The labels of the dispatch targets of a table before the last.
 fn labels(alloc: Global, last: u32) -> Result<Items<u32>, NoMemory> {
     let mut labels = Items::new(alloc);
     for label in 0..last {

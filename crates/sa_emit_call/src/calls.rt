@@ -24,7 +24,7 @@ pub fn add_call(
 ) -> Result<(), NoMemory> {
     match plan.callee {
         Callee::Body(body) => add_body_call(alloc, code, around, plan, body),
-        Callee::Builtin(number) => add_builtin(alloc, code, around, plan, number),
+        Callee::Builtin(feature) => add_builtin(alloc, code, around, plan, feature),
         Callee::Get(place) => add_get(alloc, code, around, plan, place),
         Callee::Set(place) => add_set(alloc, code, around, plan, place),
         Callee::GetShared(shared) => add_get_shared(code, around, plan, shared),

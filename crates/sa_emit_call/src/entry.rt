@@ -78,8 +78,8 @@ fn called_of(around: &Around<'_>, entry: &BindEntry) -> Result<Called, NoMemory>
     match entry.callee {
         Callee::Body(body) => body_called(around, body),
         Callee::Dispatch(sig) => Ok(of_kind(chosen_kind(around, sig)?, 0)),
-        Callee::Builtin(number) => {
-            let kind = FIRST_BOUND_BUILTIN + u32::from(number);
+        Callee::Builtin(feature) => {
+            let kind = FIRST_BOUND_BUILTIN + u32::from(feature.number());
             Ok(of_kind(kind, 0))
         }
         Callee::Get(place) => {
@@ -154,15 +154,19 @@ fn of_object_or_value(
 /// What has to be known of the class: where the elements of its objects begin, or how many attributes its values have.
 fn first_of(around: &Around<'_>, entry: &BindEntry) -> Result<u32, NoMemory> {
     match entry.callee {
-        Callee::Builtin(number) => first_of_builtin(around, entry.class, number),
+        Callee::Builtin(feature) => first_of_builtin(around, entry.class, feature),
         Callee::Set(_) => around.attributes(entry.class),
         _ => Ok(0),
     }
 }
 
 /// Where elements begin that a built-in feature reads, writes or makes.
-fn first_of_builtin(around: &Around<'_>, class: u32, number: u8) -> Result<u32, NoMemory> {
-    match held(BuiltinFeature::of_number(number))? {
+fn first_of_builtin(
+    around: &Around<'_>,
+    class: u32,
+    feature: BuiltinFeature,
+) -> Result<u32, NoMemory> {
+    match feature {
         BuiltinFeature::ArefAget | BuiltinFeature::ArefAset | BuiltinFeature::ArrayCreate => {
             Ok(first_element_at(around.attributes(class)?))
         }

@@ -24,15 +24,14 @@ pub(crate) const CREATE: u32 = FIRST_BUILTIN + BuiltinFeature::ArrayCreate as u3
 /// The byte of an object at which its length stands.
 const LENGTH_AT: u32 = 4;
 
-/// A call of the built-in feature with this number.
+/// A call of a built-in feature.
 pub fn add_builtin(
     alloc: Global,
     code: &mut Items<Instr>,
     around: &Around<'_>,
     plan: &CallPlan,
-    number: u8,
+    feature: BuiltinFeature,
 ) -> Result<(), NoMemory> {
-    let feature = held(BuiltinFeature::of_number(number))?;
     match form_of(feature) {
         Form::Compares(opcode) => add_comparison(code, around, plan, opcode),
         Form::Combines(opcode) => add_combination(code, around, plan, opcode),

@@ -1,5 +1,6 @@
 //! Calls: what is called, with which variables, and where its faults and raises go.
 
+use sa_prelude::BuiltinFeature;
 use sa_tree::{Mode, NoMemory};
 use sqlite_items::Items;
 use std::alloc::Global;
@@ -9,8 +10,8 @@ use std::alloc::Global;
 pub enum Callee {
     /// A body by its number.
     Body(u32),
-    /// A built-in feature by its number.
-    Builtin(u8),
+    /// A built-in feature.
+    Builtin(BuiltinFeature),
     /// Reads an attribute by its place.
     Get(u32),
     /// Writes an attribute. Of an immutable value it gives the changed copy.

@@ -112,7 +112,7 @@ module _ (p : FlatProgram) (rows : List (List ℕ)) where
   steady_reached (Dispatch k) class v = steady_dispatched k v
   steady_reached Bound class v = alike_if _ (steady_stop _) (alike_then (steady_or_stuck _) (λ object. steady_bound_to object))
   steady_reached (Body k) class v = steady_pure _
-  steady_reached (Builtin n) class v = steady_pure _
+  steady_reached (Builtin f) class v = steady_pure _
   steady_reached (Get a) class v = steady_pure _
   steady_reached (Set a) class v = steady_pure _
   steady_reached (GetShared k) class v = steady_pure _
@@ -153,7 +153,7 @@ module _ (p : FlatProgram) (level : ℕ) (go to : ℕ → ℕ → Eval Ending) (
 
   alike_run_reached : (callee : Callee) (class : ℕ) (self : Value) (given : List Passed) → Alike level (run_reached p go callee class self given) (run_reached p to callee class self given)
   alike_run_reached (Body k) class self given = alike_call_body k self given
-  alike_run_reached (Builtin n) class self given = alike_then (steady_or_stuck _) (λ f. alike_run_builtin class self given f)
+  alike_run_reached (Builtin f) class self given = alike_run_builtin class self given f
   alike_run_reached (Get a) class self [] = alike_if_of class self (steady_simply true (steady_within _))
   alike_run_reached (Get a) class self (v ∷ given) = steady_stuck
   alike_run_reached (Set a) class self given = alike_then (steady_or_stuck _) (λ v. alike_if_of class self (steady_simply _ (steady_within _)))
@@ -186,7 +186,7 @@ module _ (p : FlatProgram) (rows : List (List ℕ)) where
   steady_chosen (Dispatch k) class v = steady_dispatched p rows k v
   steady_chosen Bound class v = steady_stuck
   steady_chosen (Body k) class v = steady_pure _
-  steady_chosen (Builtin n) class v = steady_pure _
+  steady_chosen (Builtin f) class v = steady_pure _
   steady_chosen (Get a) class v = steady_pure _
   steady_chosen (Set a) class v = steady_pure _
   steady_chosen (GetShared k) class v = steady_pure _

@@ -124,7 +124,7 @@ module _ (p : FlatProgram) (level : ℕ) (go to : ℕ → ℕ → Eval Ending) (
 
   alike_start_of : (at : Station) (callee : Callee) (self : Value) (given : List Passed) → Alike level (start_of p go at callee self given) (start_of p to at callee self given)
   alike_start_of at (Body k) self given = alike_started at k self given
-  alike_start_of at (Builtin n) self given = steady_stuck
+  alike_start_of at (Builtin f) self given = steady_stuck
   alike_start_of at (Get a) self given = steady_stuck
   alike_start_of at (Set a) self given = steady_stuck
   alike_start_of at (GetShared k) self given = steady_stuck

@@ -24,7 +24,7 @@ use Rattle.sa_meaning.specs.Program.{is_immutable, void_of}
 use Rattle.sa_meaning.specs.Sequence.{◌>>=◌, ◌>>◌, pure, stop, or_stuck, at_place, look, stuck}
 use Rattle.sa_meaning.specs.State.{Object}
 use Rattle.sa_meaning.specs.Steps.{object_at, charge, object_size, add_object}
-use Rattle.sa_meaning.specs.Builtin.{builtins, builtin_call}
+use Rattle.sa_meaning.specs.Builtin.{builtin_call}
 use Rattle.sa_meaning.specs.Calls.{dynamic_type, is_raw, interleaved, only_given, single}
 use Rattle.sa_meaning.specs.Calls.{filled, attribute, set_attribute, shared, set_shared}
 use Rattle.sa_meaning.specs.Instances.{set_anew}
@@ -101,7 +101,7 @@ all_fit _ _ = false
 -- what the call of a bound value reaches: a body of that number, or what the target says
 abbrev pub target_of : Callee → Option Target
 target_of (Body k) = Some (target.Feature k)
-target_of (Builtin n) = Some (target.Builtin n)
+target_of (Builtin f) = Some (target.Builtin f)
 target_of (Get a) = Some (target.Get a)
 target_of (Set a) = Some (target.Set a)
 target_of (GetShared k) = Some (target.GetShared k)
@@ -110,7 +110,7 @@ target_of _ = None
 
 abbrev pub callee_of : Target → Callee
 callee_of (target.Feature k) = Body k
-callee_of (target.Builtin n) = Builtin n
+callee_of (target.Builtin f) = Builtin f
 callee_of (target.Get a) = Get a
 callee_of (target.Set a) = Set a
 callee_of (target.GetShared k) = GetShared k
@@ -253,7 +253,7 @@ module _ (p : FlatProgram) (go : ℕ → ℕ → Eval Ending) where
 
   abbrev pub run_reached : Callee → ℕ → Value → List Passed → Eval (Ending × List Value)
   run_reached (Body k) class self given = call_body k self given
-  run_reached (Builtin n) class self given = at_place builtins n >>= run_builtin class self given
+  run_reached (Builtin f) class self given = run_builtin class self given f
   run_reached (Get a) class self [] = if_of p class self (simply true (within (attribute (types_of p) nowhere a self)))
   run_reached (Set a) class self given = do
     v ← or_stuck (single (only_given (values_of given)))

@@ -20,7 +20,6 @@ use Rattle.sa_flat.specs.declared.step.FlatStep.{FlatStep}
 use Rattle.sa_flat.specs.declared.step.FlatStep.TheVariants.{Const, Move, Me, IsVoid, Turn, New, NewArray, PutItem, Widen}
 use Rattle.sa_flat.specs.declared.step.FlatStep.TheVariants.{WidenFor, Unwrap, TypeIs, NotVoid, InitShared, Call, Bind}
 use Rattle.sa_flat.specs.declared.step.FlatStep.TheVariants.{HasEntry, Start, Resume, HasFrame, Enter, Release, Raising}
-use Rattle.sa_meaning.specs.Builtin.{builtins}
 use Rattle.sa_flat_meaning.specs.Calls.{width}
 
 -- ---- numbers of a program
@@ -50,7 +49,7 @@ module _ (p : FlatProgram) where
 
   abbrev pub IsReached : List (List ℕ) → ℕ → Callee → Type 0
   IsReached rows class (Body k) = CanEnter k
-  IsReached rows class (Builtin n) = n < length builtins
+  IsReached rows class (Builtin f) = Unit {0}
   IsReached rows class (Get a) = HasAttribute class a
   IsReached rows class (Set a) = HasAttribute class a
   IsReached rows class (GetShared k) = IsShared k

@@ -13,6 +13,7 @@ use Rattle.sa_flat.specs.declared.step.FlatExit.TheVariants.{Jump, Branch, Retur
 use Rattle.sa_flat.specs.declared.step.FlatStep.{FlatStep}
 use Rattle.sa_flat.specs.declared.step.FlatStep.TheVariants.{Const, Move, Me, Turn, New, Widen, Unwrap, TypeIs}
 use Rattle.sa_flat.specs.declared.step.FlatStep.TheVariants.{InitShared, Call, Start, Resume, HasFrame, Enter}
+use Rattle.sa_prelude.specs.declared.feature.BuiltinFeature.TheVariants.{StrCat, OutPut}
 use Rattle.sa_meaning.specs.Value.{bool_type, int_type, str_type}
 use Rattle.sa_meaning.specs.Program.{Signature}
 use Rattle.sa_flat_meaning.specs.Samples.{leaving, fails_to, fails, block, blocks, args, plan, int, of_type}
@@ -39,9 +40,9 @@ initialises = with_own (layout kind.Immutable (int_type ∷ []) ∷ []) (record 
       of_type 203 out_type ∷ of_type 204 own_type ∷ Call (plan (GetShared 0) own_type 204 [] (Some 205)) ∷ put_int 203 205 ∷
       of_type 203 own_type ∷ Call (plan (GetShared 1) own_type 203 [] (Some 204)) ∷
       Move 0 204 ∷ TypeIs 203 0 own_type ∷ []) (Branch 203 2 3)) (
-      block (Unwrap 1 0 own_type ∷ of_type 203 out_type ∷ text 204 0 ∷ Call (plan (Builtin 24) out_type 203 (args In (204 ∷ [])) None) ∷ [])
+      block (Unwrap 1 0 own_type ∷ of_type 203 out_type ∷ text 204 0 ∷ Call (plan (Builtin OutPut) out_type 203 (args In (204 ∷ [])) None) ∷ [])
       (Return None) ∷
-      block (of_type 203 out_type ∷ text 204 1 ∷ Call (plan (Builtin 24) out_type 203 (args In (204 ∷ [])) None) ∷ []) (Return None) ∷ []))
+      block (of_type 203 out_type ∷ text 204 1 ∷ Call (plan (Builtin OutPut) out_type 203 (args In (204 ∷ [])) None) ∷ []) (Return None) ∷ []))
       ∷ body None [] 0 (blocks (block (
       Turn ∷ of_type 203 own_type ∷ Call (plan (Get 0) own_type 203 [] (Some 204)) ∷ int 205 1 ∷ plus 206 204 205 ∷ InitShared 0 206 ∷
       Turn ∷ of_type 203 own_type ∷ Widen 204 203 own_type fails ∷ InitShared 1 204 ∷
@@ -54,7 +55,7 @@ initialises = with_own (layout kind.Immutable (int_type ∷ []) ∷ []) (record 
 -- main is s ::= "123456789"; s := s + s; end
 abbrev pub joining : FlatProgram
 joining = record (program (body (Some 0) [] 0 (blocks (block (
-    text 203 0 ∷ Call (plan (Builtin 21) str_type 203 (args In (203 ∷ [])) (Some 204)) ∷ []) (Return None)) []) ∷ []) [] [])
+    text 203 0 ∷ Call (plan (Builtin StrCat) str_type 203 (args In (203 ∷ [])) (Some 204)) ∷ []) (Return None)) []) ∷ []) [] [])
     { texts = codes "123456789" ∷ [] }
 
 -- ---- widening

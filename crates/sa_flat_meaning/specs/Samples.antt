@@ -23,6 +23,8 @@ use Rattle.sa_flat.specs.declared.step.FlatExit.TheVariants.{Jump, Branch, Retur
 use Rattle.sa_flat.specs.declared.step.FlatStep.{FlatStep}
 use Rattle.sa_flat.specs.declared.step.FlatStep.TheVariants.{Const, Move, Me, Turn, New, Widen, WidenFor, Unwrap, TypeIs}
 use Rattle.sa_flat.specs.declared.step.FlatStep.TheVariants.{Call, Bind, HasEntry, Start, Resume, HasFrame, Enter, Release}
+use Rattle.sa_prelude.specs.declared.feature.BuiltinFeature.{BuiltinFeature}
+use Rattle.sa_prelude.specs.declared.feature.BuiltinFeature.TheVariants.{IntPlus, IntIsLt, OutPutInt}
 use Rattle.sa_meaning.specs.Value.{int_type, fault_type}
 
 -- ---- words for flat programs, all of whose faults stand at one place
@@ -61,14 +63,14 @@ abbrev pub of_type : ℕ → ℕ → FlatStep
 of_type to ty = Const to (const.Void ty)
 
 -- a built-in feature of INT
-abbrev pub on_ints : ℕ → ℕ → ℕ → ℕ → FlatStep
-on_ints number to a b = Call (plan (Builtin number) int_type a (args In (b ∷ [])) (Some to))
+abbrev pub on_ints : BuiltinFeature → ℕ → ℕ → ℕ → FlatStep
+on_ints feature to a b = Call (plan (Builtin feature) int_type a (args In (b ∷ [])) (Some to))
 
 abbrev pub plus : ℕ → ℕ → ℕ → FlatStep
-plus = on_ints 2
+plus = on_ints IntPlus
 
 abbrev pub is_lt : ℕ → ℕ → ℕ → FlatStep
-is_lt = on_ints 9
+is_lt = on_ints IntIsLt
 
 -- MAIN, OUT and the first type of a program's own
 abbrev pub main_type : ℕ
@@ -81,7 +83,7 @@ abbrev pub own_type : ℕ
 own_type = 10
 
 abbrev pub put_int : ℕ → ℕ → FlatStep
-put_int out var = Call (plan (Builtin 25) out_type out (args In (var ∷ [])) None)
+put_int out var = Call (plan (Builtin OutPutInt) out_type out (args In (var ∷ [])) None)
 
 abbrev pub layout : Kind → List ℕ → Layout
 layout kind attrs = record { kind = kind; attrs = attrs; array = false; elem = None; above = [] }
@@ -129,7 +131,7 @@ caught = program (body (Some 0) [] 1 (blocks (block (
     int 203 2147483647 ∷ Move 0 203 ∷
     int 203 1 ∷
     Call (record {
-      callee = Builtin 2;
+      callee = Builtin IntPlus;
       class = int_type;
       recv = 0;
       args = args In (203 ∷ []);
@@ -321,7 +323,7 @@ failing =
     (looping (Me 206) (Body 1)
     (int 210 2147483647 ∷ int 211 1
     ∷ Call
-    (record { callee = Builtin 2; class = int_type; recv = 210; args = args In (211 ∷ []); value = Some 212; fail = fails_to out_of_loop })
+    (record { callee = Builtin IntPlus; class = int_type; recv = 210; args = args In (211 ∷ []); value = Some 212; fail = fails_to out_of_loop })
     ∷ [])
     (Jump 2)
     ∷ upto

@@ -4,7 +4,7 @@ use sa_check_classes::{BOOL, CHAR, INT, STR};
 use sa_core::{Core, ImplCore, Target};
 use sa_lower_expr::{attribute_type, element_type, feature_at, is_immutable, shared_type};
 use sa_prelude::BuiltinFeature;
-use sa_tree::{NoMemory, held};
+use sa_tree::NoMemory;
 
 /// The type of what an implementation gives, if it gives anything.
 pub(crate) fn given(core: &Core, implementation: &ImplCore) -> Result<Option<u32>, NoMemory> {
@@ -14,7 +14,7 @@ pub(crate) fn given(core: &Core, implementation: &ImplCore) -> Result<Option<u32
         Target::GetShared(number) => Ok(Some(shared_type(core, number)?)),
         Target::Set(_) => writer_gives(core, implementation.ty),
         Target::SetShared(_) => Ok(None),
-        Target::Builtin(number) => builtin_gives(core, implementation.ty, builtin(number)?),
+        Target::Builtin(feature) => builtin_gives(core, implementation.ty, feature),
     }
 }
 
@@ -62,8 +62,4 @@ fn builtin_gives(core: &Core, ty: u32, builtin: BuiltinFeature) -> Result<Option
         BuiltinFeature::ArefAget => Ok(Some(element_type(core, ty)?)),
         BuiltinFeature::ArrayCreate => Ok(Some(ty)),
     }
-}
-
-fn builtin(number: u8) -> Result<BuiltinFeature, NoMemory> {
-    held(BuiltinFeature::of_number(number))
 }

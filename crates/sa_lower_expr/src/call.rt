@@ -87,16 +87,16 @@ pub(crate) fn one_passed(alloc: Global, value: u32) -> Result<Passed, NoMemory> 
 fn swapped_class(core: &Core, target: Target) -> Result<u32, NoMemory> {
     match target {
         Target::Feature(feature) => Ok(feature_at(core, feature)?.class),
-        Target::Builtin(number) => compared_class(number),
+        Target::Builtin(feature) => Ok(compared_class(feature)),
         _ => held(None),
     }
 }
 
 /// The number of the class of a built-in comparison.
-fn compared_class(number: u8) -> Result<u32, NoMemory> {
-    match held(BuiltinFeature::of_number(number))? {
-        BuiltinFeature::CharIsLt => Ok(CHAR),
-        _ => Ok(INT),
+fn compared_class(feature: BuiltinFeature) -> u32 {
+    match feature {
+        BuiltinFeature::CharIsLt => CHAR,
+        _ => INT,
     }
 }
 
@@ -146,7 +146,7 @@ fn gives_value(core: &Core, reached: Reached) -> Result<bool, NoMemory> {
 fn target_gives_value(core: &Core, target: Target, class: u32) -> Result<bool, NoMemory> {
     match target {
         Target::Feature(feature) => Ok(feature_at(core, feature)?.result.is_some()),
-        Target::Builtin(number) => builtin_gives_value(number),
+        Target::Builtin(feature) => Ok(builtin_gives_value(feature)),
         Target::Get(_) => Ok(true),
         Target::Set(_) => is_immutable(core, class),
         Target::GetShared(_) => Ok(true),
@@ -155,12 +155,12 @@ fn target_gives_value(core: &Core, target: Target, class: u32) -> Result<bool, N
 }
 
 /// Whether a built-in feature gives a result: all do but the three of OUT, and `aset` of AREF.
-fn builtin_gives_value(number: u8) -> Result<bool, NoMemory> {
-    match held(BuiltinFeature::of_number(number))? {
-        BuiltinFeature::OutPut => Ok(false),
-        BuiltinFeature::OutPutInt => Ok(false),
-        BuiltinFeature::OutPutChar => Ok(false),
-        BuiltinFeature::ArefAset => Ok(false),
-        _ => Ok(true),
+fn builtin_gives_value(feature: BuiltinFeature) -> bool {
+    match feature {
+        BuiltinFeature::OutPut => false,
+        BuiltinFeature::OutPutInt => false,
+        BuiltinFeature::OutPutChar => false,
+        BuiltinFeature::ArefAset => false,
+        _ => true,
     }
 }

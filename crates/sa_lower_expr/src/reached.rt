@@ -94,7 +94,7 @@ pub(crate) fn own_site(around: &Around<'_>, site: u32) -> Result<CalledCore, NoM
 fn target_type(core: &Core, target: Target, class: u32) -> Result<u32, NoMemory> {
     match target {
         Target::Feature(feature) => held(feature_at(core, feature)?.result),
-        Target::Builtin(number) => builtin_type(core, number, class),
+        Target::Builtin(feature) => builtin_type(core, feature, class),
         Target::Get(place) => attribute_type(core, class, place),
         Target::GetShared(shared) => shared_type(core, shared),
         Target::Set(_) => held(None),
@@ -103,8 +103,8 @@ fn target_type(core: &Core, target: Target, class: u32) -> Result<u32, NoMemory>
 }
 
 /// The number of the type of what a built-in feature of a class gives, where that can be a bound type: an element.
-fn builtin_type(core: &Core, number: u8, class: u32) -> Result<u32, NoMemory> {
-    match held(BuiltinFeature::of_number(number))? {
+fn builtin_type(core: &Core, feature: BuiltinFeature, class: u32) -> Result<u32, NoMemory> {
+    match feature {
         BuiltinFeature::ArefAget => element_type(core, class),
         _ => held(None),
     }

@@ -3,7 +3,7 @@
 use crate::tree::{attribute_type, element_type, is_abstract, shared_type, variable_type};
 use sa_core::{Core, ImplCore, Target};
 use sa_prelude::BuiltinFeature;
-use sa_tree::{NoMemory, held};
+use sa_tree::NoMemory;
 
 /// Whether an implementation takes the argument at this place at an abstract type. The answer is NoMemory where a number of
 /// the implementation or the place is out of range.
@@ -17,7 +17,7 @@ pub fn takes_abstract(
         Target::Feature(feature) => is_abstract(core, variable_type(core, feature, place)?),
         Target::Set(attribute) => is_abstract(core, attribute_type(core, ty, attribute)?),
         Target::SetShared(shared) => is_abstract(core, shared_type(core, shared)?),
-        Target::Builtin(number) => builtin_takes_abstract(core, ty, number, place),
+        Target::Builtin(feature) => builtin_takes_abstract(core, ty, feature, place),
         Target::Get(_) => Ok(false),
         Target::GetShared(_) => Ok(false),
     }
@@ -28,10 +28,10 @@ pub fn takes_abstract(
 fn builtin_takes_abstract(
     core: &Core,
     ty: u32,
-    number: u8,
+    feature: BuiltinFeature,
     place: usize,
 ) -> Result<bool, NoMemory> {
-    match held(BuiltinFeature::of_number(number))? {
+    match feature {
         BuiltinFeature::SysObEq => Ok(true),
         BuiltinFeature::ArefAset => element_is_abstract(core, ty, place),
         _ => Ok(false),

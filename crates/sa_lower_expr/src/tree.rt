@@ -67,7 +67,7 @@ pub fn shared_type(core: &Core, shared: u32) -> Result<u32, NoMemory> {
 pub fn callee_of(target: Target) -> Callee {
     match target {
         Target::Feature(feature) => Callee::Body(feature),
-        Target::Builtin(number) => Callee::Builtin(number),
+        Target::Builtin(feature) => Callee::Builtin(feature),
         Target::Get(place) => Callee::Get(place),
         Target::Set(place) => Callee::Set(place),
         Target::GetShared(shared) => Callee::GetShared(shared),

@@ -19,7 +19,6 @@ use Rattle.sa_meaning.specs.Protects.{AreUnguarded, HasNoProtect}
 use Rattle.sa_meaning.specs.Sequence.{◌>>=◌, resolve, resolved, change, stop, at_place, or_stuck, Gives}
 use Rattle.sa_meaning.specs.State.{Residue, all_of, Sites, Empty, Entry, Instance, Activation, State, Broke, Flow, Done, Yielding, Returning, Quitting}
 use Rattle.sa_meaning.specs.Steps.{Eval}
-use Rattle.sa_meaning.specs.Builtin.{builtins}
 use Rattle.sa_meaning.specs.Calls.{dynamic_type, widen, widened, widened_if, widened_from, widened_where, wide_builtin, wide_arguments, wide_once, widened_for, widened_back, Callee, Handed, dispatched_to, dispatched, bound_to, callee, handed, bring_back, copied_back, brought, attribute, set_attribute, shared, set_shared, filled, returned, raised_out, entered, routine, with_no_variables, reached, call}
 use Rattle.sa_meaning.specs.Instances.{found, kept, without, added, set_anew, ended, this_feature, clear_loop, end_loop, Station, suspended, raised_through, run_instance, add_instance, begun, start_of, start, continued, resume}
 use Rattle.sa_meaning.proofs.Agree.{RestUnguarded, SitesUnguarded, FoundUnguarded, FlowUnguarded, Fits, both_broke, both_raised, parted, both_failed, both_in_fault, give, halt, stick, AgreeIn, agree, Any, Agree, Passes, agree_resolve, agree_then, agree_before, agree_looking, agree_going, agree_if, agree_turn, agree_pure, agree_stop, agree_stuck, agree_look, agree_change, agree_or_stuck, agree_or_stuck_same, agree_some, agree_with_place}
@@ -58,12 +57,12 @@ agree_widened_where p at (wide ∷ more) (None ∷ rest) = agree_then (agree_wid
 agree_widened_where p at (wide ∷ more) [] = agree_pure _
 agree_widened_where p at [] rest = agree_pure _
 
-same_wide_builtin : (p : Program) (class : Option ℕ) (b : Option BuiltinFeature) → wide_builtin (before p) class b ≡ wide_builtin p class b
-same_wide_builtin p class (Some ArefAset) = refl
+same_wide_builtin : (p : Program) (class : Option ℕ) (b : BuiltinFeature) → wide_builtin (before p) class b ≡ wide_builtin p class b
+same_wide_builtin p class ArefAset = refl
 same_wide_builtin p class _ = refl
 
 same_wide_arguments : (p : Program) (class : Option ℕ) (t : Target) → wide_arguments (before p) class t ≡ wide_arguments p class t
-same_wide_arguments p class (target.Builtin n) = same_wide_builtin p class (slice_get builtins n)
+same_wide_arguments p class (target.Builtin b) = same_wide_builtin p class b
 same_wide_arguments p class _ = refl
 
 same_wide_once : (p : Program) (t : Target) → wide_once (before p) t ≡ wide_once p t
@@ -268,7 +267,7 @@ module _ (p : Program) (none : HasNoProtect p) (go to : Residue → Eval Flow) (
 
     pub agree_reached : {feature : Option ℕ} (t : Target) (class : Option ℕ) (self : Value) (given : List (Option Value)) → Agree feature (reached p go at t class self given) (reached (before p) to at t class self given)
     agree_reached (target.Feature k) class self given = agree_routine k self given
-    agree_reached (target.Builtin n) class self given = agree_with_no_variables _ _ (agree_then (agree_or_stuck _) (λ b. agree_builtin_call p class at self _ b))
+    agree_reached (target.Builtin b) class self given = agree_with_no_variables _ _ (agree_builtin_call p class at self _ b)
     agree_reached (target.Get a) class self [] = agree_with_no_variables _ _ (agree_attribute p at a self)
     agree_reached (target.Get a) class self (v ∷ given) = agree_stuck
     agree_reached (target.Set a) class self given = agree_with_no_variables _ _ (agree_then (agree_or_stuck _) (λ v. agree_set_attribute p at a v self))
@@ -296,7 +295,7 @@ module _ (p : Program) (none : HasNoProtect p) (go to : Residue → Eval Flow) (
 
     agree_start_of : (t : Target) (c : Callee) (h : Handed) → Agree feature (start_of p go here t c h) (start_of (before p) to here t c h)
     agree_start_of (target.Feature k) c h = agree_some _ (λ f is. agree_if _ (agree_turn (agree_begun k f is c h)) agree_stuck)
-    agree_start_of (target.Builtin n) c h = agree_stuck
+    agree_start_of (target.Builtin b) c h = agree_stuck
     agree_start_of (target.Get a) c h = agree_stuck
     agree_start_of (target.Set a) c h = agree_stuck
     agree_start_of (target.GetShared k) c h = agree_stuck

@@ -188,7 +188,7 @@ module _ (p : Program) (level : ℕ) (go to : Residue → Eval Flow) (alike : (r
 
     pub alike_reached : (t : Target) (class : Option ℕ) (self : Value) (given : List (Option Value)) → Alike (suc level) (reached p go at t class self given) (reached p to at t class self given)
     alike_reached (target.Feature k) class self given = alike_routine k self given
-    alike_reached (target.Builtin n) class self given = steady_with_no_variables _ (alike_then (steady_or_stuck _) (λ b. steady_builtin_call p class at self _ b))
+    alike_reached (target.Builtin b) class self given = steady_with_no_variables _ (steady_builtin_call p class at self _ b)
     alike_reached (target.Get a) class self [] = steady_with_no_variables _ (steady_attribute p at a self)
     alike_reached (target.Get a) class self (v ∷ given) = steady_stuck
     alike_reached (target.Set a) class self given = steady_with_no_variables _ (alike_then (steady_or_stuck _) (λ v. steady_set_attribute p at a v self))
@@ -213,7 +213,7 @@ module _ (p : Program) (level : ℕ) (go to : Residue → Eval Flow) (alike : (r
 
     alike_start_of : (t : Target) (c : Callee) (h : Handed) → Alike (suc level) (start_of p go here t c h) (start_of p to here t c h)
     alike_start_of (target.Feature k) c h = alike_then (steady_or_stuck _) (λ f. alike_if _ (turns (alike_begun k f c h)) steady_stuck)
-    alike_start_of (target.Builtin n) c h = steady_stuck
+    alike_start_of (target.Builtin b) c h = steady_stuck
     alike_start_of (target.Get a) c h = steady_stuck
     alike_start_of (target.Set a) c h = steady_stuck
     alike_start_of (target.GetShared k) c h = steady_stuck

@@ -20,13 +20,6 @@ use Rattle.sa_meaning.specs.State.{Object}
 use Rattle.sa_meaning.specs.Steps.{Eval, spend, charge, object_size, eights, add_object, object_at}
 use Rattle.sa_meaning.specs.Steps.{set_object, plain, fault, new_text, put_byte, put_bytes, put_text, get_byte}
 
--- the features by their numbers
-abbrev pub builtins : List BuiltinFeature
-builtins =
-    BoolIsEq ∷ BoolNot ∷ IntPlus ∷ IntMinus ∷ IntTimes ∷ IntNegate ∷ IntDiv ∷ IntMod ∷ IntIsEq ∷ IntIsLt ∷ IntBand ∷ IntBor
-    ∷ IntBxor ∷ IntStr ∷ IntChar ∷ CharIsEq ∷ CharIsLt ∷ CharInt ∷ CharStr ∷ StrSize ∷ StrAget ∷ StrCat ∷ StrSubstring
-    ∷ StrOf ∷ OutPut ∷ OutPutInt ∷ OutPutChar ∷ InGetByte ∷ SysObEq ∷ ArefAsize ∷ ArefAget ∷ ArefAset ∷ ArrayCreate ∷ []
-
 -- ---- numbers
 
 abbrev pub is_between : ℤ → ℤ → ℤ → Bool

@@ -19,7 +19,7 @@ use Rattle.sa_meaning.specs.Value.{bool_type, int_type, char_type, str_type, raw
 use Rattle.sa_meaning.specs.Program.{Program, Feature, of_type, is_abstract, void_of}
 use Rattle.sa_meaning.specs.State.{Object, Residue, all_of, Empty, Activation, Cause, Broke, Raised, Flow, Done, Returning}
 use Rattle.sa_meaning.specs.Steps.{Eval, turn, charge, object_size, object_at, set_object, fault, write, enter, leave, checked_depth}
-use Rattle.sa_meaning.specs.Builtin.{builtins, builtin_call}
+use Rattle.sa_meaning.specs.Builtin.{builtin_call}
 
 -- ---- dynamic types and widening
 
@@ -100,15 +100,15 @@ interleaved _ first second = None
 abbrev pub is_wide : Program → Option ℕ → Bool
 is_wide p ty = option_map_or (is_abstract p) ty false
 
-abbrev pub wide_builtin : Program → Option ℕ → Option BuiltinFeature → List Bool
-wide_builtin p class (Some SysObEq) = true ∷ true ∷ []
-wide_builtin p class (Some ArefAset) = false ∷ is_wide p (option_and_then (λ ty. of_type p (λ t. t.elem) None ty) class) ∷ []
+abbrev pub wide_builtin : Program → Option ℕ → BuiltinFeature → List Bool
+wide_builtin p class SysObEq = true ∷ true ∷ []
+wide_builtin p class ArefAset = false ∷ is_wide p (option_and_then (λ ty. of_type p (λ t. t.elem) None ty) class) ∷ []
 wide_builtin p class _ = []
 
 -- which arguments of a target have abstract types
 abbrev pub wide_arguments : Program → Option ℕ → Target → List Bool
 wide_arguments p class (target.Feature k) = option_map_or (λ f. map (is_abstract p) f.vars) (slice_get p.features k) []
-wide_arguments p class (target.Builtin n) = wide_builtin p class (slice_get builtins n)
+wide_arguments p class (target.Builtin b) = wide_builtin p class b
 wide_arguments p class (target.Set a) = is_wide p (option_and_then (λ ty. of_type p (λ t. slice_get t.attrs a) None ty) class) ∷ []
 wide_arguments p class (target.SetShared k) = option_map_or (λ s. is_abstract p s.ty) (slice_get p.shareds k) false ∷ []
 wide_arguments p class _ = []
@@ -309,7 +309,7 @@ module _ (p : Program) (go : Residue → Eval Flow) (at : Pos) where
   -- the result of a target, and its variables where it is a routine
   abbrev pub reached : Target → Option ℕ → Value → List (Option Value) → Eval (Value × List Value)
   reached (target.Feature k) class self given = routine k self given
-  reached (target.Builtin n) class self given = with_no_variables (at_place builtins n >>= builtin_call p class at self (only_given given))
+  reached (target.Builtin b) class self given = with_no_variables (builtin_call p class at self (only_given given) b)
   reached (target.Get a) class self [] = with_no_variables (attribute p at a self)
   reached (target.Set a) class self given = with_no_variables (or_stuck (single (only_given given)) >>= (λ v. set_attribute p at a v self))
   reached (target.GetShared k) class self [] = with_no_variables (shared k)

@@ -9,6 +9,7 @@ use Rattle.sa_core.specs.Copy.{arg_list, stmt_list, arm_list}
 use Rattle.sa_core.specs.Tree as tree
 use Rattle.sa_core.specs.Tree.{Break, Stmt, VoidOf, Me, Var, New, Call, IterCall, Variable, Let}
 use Rattle.sa_core.specs.Tree.{Do, Leave, TypeCase, Protect, Yield, Stop, no_else, otherwise}
+use Rattle.sa_prelude.specs.declared.feature.BuiltinFeature.TheVariants.{IntPlus}
 use Rattle.sa_meaning.specs.Value.{int_type}
 use Rattle.sa_meaning.specs.Program.{Program}
 use Rattle.sa_meaning.specs.Samples.{here, int, with_one, plus, main_type, own_type, ob_type, put, put_int, call, get_shared}
@@ -92,7 +93,7 @@ lacks_argument = program [] (
 abbrev pub has_argument_more : Program
 has_argument_more = program [] (
     routine [] (int_type ∷ []) [] (Let 0
-    (Call (Static (target.Builtin 2) int_type) (int 1) (arg_list (tree.Value In (int 2) ∷ tree.Value In (int 3) ∷ [])) here) ∷ []) ∷ [])
+    (Call (Static (target.Builtin IntPlus) int_type) (int 1) (arg_list (tree.Value In (int 2) ∷ tree.Value In (int 3) ∷ [])) here) ∷ []) ∷ [])
 
 -- what is widened is of a reference class
 abbrev pub widens_reference : Program

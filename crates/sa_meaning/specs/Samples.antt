@@ -13,6 +13,9 @@ use Rattle.sa_core.specs.Tree as tree
 use Rattle.sa_core.specs.Tree.{Expr, VoidOf, Me, Var, Exception, IsVoid, New, Call, IterCall, Bind, Or}
 use Rattle.sa_core.specs.Tree.{Arg, Variable, Left, Break, While, Stmt, Let, Do, If, Loop, Leave, TypeCase}
 use Rattle.sa_core.specs.Tree.{Protect, Return, Yield, Quit, Raise, Stop, no_stmts, no_else, otherwise}
+use Rattle.sa_prelude.specs.declared.feature.BuiltinFeature.{BuiltinFeature}
+use Rattle.sa_prelude.specs.declared.feature.BuiltinFeature.TheVariants.{IntPlus, IntMinus, IntDiv, IntMod, IntIsEq, IntIsLt, IntChar}
+use Rattle.sa_prelude.specs.declared.feature.BuiltinFeature.TheVariants.{OutPut, OutPutInt, OutPutChar, InGetByte, ArefAsize, ArefAget, ArefAset, ArrayCreate}
 use Rattle.sa_meaning.specs.Value.{bool_type, int_type, str_type, fault_type}
 use Rattle.sa_meaning.specs.Program.{TypeRow, Feature, Program}
 
@@ -31,20 +34,20 @@ abbrev pub with_one : Expr → List Arg
 with_one e = tree.Value In e ∷ []
 
 -- a built-in feature of a type, by its number
-abbrev pub builtin : ℕ → ℕ → Expr → List Arg → Expr
-builtin ty number on arguments = Call (Static (target.Builtin number) ty) on (arg_list arguments) here
+abbrev pub builtin : ℕ → BuiltinFeature → Expr → List Arg → Expr
+builtin ty feature on arguments = Call (Static (target.Builtin feature) ty) on (arg_list arguments) here
 
 abbrev pub plus : Expr → Expr → Expr
-plus a b = builtin int_type 2 a (with_one b)
+plus a b = builtin int_type IntPlus a (with_one b)
 
 abbrev pub div : Expr → Expr → Expr
-div a b = builtin int_type 6 a (with_one b)
+div a b = builtin int_type IntDiv a (with_one b)
 
 abbrev pub is_eq : Expr → Expr → Expr
-is_eq a b = builtin int_type 8 a (with_one b)
+is_eq a b = builtin int_type IntIsEq a (with_one b)
 
 abbrev pub is_lt : Expr → Expr → Expr
-is_lt a b = builtin int_type 9 a (with_one b)
+is_lt a b = builtin int_type IntIsLt a (with_one b)
 
 -- MAIN and OUT
 abbrev pub main_type : ℕ
@@ -58,10 +61,10 @@ abbrev pub own_type : ℕ
 own_type = 10
 
 abbrev pub put : Expr → Stmt
-put e = Do (builtin out_type 24 (VoidOf out_type) (with_one e))
+put e = Do (builtin out_type OutPut (VoidOf out_type) (with_one e))
 
 abbrev pub put_int : Expr → Stmt
-put_int e = Do (builtin out_type 25 (VoidOf out_type) (with_one e))
+put_int e = Do (builtin out_type OutPutInt (VoidOf out_type) (with_one e))
 
 -- a feature of MAIN
 abbrev pub call : ℕ → List Arg → Expr
@@ -76,7 +79,7 @@ set_shared k e = Call (Static (target.SetShared k) main_type) Me (arg_list (with
 
 -- #ARRAY{INT}(n), where ARRAY{INT} is the first type of the program's own
 abbrev pub new_array : Expr → Expr
-new_array n = builtin own_type 32 (VoidOf own_type) (with_one n)
+new_array n = builtin own_type ArrayCreate (VoidOf own_type) (with_one n)
 
 abbrev pub loop : List Stmt → Stmt
 loop body = Loop 0 (stmt_list body)
@@ -262,7 +265,7 @@ bound_routine = program (bound_row (false ∷ []) ∷ []) (
     routine [] (own_type ∷ []) [] (
     Let 0 (Bind (Static (target.Feature 1) main_type) Me (arg_list (Left ∷ tree.Value In (int 2) ∷ [])) own_type here)
     ∷ put_int (Call Bound (Var 0) (arg_list (with_one (int 9))) here) ∷ [])
-    ∷ routine (In ∷ In ∷ []) (int_type ∷ int_type ∷ []) [] (Return (Some (builtin int_type 3 (Var 0) (with_one (Var 1)))) ∷ [])
+    ∷ routine (In ∷ In ∷ []) (int_type ∷ int_type ∷ []) [] (Return (Some (builtin int_type IntMinus (Var 0) (with_one (Var 1)))) ∷ [])
     ∷ [])
 
 -- class MAIN is count!(step:INT):INT is s:INT; loop s := s + step; step := 100; yield s; end; end;
@@ -301,7 +304,7 @@ divides_by_zero = program [] (routine [] (int_type ∷ []) [] (Let 0 (div (int 1
 abbrev pub divides : Program
 divides = program [] (routine [] [] [] (
     put_int (div (tree.Int (negsuc 6)) (int 2)) ∷ put (text (codes " "))
-    ∷ put_int (builtin int_type 7 (tree.Int (negsuc 6)) (with_one (int 2))) ∷ []) ∷ [])
+    ∷ put_int (builtin int_type IntMod (tree.Int (negsuc 6)) (with_one (int 2))) ∷ []) ∷ [])
 
 -- the types with ARRAY{INT}
 abbrev pub array_types : List TypeRow
@@ -311,10 +314,10 @@ array_types = record { kind = kind.Reference; attrs = []; elem = Some int_type; 
 abbrev pub passes_the_end : Program
 passes_the_end = program array_types (routine [] (own_type ∷ int_type ∷ []) [] (
     Let 0 (new_array (int 2))
-    ∷ Do (builtin own_type 31 (Var 0) (tree.Value In (int 1) ∷ tree.Value In (int 7) ∷ []))
-    ∷ put_int (builtin own_type 30 (Var 0) (with_one (int 1)))
-    ∷ put_int (builtin own_type 29 (Var 0) [])
-    ∷ Let 1 (builtin own_type 30 (Var 0) (with_one (int 2))) ∷ []) ∷ [])
+    ∷ Do (builtin own_type ArefAset (Var 0) (tree.Value In (int 1) ∷ tree.Value In (int 7) ∷ []))
+    ∷ put_int (builtin own_type ArefAget (Var 0) (with_one (int 1)))
+    ∷ put_int (builtin own_type ArefAsize (Var 0) [])
+    ∷ Let 1 (builtin own_type ArefAget (Var 0) (with_one (int 2))) ∷ []) ∷ [])
 
 -- a ::= #ARRAY{INT}(n)
 abbrev pub makes_array : Expr → Program
@@ -334,7 +337,7 @@ recursive n = program [] (
     routine [] (int_type ∷ []) [] (Let 0 (call 1 (with_one (int n))) ∷ [])
     ∷ routine (In ∷ []) (int_type ∷ []) [] (
     when (is_eq (Var 0) (int 1)) (Return (Some (int 1)) ∷ [])
-    ∷ Return (Some (call 1 (with_one (builtin int_type 3 (Var 0) (with_one (int 1)))))) ∷ [])
+    ∷ Return (Some (call 1 (with_one (builtin int_type IntMinus (Var 0) (with_one (int 1)))))) ∷ [])
     ∷ [])
 
 -- ---- protect
@@ -489,7 +492,7 @@ reads_line = program [] (
     routine [] (int_type ∷ []) [] (
     put (text (codes "q"))
     ∷ loop (
-    Let 0 (builtin out_type 27 (VoidOf out_type) [])
+    Let 0 (builtin out_type InGetByte (VoidOf out_type) [])
     ∷ when (Or (is_lt (Var 0) (int 0)) (is_eq (Var 0) (int 10))) (Leave Break ∷ [])
-    ∷ Do (builtin out_type 26 (VoidOf out_type) (with_one (builtin int_type 14 (Var 0) []))) ∷ [])
+    ∷ Do (builtin out_type OutPutChar (VoidOf out_type) (with_one (builtin int_type IntChar (Var 0) []))) ∷ [])
     ∷ []) ∷ [])

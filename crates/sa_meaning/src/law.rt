@@ -1,11 +1,8 @@
 //! Laws of the definitions, each as what a function of an empty body ensures.
 
-ghost use Rattle.std.specs.Prelude.{◌≡◌};
-ghost use Rattle.sa_meaning.specs.Builtin.{builtins};
 ghost use Rattle.sa_meaning.specs.Law.{IsGrowing, IsSameBefore, IsSpending, IsSteady};
 
 use sa_core::Core;
-use sa_prelude::BUILTIN_FEATURES;
 
 /// A run that is over in some turns is the same in more, whatever the input and the room.
 #[tactic(auto, using(crate::proofs::WholeRuns::steady))]
@@ -29,9 +26,4 @@ pub fn is_spending(core: &Core)
 #[tactic(auto, using(crate::proofs::SameBefore::same_before))]
 pub fn is_same_before(core: &Core)
     ensures { IsSameBefore core.now }
-{}
-
-/// The definitions number the built-in features as the prelude's crate does.
-pub fn numbers_builtins()
-    ensures { builtins ≡ BUILTIN_FEATURES }
 {}

@@ -4,4 +4,4 @@
 
 mod law;
 
-pub use law::{is_growing, is_same_before, is_spending, is_steady, numbers_builtins};
+pub use law::{is_growing, is_same_before, is_spending, is_steady};

@@ -2,6 +2,7 @@
 
 use sa_flat::{CallPlan, Callee, Fail, FlatBlock, FlatBody, FlatExit, FlatStep, Raised};
 use sa_lower_live::kept_variables;
+use sa_prelude::BuiltinFeature;
 use sa_tree::NoMemory;
 use sqlite_items::Items;
 use std::alloc::Global;
@@ -15,7 +16,7 @@ fn call(alloc: Global, recv: u32, value: u32, block: u32) -> FlatStep {
         kind: 202,
     };
     let plan = CallPlan {
-        callee: Callee::Builtin(0),
+        callee: Callee::Builtin(BuiltinFeature::BoolIsEq),
         class: 0,
         recv,
         args: Items::new(alloc),

@@ -92,7 +92,7 @@ impl Writer {
     pub fn target(&mut self, target: Target) -> Result<(), AllocError> {
         match target {
             Target::Feature(number) => self.form_of("Feature", number),
-            Target::Builtin(number) => self.form_of("Builtin", u32::from(number)),
+            Target::Builtin(feature) => self.form_of("Builtin", u32::from(feature.number())),
             Target::Get(place) => self.form_of("Get", place),
             Target::Set(place) => self.form_of("Set", place),
             Target::GetShared(number) => self.form_of("GetShared", number),
