@@ -40,8 +40,8 @@ initialises = with_own (layout kind.Immutable (int_type ∷ []) ∷ []) (record 
       of_type 203 out_type ∷ of_type 204 own_type ∷ Call (plan (GetShared 0) own_type 204 [] (Some 205)) ∷ put_int 203 205 ∷
       of_type 203 own_type ∷ Call (plan (GetShared 1) own_type 203 [] (Some 204)) ∷
       Move 0 204 ∷ TypeIs 203 0 own_type ∷ []) (Branch 203 2 3)) (
-      block (Unwrap 1 0 own_type ∷ of_type 203 out_type ∷ text 204 0 ∷ Call (plan (Builtin OutPut) out_type 203 (args In (204 ∷ [])) None) ∷ [])
-      (Return None) ∷
+      block (Unwrap 1 0 own_type ∷ of_type 203 out_type ∷ text 204 0 ∷
+      Call (plan (Builtin OutPut) out_type 203 (args In (204 ∷ [])) None) ∷ []) (Return None) ∷
       block (of_type 203 out_type ∷ text 204 1 ∷ Call (plan (Builtin OutPut) out_type 203 (args In (204 ∷ [])) None) ∷ []) (Return None) ∷ []))
       ∷ body None [] 0 (blocks (block (
       Turn ∷ of_type 203 own_type ∷ Call (plan (Get 0) own_type 203 [] (Some 204)) ∷ int 205 1 ∷ plus 206 204 205 ∷ InitShared 0 206 ∷
@@ -77,8 +77,8 @@ widening_in_two_stages = program (
     block (TypeIs 203 2 int_type ∷ []) (Branch 203 4 5) ∷
     block (Unwrap 3 2 int_type ∷ puts_int) (Jump 5) ∷
     block [] (Return None) ∷ [])) ∷
-    body (Some 1) (formal Out int_type ∷ formal Out int_type ∷ []) 2
-    (blocks (block (int 203 1 ∷ Move 0 203 ∷ int 203 2 ∷ Move 1 203 ∷ []) (Return None)) []) ∷
+    body (Some 1) (formal Out int_type ∷ formal Out int_type ∷ []) 2 (blocks (block (
+    int 203 1 ∷ Move 0 203 ∷ int 203 2 ∷ Move 1 203 ∷ []) (Return None)) []) ∷
     body None (formal Out int_type ∷ formal Out 0 ∷ []) 2 (blocks (block (
     Me 203 ∷ Call (plan (Body 1) own_type 203 (args Out (0 ∷ 204 ∷ [])) None) ∷ Widen 1 204 int_type fails ∷ []) (Return None)) []) ∷ [])
     (2 ∷ []) []

@@ -157,11 +157,9 @@ summing = program (body (Some 0) [] 2 (blocks (block (int 203 0 ∷ Move 0 203 �
 -- twice(n:INT):INT is return n + n; end
 abbrev pub calling : FlatProgram
 calling = program (
-    body (Some 0) [] 0 (blocks
-    (block
-    (of_type 203 out_type ∷ Me 204 ∷ int 205 21 ∷ Call (plan (Body 1) main_type 204 (args In (205 ∷ [])) (Some 206)) ∷ put_int 203 206 ∷ [])
-    (Return None))
-    []) ∷
+    body (Some 0) [] 0 (blocks (block (
+    of_type 203 out_type ∷ Me 204 ∷ int 205 21 ∷ Call (plan (Body 1) main_type 204 (args In (205 ∷ [])) (Some 206)) ∷
+    put_int 203 206 ∷ []) (Return None)) []) ∷
     body (Some 1) (formal In int_type ∷ []) 1 (blocks (block (plus 203 0 0 ∷ []) (Return (Some 203))) []) ∷ []) [] []
 
 -- main is deeper; end
@@ -174,13 +172,14 @@ deep = program (body (Some 0) [] 0 (blocks (block (Me 203 ∷ Call (plan (Body 0
 -- f:INT is return 7; end, in a class B < $A
 abbrev pub widening_of : FlatStep → FlatProgram
 widening_of first = program (
-    body (Some 0) [] 3 (blocks
-    (block (first ∷ Move 0 203 ∷ Call (plan (Dispatch 0) 0 0 [] (Some 203)) ∷ Move 1 203 ∷ TypeIs 203 1 int_type ∷ []) (Branch 203 2 3)) (
+    body (Some 0) [] 3 (blocks (block (
+    first ∷ Move 0 203 ∷ Call (plan (Dispatch 0) 0 0 [] (Some 203)) ∷ Move 1 203 ∷ TypeIs 203 1 int_type ∷ []) (Branch 203 2 3)) (
     block (Unwrap 2 1 int_type ∷ of_type 203 out_type ∷ put_int 203 2 ∷ []) (Jump 3) ∷
     block [] (Return None) ∷ [])) ∷
     body (Some 1) [] 0 (blocks (block (int 203 7 ∷ []) (Return (Some 203))) []) ∷
-    body None [] 0 (blocks (block (Me 203 ∷ Call (plan (Body 1) own_type 203 [] (Some 204))
-    ∷ Widen 205 204 int_type fails ∷ []) (Return (Some 205))) []) ∷ []) (2 ∷ []) []
+    body None [] 0 (blocks (block (
+    Me 203 ∷ Call (plan (Body 1) own_type 203 [] (Some 204)) ∷ Widen 205 204 int_type fails ∷ []) (Return (Some 205))) []) ∷ [])
+    (2 ∷ []) []
 
 abbrev pub widening : FlatProgram
 widening = widening_of (New 203 own_type fails)
@@ -235,8 +234,8 @@ keeping = program (
     block (Unwrap 1 0 int_type ∷ []) (Return (Some 1)) ∷
     block (int 203 0 ∷ []) (Return (Some 203)) ∷ [])) ∷
     body None (formal In int_type ∷ []) 1 (blocks (block (
-    Me 203 ∷ Widen 204 0 int_type fails ∷ Call (plan (Body 1) own_type 203 (args In (204 ∷ [])) (Some 205)) ∷ []) (Return (Some 205))) [])
-    ∷ [])
+    Me 203 ∷ Widen 204 0 int_type fails ∷
+    Call (plan (Body 1) own_type 203 (args In (204 ∷ [])) (Some 205)) ∷ []) (Return (Some 205))) []) ∷ [])
     (2 ∷ []) (record { ty = own_type; callee = Dispatch 0; class = 0; «open» = false ∷ [] } ∷ [])
 
 -- ---- iters
@@ -318,17 +317,16 @@ widening_once = program (
 -- main is loop upto!(3); x ::= 2147483647; x := x + 1; end; end
 -- The raise releases the instance that is suspended.
 abbrev pub failing : FlatProgram
-failing =
-    program
-    (looping (Me 206) (Body 1)
-    (int 210 2147483647 ∷ int 211 1
-    ∷ Call
-    (record { callee = Builtin IntPlus; class = int_type; recv = 210; args = args In (211 ∷ []); value = Some 212; fail = fails_to out_of_loop })
-    ∷ [])
-    (Jump 2)
-    ∷ upto
-    ∷ [])
-    [] []
+failing = program (looping (Me 206) (Body 1) (
+    int 210 2147483647 ∷ int 211 1 ∷
+    Call (record {
+      callee = Builtin IntPlus;
+      class = int_type;
+      recv = 210;
+      args = args In (211 ∷ []);
+      value = Some 212;
+      fail = fails_to out_of_loop;
+    }) ∷ []) (Jump 2) ∷ upto ∷ []) [] []
 
 -- main is loop #OUT + broken!(3); end; end
 -- broken!(once n:INT):INT is yield n; n := n + 2147483647; end
@@ -344,8 +342,8 @@ swapping = program (
     body (Some 0) [] 2 (blocks (block (int 203 1 ∷ Move 0 203 ∷ int 203 2 ∷ Move 1 203 ∷
     Me 203 ∷ Call (plan (Body 1) main_type 203 (args Inout (0 ∷ 1 ∷ [])) None) ∷
     of_type 203 out_type ∷ put_int 203 0 ∷ of_type 203 out_type ∷ put_int 203 1 ∷ []) (Return None)) []) ∷
-    body (Some 1) (formal Inout int_type ∷ formal Inout int_type ∷ []) 3
-    (blocks (block (Move 2 0 ∷ Move 0 1 ∷ Move 1 2 ∷ []) (Return None)) []) ∷ []) [] []
+    body (Some 1) (formal Inout int_type ∷ formal Inout int_type ∷ []) 3 (blocks (block (
+    Move 2 0 ∷ Move 0 1 ∷ Move 1 2 ∷ []) (Return None)) []) ∷ []) [] []
 
 -- main is r ::= bind(upto!(3)); loop #OUT + r.call!; end; end
 abbrev pub bound_iter : FlatProgram
@@ -359,5 +357,6 @@ bound_iter = program (
 abbrev pub nested : FlatProgram
 nested = program (
     looping_from [] (Me 206 ∷ []) (iter_plan (Body 2) []) (put_int 203 208 ∷ []) (Jump 9) ∷ upto ∷
-    record (iter_body (Some 2) [] 0 (loop_blocks [] (Me 206 ∷ int 207 3 ∷ [])
-    (iter_plan (Body 1) (207 ∷ [])) [] (Suspend (Some 208) (Some 2)) Quit)) { sites = 1 } ∷ []) [] []
+    record (iter_body (Some 2) [] 0 (
+    loop_blocks [] (Me 206 ∷ int 207 3 ∷ []) (iter_plan (Body 1) (207 ∷ [])) [] (Suspend (Some 208) (Some 2)) Quit)) { sites = 1 }
+    ∷ []) [] []

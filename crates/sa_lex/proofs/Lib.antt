@@ -1,3 +1,10 @@
+pub mod Fronts
 pub mod Items
+pub mod Longest
+pub mod LongestLiteral
+pub mod LongestName
+pub mod LongestNumber
+pub mod LongestSign
+pub mod Reach
 pub mod Spellings
 pub mod TokenLists

@@ -36,7 +36,7 @@ end_of-push place (first ∷ tokens) token = end_of-push first.end tokens token
 -- two tokens of one place are the same
 one_token : (text : List ℕ) (place : ℕ) (t u : Token) → StandsAt text place t → StandsAt text place u → t ≡ u
 one_token text place t u p q =
-    let found : found_as t ≡ found_as u = ok_same (found_as t) (found_as u) (sym p.longest ∙ q.longest) in
+    let found : found_as t ≡ found_as u = ok_same (found_as t) (found_as u) (sym p.front ∙ q.front) in
     let starts : t.start ≡ u.start = p.start ∙ sym q.start in
     let lengths : t.end - t.start ≡ u.end - u.start = ap (λ (f : Found). f.len) found in
     let ends : t.end ≡ u.end = omega (arith, p.not_empty, q.not_empty) in
@@ -54,7 +54,7 @@ not_at_end text place t p e = omega (arith, p.start, p.not_empty, p.in_text)
 
 -- a place doesn't have both a token and a fault
 not_broken : (text : List ℕ) (place : ℕ) (t : Token) (refusal : Refusal) → StandsAt text place t → BreaksAt text place refusal → ⊥
-not_broken text place t refusal p b = ok_err _ _ (sym p.longest ∙ b.fault)
+not_broken text place t refusal p b = ok_err _ _ (sym p.front ∙ b.fault)
 
 lists : (text : List ℕ) (place : ℕ) (ts us : List Token) → Follow text place ts → Follow text place us → gap_end text (end_of place ts) ≡ length text → gap_end text (end_of place us) ≡ length text → ts ≡ us
 lists text place [] [] f g e h = refl

@@ -8,5 +8,6 @@ pub mod Number
 pub mod Sign
 pub mod Signs
 pub mod Token
+pub mod TokenRules
 pub mod Tokens
 pub mod Words

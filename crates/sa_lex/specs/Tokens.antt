@@ -7,6 +7,7 @@ use Rattle.sa_tree.specs.declared.refusal.FrontFault.{FrontFault}
 use Rattle.sa_tree.specs.declared.refusal.FrontFault.TheVariants.{Refused, NoMemory}
 use Rattle.sa_lex.specs.Gap.{gap_len}
 use Rattle.sa_lex.specs.Front.{front_of}
+use Rattle.sa_lex.specs.TokenRules.{IsLongest}
 
 -- the place behind the blanks and comments that stand at a place
 abbrev pub gap_end : List ℕ → ℕ → ℕ
@@ -16,12 +17,13 @@ gap_end text place = place + gap_len false (drop place text)
 abbrev pub found_as : Token → Found
 found_as token = record { kind = token.kind; len = token.end - token.start }
 
--- the token begins at this place and is the longest there
+-- the token begins at this place: it is the one that is found in front there, and the longest by the rules of tokens
 pub record StandsAt (text : List ℕ) (place : ℕ) (token : Token) : Type 0 where
   pub start : token.start ≡ place
   pub not_empty : token.start < token.end
   pub in_text : token.end ≤ length text
-  pub longest : front_of (drop place text) ≡ Ok (found_as token)
+  pub front : front_of (drop place text) ≡ Ok (found_as token)
+  pub longest : IsLongest (drop place text) (found_as token)
 
 -- the tokens follow one another from a place on, with blanks and comments alone between them
 abbrev pub Follow : List ℕ → ℕ → List Token → Type 0

@@ -54,19 +54,16 @@ widens_in_two_stages = record (program (abstract_row (ob_type ∷ []) ∷ class_
 -- class C < $A is create:SAME is return new; end; g!(a:$OB, once b:$OB):INT is yield 1; end; end;
 -- c:$A := #C; p:P; loop #OUT + c.g!(7, p); break!; end
 abbrev pub widens_once_first : Program
-widens_once_first = record (program (abstract_row (ob_type ∷ []) ∷ class_row [] (ob_type ∷ own_type ∷ []) ∷
-    immutable_row (int_type ∷ int_type ∷ int_type ∷ []) (ob_type ∷ []) ∷ []) (
+widens_once_first = record (program (
+    abstract_row (ob_type ∷ []) ∷ class_row [] (ob_type ∷ own_type ∷ [])
+    ∷ immutable_row (int_type ∷ int_type ∷ int_type ∷ []) (ob_type ∷ []) ∷ []) (
     routine [] (own_type ∷ 12 ∷ []) (record { owner = 0; called = Dispatch 0; pos = here } ∷ []) (
     Let 0 (New 11 here) ∷ Let 1 (VoidOf 12)
     ∷ loop (put_int (IterCall 0 (Var 0) (arg_list (tree.Value In (int 7) ∷ tree.Value Once (Var 1) ∷ [])) here) ∷ Leave Break ∷ []) ∷ [])
     ∷ iter (In ∷ Once ∷ []) (ob_type ∷ ob_type ∷ []) [] (Yield (Some (int 1)) ∷ [])
     ∷ [])) {
-      signatures = record {
-        impls = record { ty = 11; target = target.Feature 1 }
-            ∷ [];
-        wide_args = false ∷ false ∷ [];
-        wide = false;
-      } ∷ [];
+      signatures = record { impls = record { ty = 11; target = target.Feature 1 } ∷ []; wide_args = false ∷ false ∷ []; wide = false }
+          ∷ [];
     }
 
 -- ---- faults
@@ -92,8 +89,9 @@ lacks_argument = program [] (
 -- there is an argument more than the built-in feature takes
 abbrev pub has_argument_more : Program
 has_argument_more = program [] (
-    routine [] (int_type ∷ []) [] (Let 0
-    (Call (Static (target.Builtin IntPlus) int_type) (int 1) (arg_list (tree.Value In (int 2) ∷ tree.Value In (int 3) ∷ [])) here) ∷ []) ∷ [])
+    routine [] (int_type ∷ []) [] (
+    Let 0 (Call (Static (target.Builtin IntPlus) int_type) (int 1) (arg_list (tree.Value In (int 2) ∷ tree.Value In (int 3) ∷ [])) here) ∷ [])
+    ∷ [])
 
 -- what is widened is of a reference class
 abbrev pub widens_reference : Program

@@ -165,8 +165,10 @@ then_text on bytes = Call (Static (target.Feature 3) out_type) on (arg_list (wit
 abbrev pub two_sites : Program
 two_sites = program [] (
     routine [] [] (site 1 int_type ∷ site 1 int_type ∷ []) (
-    loop (Do (then_text (then_int (then_text (then_int (VoidOf out_type) (up 0 (int 1) (int 3))) (codes " ")) (up 1 (int 5) (int 6)))
-    (codes "\n")) ∷ []) ∷ [])
+    loop (
+    Do
+    (then_text (then_int (then_text (then_int (VoidOf out_type) (up 0 (int 1) (int 3))) (codes " ")) (up 1 (int 5) (int 6))) (codes "\n"))
+    ∷ []) ∷ [])
     ∷ upto ∷ plus_int ∷ plus_text ∷ [])
 
 -- s ::= 0; loop s := s + 1.upto!(2); end; #OUT + s
@@ -291,9 +293,9 @@ overflows =
 
 -- x ::= (-2147483647-1) / (-1)
 abbrev pub overflows_by_division : Program
-overflows_by_division =
-    program [] (routine [] (int_type ∷ []) []
-    (Let 0 (div (plus (tree.Int (negsuc 2147483646)) (tree.Int (negsuc 0))) (tree.Int (negsuc 0))) ∷ [])
+overflows_by_division = program [] (
+    routine [] (int_type ∷ []) [] (
+    Let 0 (div (plus (tree.Int (negsuc 2147483646)) (tree.Int (negsuc 0))) (tree.Int (negsuc 0))) ∷ [])
     ∷ [])
 
 -- x ::= 1/0

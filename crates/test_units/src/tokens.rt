@@ -161,7 +161,7 @@ const TEXTS: [(&[u8], &str); 14] = [
     (b"\"\\xFF\"", "E05: unknown escape at 1"),
 ];
 
-const SIGN_TEXTS: [(&[u8], &str); 7] = [
+const SIGN_TEXTS: [(&[u8], &str); 8] = [
     (
         b"()[]{},;",
         "sign ( 0..1, sign ) 1..2, sign [ 2..3, sign ] 3..4, sign { 4..5, sign } 5..6, sign , 6..7, sign ; 7..8",
@@ -175,8 +175,12 @@ const SIGN_TEXTS: [(&[u8], &str); 7] = [
         "sign /= 0..2, sign / 2..3, sign <= 3..5, sign < 5..6, sign >= 6..8, sign > 8..9",
     ),
     (
-        b"+-*%^~#|_->.",
-        "sign + 0..1, sign - 1..2, sign * 2..3, sign % 3..4, sign ^ 4..5, sign ~ 5..6, sign # 6..7, sign | 7..8, sign _ 8..9, sign -> 9..11, sign . 11..12",
+        b"+-*%^~",
+        "sign + 0..1, sign - 1..2, sign * 2..3, sign % 3..4, sign ^ 4..5, sign ~ 5..6",
+    ),
+    (
+        b"#|_->.",
+        "sign # 0..1, sign | 1..2, sign _ 2..3, sign -> 3..5, sign . 5..6",
     ),
     (b"<--=\n=", "sign < 0..1, sign = 5..6"),
     (b"a?", "E01: bad byte at 1"),
