@@ -1,12 +1,14 @@
 -- Which expressions are quiet: they make no object, change nothing, put nothing out and take nothing in.
 use Rattle.std.specs.Prelude.{Bool, true, false, ◌&&◌, Option, None, Some, slice_get}
-use Rattle.sa_core.specs.Tree.{Expr, Int, Truth, Char, Text, VoidOf, Me, Var, IsVoid, Call, Swapped, And, Or, Arg, Value, Args, no_args, arg}
+use Rattle.sa_core.specs.Tree.{Expr, Int, Truth, Char, Text, VoidOf, Me, Var, IsVoid}
+use Rattle.sa_core.specs.Tree.{Call, Swapped, And, Or, Arg, Value, Args, no_args, arg}
 use Rattle.sa_core.specs.declared.feature.CalledCore.{CalledCore}
 use Rattle.sa_core.specs.declared.feature.CalledCore.TheVariants.{Static}
 use Rattle.sa_core.specs.declared.feature.Target.{Target}
 use Rattle.sa_core.specs.declared.feature.Target.TheVariants as target
 use Rattle.sa_prelude.specs.declared.feature.BuiltinFeature.{BuiltinFeature}
-use Rattle.sa_prelude.specs.declared.feature.BuiltinFeature.TheVariants.{IntStr, CharStr, StrCat, StrSubstring, StrOf, OutPut, OutPutInt, OutPutChar, InGetByte, ArefAset, ArrayCreate}
+use Rattle.sa_prelude.specs.declared.feature.BuiltinFeature.TheVariants.{IntStr, CharStr, StrCat, StrSubstring, StrOf, OutPut}
+use Rattle.sa_prelude.specs.declared.feature.BuiltinFeature.TheVariants.{OutPutInt, OutPutChar, InGetByte, ArefAset, ArrayCreate}
 use Rattle.sa_prelude.specs.declared.feature.TheConstants.{BUILTIN_FEATURES}
 
 -- all built-in features but those that make a text or an array, set an element, put or take

@@ -45,17 +45,22 @@ IsAbstractName l = l.kind ≡ AbstractName
 -- param = CNAME ["<" type]
 pub data IsParam : List Lexeme → Param → Type 0 where
   free : {c : Lexeme} → IsClassName c → IsParam (c ∷ []) (record { name = name_of c; bound = None })
-  bounded : {c less : Lexeme} {ls : List Lexeme} {t : Ty} → IsClassName c → IsSign sign.Less less → IsType ls t → IsParam (c ∷ less ∷ ls) (record { name = name_of c; bound = Some t })
+  bounded : {c less : Lexeme} {ls : List Lexeme} {t : Ty} → IsClassName c → IsSign sign.Less less → IsType ls t
+      → IsParam (c ∷ less ∷ ls) (record { name = name_of c; bound = Some t })
 
 -- param_list = param {"," param}
 pub data IsParamList : List Lexeme → List Param → Type 0 where
   last : {ls : List Lexeme} {p : Param} → IsParam ls p → IsParamList ls (p ∷ [])
-  more : {ls ms : List Lexeme} {comma : Lexeme} {p : Param} {others : List Param} → IsParam ls p → IsSign sign.Comma comma → IsParamList ms others → IsParamList (ls ++ comma ∷ ms) (p ∷ others)
+  more : {ls ms : List Lexeme} {comma : Lexeme} {p : Param} {others : List Param}
+      → IsParam ls p → IsSign sign.Comma comma → IsParamList ms others
+      → IsParamList (ls ++ comma ∷ ms) (p ∷ others)
 
 -- params = ["{" param_list "}"]
 pub data IsParams : List Lexeme → List Param → Type 0 where
   absent : IsParams [] []
-  given : {opening closing : Lexeme} {ls : List Lexeme} {params : List Param} → IsSign sign.LeftBrace opening → IsParamList ls params → IsSign sign.RightBrace closing → IsParams (opening ∷ ls ++ closing ∷ []) params
+  given : {opening closing : Lexeme} {ls : List Lexeme} {params : List Param}
+      → IsSign sign.LeftBrace opening → IsParamList ls params → IsSign sign.RightBrace closing
+      → IsParams (opening ∷ ls ++ closing ∷ []) params
 
 -- ["<" types], or the same with `>`
 pub data IsTypesAfter : Sign → List Lexeme → List Ty → Type 0 where
@@ -64,15 +69,20 @@ pub data IsTypesAfter : Sign → List Lexeme → List Ty → Type 0 where
 
 -- edges = ["<" types] [">" types]
 pub data IsEdges : List Lexeme → DeclaredEdges → Type 0 where
-  edges : {bs us : List Lexeme} {below above : List Ty} → IsTypesAfter sign.Less bs below → IsTypesAfter sign.Greater us above → IsEdges (bs ++ us) (record { below = below; above = above })
+  edges : {bs us : List Lexeme} {below above : List Ty} → IsTypesAfter sign.Less bs below → IsTypesAfter sign.Greater us above
+      → IsEdges (bs ++ us) (record { below = below; above = above })
 
 -- abstract_head = ANAME params edges
 pub data IsAbstractHead : List Lexeme → Head → Type 0 where
-  abstract_head : {name : Lexeme} {ps es : List Lexeme} {params : List Param} {edges : DeclaredEdges} → IsAbstractName name → IsParams ps params → IsEdges es edges → IsAbstractHead (name ∷ ps ++ es) (record { name = name_of name; params = params; edges = edges })
+  abstract_head : {name : Lexeme} {ps es : List Lexeme} {params : List Param} {edges : DeclaredEdges}
+      → IsAbstractName name → IsParams ps params → IsEdges es edges
+      → IsAbstractHead (name ∷ ps ++ es) (record { name = name_of name; params = params; edges = edges })
 
 -- concrete_head = CNAME params ["<" types]
 pub data IsConcreteHead : List Lexeme → Head → Type 0 where
-  concrete_head : {name : Lexeme} {ps bs : List Lexeme} {params : List Param} {below : List Ty} → IsClassName name → IsParams ps params → IsTypesAfter sign.Less bs below → IsConcreteHead (name ∷ ps ++ bs) (record { name = name_of name; params = params; edges = record { below = below; above = [] } })
+  concrete_head : {name : Lexeme} {ps bs : List Lexeme} {params : List Param} {below : List Ty}
+      → IsClassName name → IsParams ps params → IsTypesAfter sign.Less bs below
+      → IsConcreteHead (name ∷ ps ++ bs) (record { name = name_of name; params = params; edges = record { below = below; above = [] } })
 
 -- ---- insides
 
@@ -84,14 +94,20 @@ pub data IsOptionalSignature : List Lexeme → List Feature → Type 0 where
 -- [sig] {";" [sig]}
 pub data IsSignatures : List Lexeme → List Feature → Type 0 where
   last : {ls : List Lexeme} {features : List Feature} → IsOptionalSignature ls features → IsSignatures ls features
-  more : {ls ms : List Lexeme} {semicolon : Lexeme} {features others : List Feature} → IsOptionalSignature ls features → IsSign sign.Semicolon semicolon → IsSignatures ms others → IsSignatures (ls ++ semicolon ∷ ms) (features ++ others)
+  more : {ls ms : List Lexeme} {semicolon : Lexeme} {features others : List Feature}
+      → IsOptionalSignature ls features → IsSign sign.Semicolon semicolon → IsSignatures ms others
+      → IsSignatures (ls ++ semicolon ∷ ms) (features ++ others)
 
 -- members = [member] {";" [member]}
 pub data IsMembers (class : Enclosing) : List Lexeme → List Declaration → Type 0 where
   nothing : IsMembers class [] []
   last : {ls : List Lexeme} {m : Declaration} → IsMember class ls m → IsMembers class ls (m ∷ [])
-  empty : {semicolon : Lexeme} {ls : List Lexeme} {members : List Declaration} → IsSign sign.Semicolon semicolon → IsMembers class ls members → IsMembers class (semicolon ∷ ls) members
-  more : {ls ms : List Lexeme} {semicolon : Lexeme} {m : Declaration} {members : List Declaration} → IsMember class ls m → IsSign sign.Semicolon semicolon → IsMembers class ms members → IsMembers class (ls ++ semicolon ∷ ms) (m ∷ members)
+  empty : {semicolon : Lexeme} {ls : List Lexeme} {members : List Declaration}
+      → IsSign sign.Semicolon semicolon → IsMembers class ls members
+      → IsMembers class (semicolon ∷ ls) members
+  more : {ls ms : List Lexeme} {semicolon : Lexeme} {m : Declaration} {members : List Declaration}
+      → IsMember class ls m → IsSign sign.Semicolon semicolon → IsMembers class ms members
+      → IsMembers class (ls ++ semicolon ∷ ms) (m ∷ members)
 
 -- the include of a member
 abbrev pub includes_of : Declaration → List Include
@@ -119,7 +135,15 @@ features_written w = w.signatures ++ flat_map features_of w.members
 -- its class
 abbrev pub class_of : Written → Class
 class_of w =
-    record { kind = w.kind; name = w.head.name; params = w.head.params; below = w.head.edges.below; above = w.head.edges.above; includes = flat_map includes_of w.members; features = features_written w }
+    record {
+      kind = w.kind;
+      name = w.head.name;
+      params = w.head.params;
+      below = w.head.edges.below;
+      above = w.head.edges.above;
+      includes = flat_map includes_of w.members;
+      features = features_written w;
+    }
 
 -- ["immutable" | "partial"]
 pub data IsKind : List Lexeme → Kind → Type 0 where
@@ -130,8 +154,17 @@ pub data IsKind : List Lexeme → Kind → Type 0 where
 -- class = "abstract" "class" abstract_head "is" [sig] {";" [sig]} "end"
 --       | ["immutable" | "partial"] "class" concrete_head "is" members "end", of which one is an invariant at most
 pub data IsWholeClass (file_kind : FileKind) : List Lexeme → Written → Type 0 where
-  abstract_class : {a w is closing : Lexeme} {hs ls : List Lexeme} {head : Head} {features : List Feature} → IsWord word.Abstract a → IsWord word.Class w → IsAbstractHead hs head → IsWord word.Is is → IsSignatures ls features → IsWord word.End closing → IsWholeClass file_kind (a ∷ w ∷ hs ++ is ∷ ls ++ closing ∷ []) (record { kind = Abstract; head = head; signatures = features; members = [] })
-  concrete_class : {w is closing : Lexeme} {ks hs ls : List Lexeme} {kind : Kind} {head : Head} {members : List Declaration} → IsKind ks kind → IsWord word.Class w → IsConcreteHead hs head → IsWord word.Is is → IsMembers (record { name = head.name.name; kind = kind; file_kind = file_kind }) ls members → length (flat_map invariants_of members) ≤ 1 → IsWord word.End closing → IsWholeClass file_kind (ks ++ w ∷ hs ++ is ∷ ls ++ closing ∷ []) (record { kind = kind; head = head; signatures = []; members = members })
+  abstract_class : {a w is closing : Lexeme} {hs ls : List Lexeme} {head : Head} {features : List Feature}
+      → IsWord word.Abstract a → IsWord word.Class w → IsAbstractHead hs head
+      → IsWord word.Is is → IsSignatures ls features → IsWord word.End closing
+      → IsWholeClass file_kind (a ∷ w ∷ hs ++ is ∷ ls ++ closing ∷ [])
+      (record { kind = Abstract; head = head; signatures = features; members = [] })
+  concrete_class : {w is closing : Lexeme} {ks hs ls : List Lexeme} {kind : Kind} {head : Head} {members : List Declaration}
+      → IsKind ks kind → IsWord word.Class w → IsConcreteHead hs head → IsWord word.Is is
+      → IsMembers (record { name = head.name.name; kind = kind; file_kind = file_kind }) ls members
+      → length (flat_map invariants_of members) ≤ 1 → IsWord word.End closing
+      → IsWholeClass file_kind (ks ++ w ∷ hs ++ is ∷ ls ++ closing ∷ [])
+      (record { kind = kind; head = head; signatures = []; members = members })
 
 -- [class]
 pub data IsOptionalClass (file_kind : FileKind) : List Lexeme → List Written → Type 0 where
@@ -141,7 +174,9 @@ pub data IsOptionalClass (file_kind : FileKind) : List Lexeme → List Written �
 -- file = [class] {";" [class]}
 pub data IsFile (file_kind : FileKind) : List Lexeme → List Written → Type 0 where
   last : {ls : List Lexeme} {classes : List Written} → IsOptionalClass file_kind ls classes → IsFile file_kind ls classes
-  more : {ls ms : List Lexeme} {semicolon : Lexeme} {classes others : List Written} → IsOptionalClass file_kind ls classes → IsSign sign.Semicolon semicolon → IsFile file_kind ms others → IsFile file_kind (ls ++ semicolon ∷ ms) (classes ++ others)
+  more : {ls ms : List Lexeme} {semicolon : Lexeme} {classes others : List Written}
+      → IsOptionalClass file_kind ls classes → IsSign sign.Semicolon semicolon → IsFile file_kind ms others
+      → IsFile file_kind (ls ++ semicolon ∷ ms) (classes ++ others)
 
 -- ---- contracts
 
@@ -153,7 +188,8 @@ contract_of class feature clauses = contract.Clauses class feature clauses.pre c
 -- the clauses of these members, of which the first feature has this place
 abbrev pub clauses_from : ℕ → ℕ → List Declaration → List Contract
 clauses_from class place [] = []
-clauses_from class place (member.Called feature clauses ∷ members) = contract_of class place clauses ++ clauses_from class (place + 1) members
+clauses_from class place (member.Called feature clauses ∷ members) =
+    contract_of class place clauses ++ clauses_from class (place + 1) members
 clauses_from class place (m ∷ members) = clauses_from class (place + length (features_of m)) members
 
 -- the contracts of the class at a place: the clauses of its features in their order, and behind them its invariant

@@ -19,12 +19,14 @@ use Rattle.sa_parse.specs.declared.file.FileKind.TheVariants.{Program}
 
 -- expr, outside of any array literal, as what may be given as an argument without a mode. It stands at its first token
 pub data IsCondition (scope : Scope) : List Lexeme → Condition → Type 0 where
-  condition : {l : Lexeme} {ls : List Lexeme} {e : Expr} → IsArg scope (l ∷ ls) (Value In e) → IsCondition scope (l ∷ ls) (record { test = e; pos = l.pos })
+  condition : {l : Lexeme} {ls : List Lexeme} {e : Expr} → IsArg scope (l ∷ ls) (Value In e)
+      → IsCondition scope (l ∷ ls) (record { test = e; pos = l.pos })
 
 -- [WORD expr]
 pub data IsClause (v : Word) (scope : Scope) : List Lexeme → Option Condition → Type 0 where
   absent : IsClause v scope [] None
-  given : {w : Lexeme} {ls : List Lexeme} {condition : Condition} → IsWord v w → IsCondition scope ls condition → IsClause v scope (w ∷ ls) (Some condition)
+  given : {w : Lexeme} {ls : List Lexeme} {condition : Condition} → IsWord v w → IsCondition scope ls condition
+      → IsClause v scope (w ∷ ls) (Some condition)
 
 -- the clauses of a feature for which none is written
 abbrev pub no_clauses : Clauses
@@ -33,7 +35,9 @@ no_clauses = record { pre = None; post = None }
 -- clauses = ["pre" expr] ["post" expr], of which the prelude has none
 pub data IsClauses (file_kind : FileKind) : List Lexeme → Clauses → Type 0 where
   absent : IsClauses file_kind [] no_clauses
-  given : {ls ms : List Lexeme} {pre post : Option Condition} → file_kind ≡ Program → IsClause word.Pre Plain ls pre → IsClause word.Post PostClause ms post → IsClauses file_kind (ls ++ ms) (record { pre = pre; post = post })
+  given : {ls ms : List Lexeme} {pre post : Option Condition}
+      → file_kind ≡ Program → IsClause word.Pre Plain ls pre → IsClause word.Post PostClause ms post
+      → IsClauses file_kind (ls ++ ms) (record { pre = pre; post = post })
 
 -- the class name "BOOL"
 pub record IsBool (l : Lexeme) : Type 0 where
@@ -47,4 +51,7 @@ pub data IsClosing : List Lexeme → Type 0 where
 
 -- "invariant" ":" "BOOL" "is" "return" expr closing
 pub data IsInvariant : List Lexeme → Condition → Type 0 where
-  invariant : {w colon bool is gives : Lexeme} {ls ms : List Lexeme} {holds : Condition} → IsWord word.Invariant w → IsSign sign.Colon colon → IsBool bool → IsWord word.Is is → IsWord word.Return gives → IsCondition Plain ls holds → IsClosing ms → IsInvariant (w ∷ colon ∷ bool ∷ is ∷ gives ∷ ls ++ ms) holds
+  invariant : {w colon bool is gives : Lexeme} {ls ms : List Lexeme} {holds : Condition}
+      → IsWord word.Invariant w → IsSign sign.Colon colon → IsBool bool → IsWord word.Is is
+      → IsWord word.Return gives → IsCondition Plain ls holds → IsClosing ms
+      → IsInvariant (w ∷ colon ∷ bool ∷ is ∷ gives ∷ ls ++ ms) holds

@@ -1,5 +1,6 @@
 -- Which command a line of words is.
-use Rattle.std.specs.Prelude.{◌^◌, ◌-◌, ◌&&◌, ℕ, Bool, false, List, [], Option, None, Some, codes, length, map, if◌then◌else◌, nat_le, option_map, option_and_then, unwrap_or}
+use Rattle.std.specs.Prelude.{◌^◌, ◌-◌, ◌&&◌, ℕ, Bool, false, List, [], Option, None, Some, codes}
+use Rattle.std.specs.Prelude.{length, map, if◌then◌else◌, nat_le, option_map, option_and_then, unwrap_or}
 use Rattle.std.specs.Option.{option_map_or}
 use Rattle.std.specs.Str.{bytes_eq}
 use Rattle.clap.specs.Words.{Row, Text, all_of, first_of, subcommand_of}
@@ -52,10 +53,14 @@ abbrev pub files_in : List Row → List Text
 files_in rows = unwrap_or (all_of (codes "file") rows) []
 
 abbrev pub run_in : List Row → Option Line
-run_in rows = option_and_then (λ fuel. option_map (λ room. Run fuel room (stats_in rows) (contracts_in rows) (files_in rows)) (room_in rows)) (fuel_in rows)
+run_in rows =
+    option_and_then
+    (λ fuel. option_map (λ room. Run fuel room (stats_in rows) (contracts_in rows) (files_in rows)) (room_in rows)) (fuel_in rows)
 
 abbrev pub build_in : List Row → Option Line
-build_in rows = option_and_then (λ room. option_map (λ out. Build room (contracts_in rows) out (files_in rows)) (first_of (codes "out") rows)) (room_in rows)
+build_in rows =
+    option_and_then
+    (λ room. option_map (λ out. Build room (contracts_in rows) out (files_in rows)) (first_of (codes "out") rows)) (room_in rows)
 
 abbrev pub check_in : List Row → Line
 check_in rows = Check (contracts_in rows) (files_in rows)

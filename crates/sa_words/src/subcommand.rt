@@ -2,7 +2,8 @@
 
 ghost use Rattle.std.specs.Prelude.{◌≡◌, IfOk, Some, map, option_map};
 ghost use Rattle.clap.specs.Words.{all_of, first_of, found_of, rows_of};
-ghost use Rattle.sa_words.specs.Line.{build_in, check_in, classes_in, contracts_in, exec_in, files_in, fuel_in, is_given, line_of, named_line, room_in, run_in, stats_in, Gen, Selftest};
+ghost use Rattle.sa_words.specs.Line.{build_in, check_in, classes_in, contracts_in, exec_in, files_in, fuel_in};
+ghost use Rattle.sa_words.specs.Line.{is_given, line_of, named_line, room_in, run_in, stats_in, Gen, Selftest};
 
 use crate::command::{Build, Check, Command, Contracts, Exec, Run};
 use crate::number::{number_in, number_or};
