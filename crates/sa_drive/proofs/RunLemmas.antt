@@ -6,7 +6,7 @@ use Rattle.wa_syntax.specs.declared.module.Module.{Module}
 use Rattle.wa_syntax.specs.Binary.{SpellsModule}
 use Rattle.wa_syntax.specs.ValidModule.{IsValid}
 use Rattle.wa_run.specs.Modules.{SaysOf, SaysOfValid}
-use Rattle.wa_run.specs.Outside.{sides}
+use Rattle.wa_run.specs.Runs.{streams}
 use Rattle.wa_run.specs.declared.answer.Answer.{Answer}
 use Rattle.wa_run.specs.declared.answer.Answer.TheVariants as answer
 use Rattle.wa_run.specs.declared.module_run.Run.{Run}
@@ -69,7 +69,7 @@ run_spelled input out bytes m fuel run spelled valid ran = record {
   says = says_spelled bytes m run.answer spelled valid ran.says;
   told = ran.told;
   within = ran.within;
-  ran = run-spelled bytes m fuel run (sides input.before out.before) (sides input.after out.after) spelled ran.ran;
+  ran = run-spelled bytes m fuel run (streams input.before out.before) (streams input.after out.after) spelled ran.ran;
 }
 
 -- the outcome of a module that was tried, and ended so, is that of the run

@@ -6,8 +6,7 @@ use Rattle.wa_syntax.specs.declared.module.Module.{Module}
 use Rattle.wa_syntax.specs.Binary.{SpellsModule}
 use Rattle.wa_run.specs.Answers.{IsBeforeRun, IsTold}
 use Rattle.wa_run.specs.Modules.{SaysOf, SaysOfValid}
-use Rattle.wa_run.specs.Outside.{sides}
-use Rattle.wa_run.specs.Runs.{HasRun, HasRunModule}
+use Rattle.wa_run.specs.Runs.{HasRun, HasRunModule, streams}
 use Rattle.wa_run.specs.declared.answer.Answer.{Answer}
 use Rattle.wa_run.specs.declared.answer.Answer.TheVariants as answer
 use Rattle.wa_run.specs.declared.module_run.Run.{Run}
@@ -26,19 +25,20 @@ done_of _ = 0
 abbrev pub ended_of : ℕ → Run → Ended
 ended_of fuel run = record { cause = cause_of fuel run.answer; done = done_of run.answer; steps = run.steps }
 
--- the module of these bytes was run with this fuel: by the machine of the standard, on what the input gave, to what out took
+-- the module of these bytes was run with this fuel: by the machine of the standard, on what the input gave, of which just what the run
+-- reads was taken, to what out took
 pub record IsRunOf (input : Part Input) (out : Part (List ℕ)) (bytes : List ℕ) (fuel : ℕ) (run : Run) : Type 0 where
   pub says : SaysOf bytes run.answer
   pub told : IsTold run.answer (Failed input) (Failed out)
   pub within : run.steps ≤ fuel
-  pub ran : HasRun bytes fuel run (sides input.before out.before) (sides input.after out.after)
+  pub ran : HasRun bytes fuel run (streams input.before out.before) (streams input.after out.after)
 
 -- this valid module was run so with this fuel; where it can be run, it was started
 pub record IsRunOfModule (input : Part Input) (out : Part (List ℕ)) (m : Module) (fuel : ℕ) (run : Run) : Type 0 where
   pub says : SaysOfValid m run.answer
   pub told : IsTold run.answer (Failed input) (Failed out)
   pub within : run.steps ≤ fuel
-  pub ran : HasRunModule m fuel run (sides input.before out.before) (sides input.after out.after)
+  pub ran : HasRunModule m fuel run (streams input.before out.before) (streams input.after out.after)
   pub starts : IsRunnable m → IsBeforeRun run.answer → ⊥
 
 -- the outcome is that of the run: its cause is one by this rule for that of the module, and its status and its steps, where they are

@@ -3,7 +3,7 @@
 ghost use Rattle.std.specs.Prelude.{◌≡◌, ◌↔◌, ◌≤◌, Some, IsTrue};
 ghost use Rattle.sa_outside.specs.Calls.{no_calls, is_to_fail, one_call};
 ghost use Rattle.sa_outside.specs.Faults.{Rose};
-ghost use Rattle.sa_outside.specs.Input.{Gives};
+ghost use Rattle.sa_outside.specs.Input.{Gives, Ends, is_at_end};
 
 use crate::calls::Calls;
 use crate::source::{Source, Take};
@@ -43,9 +43,12 @@ impl Source for MemSource {
 
     ghost input = { λ s. Some s.input };
 
+    ghost ended = { λ s. is_at_end s.input };
+
     /// Gives the next byte, or the end exactly where none is left. It fails exactly at a listed call.
     fn take(&mut self) -> Take
         ensures gives { Gives result (Some self.old.input) (Some self.new.input) }
+        ensures ends { Ends result (is_at_end self.old.input) (is_at_end self.new.input) }
         ensures failed { result ≡ Take.Failed → Rose self.old.calls.faults self.new.calls.faults }
         ensures count { self.old.calls.faults ≤ self.new.calls.faults }
 

@@ -52,6 +52,8 @@ impl<R: Read> Source for ReadSource<R> {
 
     ghost input = { λ _. None };
 
+    ghost ended = { λ s. s.ended };
+
     /// Gives the next byte of the reader, or the end. After its first end it gives no byte any more.
     fn take(&mut self) -> Take
         ensures count { self.old.faults ≤ self.new.faults }

@@ -1,7 +1,7 @@
 //! A source and a sink of bytes in memory that never fail.
 
 ghost use Rattle.std.specs.Prelude.{◌≡◌, ◌≢◌, [], ◌++◌, Some, IsOk, OnOk, OnErr, IsOkUnless};
-ghost use Rattle.sa_outside.specs.Input.{Gives};
+ghost use Rattle.sa_outside.specs.Input.{Gives, Ends, is_at_end};
 
 use crate::calls::one_more;
 use crate::sink::Sink;
@@ -44,9 +44,12 @@ impl Source for SureSource {
 
     ghost input = { λ s. Some s };
 
+    ghost ended = { λ s. is_at_end s };
+
     /// Gives the next byte, or the end exactly where none is left.
     fn take(&mut self) -> Take
         ensures gives { Gives result (Some self.old) (Some self.new) }
+        ensures ends { Ends result (is_at_end self.old) (is_at_end self.new) }
         ensures sure { result ≢ Take.Failed }
     {
         if self.given < self.bytes.len() {

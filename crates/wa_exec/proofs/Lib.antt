@@ -8,6 +8,7 @@ pub mod Ends
 pub mod Frames
 pub mod HandingOn
 pub mod HostCalls
+pub mod InAndOut
 pub mod Inside
 pub mod Jumps
 pub mod Linking
@@ -17,7 +18,6 @@ pub mod NextTurns
 pub mod OneRun
 pub mod Opcodes
 pub mod Operators
-pub mod Outputs
 pub mod Outside
 pub mod OwnCalls
 pub mod Pieces

@@ -105,8 +105,9 @@ impl Machine {
         ensures halted { self.old.halt ≡ None → self.new.halt ≡ halted result }
         ensures runs { (m : Module) → Runs m self.old → result ≢ Halt.NoMemory → Runs m self.new }
         ensures makes { (m : Module) → Runs m self.old → self.old.halt ≡ None → self.old.steps ≤ fuel
-            → Makes m (row_of self.old.linked.code) (flat_of self.old.state) (flat_of self.new.state) self.old.steps self.new.steps
-            (Some result) (sides (I.input input.old) (O.output out.old)) (sides (I.input input.new) (O.output out.new)) host.old host.new }
+            → Makes m (row_of self.old.linked.code) (flat_of self.old.state) (flat_of self.new.state) self.old.steps
+            self.new.steps (Some result) (sides (I.input input.old) (I.ended input.old) (O.output out.old))
+            (sides (I.input input.new) (I.ended input.new) (O.output out.new)) host.old host.new }
         ensures steps { self.old.steps ≤ self.new.steps }
         ensures within { self.new.steps ≤ max self.old.steps fuel }
         ensures tells { self.old.halt ≡ None

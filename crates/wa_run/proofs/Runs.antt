@@ -1,5 +1,5 @@
 -- What the answer of a run says of it, from what a call of the machine made.
-use Rattle.std.proofs.Common.{◌≡◌, ◌≢◌, ◌⊎◌, inl, inr, ℕ, ◌≤◌, List, [], ◌∷◌, ◌++◌, take, Option, Some, None, refl, sym, ap, subst, ◌∙◌, zero-add, arith, append_assoc, append-nil}
+use Rattle.std.proofs.Common.{◌≡◌, ◌≢◌, ◌⊎◌, inl, inr, false, ℕ, ◌≤◌, List, [], ◌∷◌, ◌++◌, take, Option, Some, None, refl, sym, ap, subst, ◌∙◌, zero-add, arith, append_assoc, append-nil}
 use Rattle.std.specs.Prelude.{option_map}
 use Rattle.std.proofs.lemmas.Option.{none-some, same_Some}
 use Rattle.sa_outside.specs.declared.source.Take.{Take}
@@ -21,15 +21,17 @@ use Rattle.wa_exec.specs.declared.halt.StartFault.TheVariants as start
 use Rattle.wa_exec.specs.Goes.{first}
 use Rattle.wa_exec.specs.Links.{IsUnstartable}
 use Rattle.wa_exec.specs.Machines.{Flat, Stands}
-use Rattle.wa_exec.specs.Outside.{Any, Fails, Did, Makes, Sides}
-use Rattle.wa_exec.specs.Reading.{Gave, Reads}
-use Rattle.wa_exec.proofs.WholeRuns.{ends-run, ends-front, waits-run, waits-front, cut-front}
+use Rattle.wa_exec.specs.Outside.{Any, Did, Makes, Sides}
+use Rattle.wa_exec.specs.Reading.{Gave, AreRead, Reads, Fails, input_left}
+use Rattle.wa_exec.proofs.Outside.{answers-read}
+use Rattle.wa_exec.proofs.InAndOut.{Shrinks}
+use Rattle.wa_exec.proofs.WholeRuns.{ends-run, ends-front, waits-run, waits-front, cut-front, whole-shrinks}
 use Rattle.wa_exec.specs.Tells.{Faults, Tells}
 use Rattle.wa_run.specs.Answers.{IsBeforeRun, answer_of_halt, answer_of_start}
 use Rattle.wa_run.specs.declared.answer.Answer.{Answer}
 use Rattle.wa_run.specs.declared.answer.Answer.TheVariants as answer
 use Rattle.wa_run.specs.declared.module_run.Run.{Run}
-use Rattle.wa_run.specs.Runs.{IsAnswered, IsClosed, IsFront, IsHandedOn, IsRun, Passed, HasRun, HasRunModule, Told, ToldModule, halt_of, input_of}
+use Rattle.wa_run.specs.Runs.{IsAnswered, IsClosed, IsFront, IsHandedOn, IsRun, Passed, HasRun, HasRunModule, Streams, Told, ToldModule, halt_of, input_of, streams}
 
 -- ---- what a sink takes
 
@@ -44,14 +46,15 @@ took-none (Some given) b is = is ∙ ap Some (sym (append-nil given))
 
 -- ---- where nothing is run
 
-pub nothing-passed : (here there : Sides) (Holds : List Take → List ℕ → Type 0) → there.input ≡ here.input → there.output ≡ here.output → Holds [] [] → Passed here there Holds
+pub nothing-passed : (here there : Streams) (Holds : List Take → List ℕ → Type 0) → there.input ≡ here.input → there.output ≡ here.output → Holds [] [] → Passed here there Holds
 nothing-passed here there Holds input output holds =
-    record { answers = []; gave = input; handed = []; took = took-none here.output there.output output; holds = holds }
+    record { answers = []; gave = input; read = answers-read [] None None false false refl refl; handed = []; took = took-none here.output there.output output; holds = holds }
 
 pub not-started : (m : Module) (fuel steps : ℕ) (fault : StartFault) → IsAnswered m [] [] fuel (answer_of_start fault) steps
 not-started m fuel steps (start.Unlinked import) = (refl, refl)
 not-started m fuel steps start.Segment = (refl, refl)
-not-started m fuel steps start.NoMemory = λ input rest most reads within. ((machine_run m input most).output, refl)
+not-started m fuel steps start.NoMemory = λ input rest most reads within.
+    (subst (λ (i : Input). Shrinks i (input_left m input most)) (sym reads) (whole-shrinks m input most), (machine_run m input most).output, refl)
 
 pub before-run : (m : Module) (fuel steps : ℕ) (given : Answer) → IsBeforeRun given ⊎ (given ≡ answer.NoMemory) → IsAnswered m [] [] fuel given steps
 before-run m fuel steps given (inr is) = subst (λ (a : Answer). IsAnswered m [] [] fuel a steps) (sym is) (not-started m fuel steps start.NoMemory)
@@ -70,13 +73,17 @@ before-run m fuel steps answer.NoMemory (inl before) = absurd before
 
 -- ---- where it is run
 
+-- what a run sees of both sides of a machine
+abbrev pub seen : Sides → Streams
+seen s = streams s.input s.output
+
 -- the fuel is spent where a call says so
 pub spent-at : (h : machine.Halt) (before after : Faults) (steps fuel : ℕ) → Tells h before after steps fuel → steps ≤ fuel → h ≡ halt.Spent → steps ≡ fuel
 spent-at h before after steps fuel tells within is =
     let past : fuel ≤ steps = subst (λ (x : machine.Halt). Tells x before after steps fuel) is tells in
     omega (arith, past, within)
 
-module _ (m : Module) (fuel steps : ℕ) (result : Answer) (answers : List Take) (handed left : List ℕ) (here mid there : Sides) (gave : Gave answers here.input mid.input) (took : Took here.output mid.output handed) (input_is : there.input ≡ mid.input) where
+module _ (m : Module) (fuel steps : ℕ) (result : Answer) (answers : List Take) (handed left : List ℕ) (here mid there : Streams) (gave : Gave answers here.input mid.input) (read : AreRead answers) (took : Took here.output mid.output handed) (input_is : there.input ≡ mid.input) where
   abbrev Goal : Type 0
   Goal = Passed here there (λ answers handed. IsAnswered m answers handed fuel result steps)
 
@@ -84,6 +91,7 @@ module _ (m : Module) (fuel steps : ℕ) (result : Answer) (answers : List Take)
   passed more took_more holds = record {
     answers = answers;
     gave = subst (λ (i : Option source.Input). Gave answers here.input i) (sym input_is) gave;
+    read = read;
     handed = handed ++ more;
     took = took-more here.output mid.output there.output handed more took took_more;
     holds = holds;
@@ -109,46 +117,49 @@ module _ (m : Module) (fuel steps : ℕ) (result : Answer) (answers : List Take)
       of (inl e) = inl (is ∙ e)
       of (inr e) = inr (is ∙ e)
 
-module _ (m : Module) (valid : IsValid m) (linked : IsLinked m) (row : Row) (flat new : Flat) (begins : (input : Input) → Stands m row flat (first m input)) (fuel steps : ℕ) (within : steps ≤ fuel) (result : Answer) (answers : List Take) (handed left : List ℕ) (here mid there : Sides) (gave : Gave answers here.input mid.input) (took : Took here.output mid.output handed) (input_is : there.input ≡ mid.input) where
-  made : (h : machine.Halt) → Did m row (Some h) flat new steps answers [] handed left → (h ≡ halt.Spent → steps ≡ fuel) → IsClosed (answer_of_halt h) result left mid.output there.output → Goal m fuel steps result answers handed left here mid there gave took input_is
-  made (halt.Ended value) did spent closed = handed-on m fuel steps result answers handed left here mid there gave took input_is (answer.Ended value) closed
+module _ (m : Module) (valid : IsValid m) (linked : IsLinked m) (row : Row) (flat new : Flat) (begins : (input : Input) → Stands m row flat (first m input)) (fuel steps : ℕ) (within : steps ≤ fuel) (result : Answer) (answers : List Take) (handed left : List ℕ) (here mid there : Streams) (gave : Gave answers here.input mid.input) (read : AreRead answers) (took : Took here.output mid.output handed) (input_is : there.input ≡ mid.input) where
+  made : (h : machine.Halt) → Did m row (Some h) flat new steps answers [] handed left → (h ≡ halt.Spent → steps ≡ fuel) → IsClosed (answer_of_halt h) result left mid.output there.output → Goal m fuel steps result answers handed left here mid there gave read took input_is
+  made (halt.Ended value) did spent closed = handed-on m fuel steps result answers handed left here mid there gave read took input_is (answer.Ended value) closed
       (λ input rest reads comes. ends-run m valid linked row flat begins steps answers handed left (standard.Ended value) Any did input rest fuel reads comes within)
       (λ some k input rest most reads more. ends-front m valid linked row flat begins steps answers handed left (standard.Ended value) Any did k input rest most reads tt more)
-  made (halt.Stopped code site) did spent closed = handed-on m fuel steps result answers handed left here mid there gave took input_is (answer.Stopped code site) closed
+  made (halt.Stopped code site) did spent closed = handed-on m fuel steps result answers handed left here mid there gave read took input_is (answer.Stopped code site) closed
       (λ input rest reads comes. ends-run m valid linked row flat begins steps answers handed left (standard.Stopped code site) Any did input rest fuel reads comes within)
       (λ some k input rest most reads more. ends-front m valid linked row flat begins steps answers handed left (standard.Stopped code site) Any did k input rest most reads tt more)
-  made (halt.Trap kind) did spent closed = handed-on m fuel steps result answers handed left here mid there gave took input_is (answer.Trap kind) closed
+  made (halt.Trap kind) did spent closed = handed-on m fuel steps result answers handed left here mid there gave read took input_is (answer.Trap kind) closed
       (λ input rest reads comes. ends-run m valid linked row flat begins steps answers handed left (standard.Trap kind) Any did input rest fuel reads comes within)
       (λ some k input rest most reads more. ends-front m valid linked row flat begins steps answers handed left (standard.Trap kind) Any did k input rest most reads tt more)
-  made halt.TooDeep did spent closed = handed-on m fuel steps result answers handed left here mid there gave took input_is answer.TooDeep closed
+  made halt.TooDeep did spent closed = handed-on m fuel steps result answers handed left here mid there gave read took input_is answer.TooDeep closed
       (λ input rest reads comes. ends-run m valid linked row flat begins steps answers handed left standard.TooDeep Any did input rest fuel reads comes within)
       (λ some k input rest most reads more. ends-front m valid linked row flat begins steps answers handed left standard.TooDeep Any did k input rest most reads tt more)
-  made halt.InFault did spent closed = handed-on m fuel steps result answers handed left here mid there gave took input_is answer.InFault closed
+  made halt.InFault did spent closed = handed-on m fuel steps result answers handed left here mid there gave read took input_is answer.InFault closed
       (λ input rest reads comes. ends-run m valid linked row flat begins steps answers handed left standard.InFault Fails did.0 input rest fuel reads comes within)
       (λ some k. absurd (some did.1))
-  made halt.Spent did spent closed = handed-on m fuel steps result answers handed left here mid there gave took input_is answer.Spent closed
-      (λ input rest reads comes. ap (machine_run m input) (sym (spent refl)) ∙ waits-run m valid linked row flat begins steps answers handed left new did input rest reads)
+  made halt.Spent did spent closed = handed-on m fuel steps result answers handed left here mid there gave read took input_is answer.Spent closed
+      (λ input rest reads comes.
+      subst (λ (n : ℕ). (machine_run m input n ≡ record { halt = standard.Running; steps = steps; output = handed ++ left }) × (input_left m input n ≡ rest)) (spent refl)
+      (waits-run m valid linked row flat begins steps answers handed left new did input rest reads))
       (λ some k input rest most reads more. waits-front m valid linked row flat begins steps answers handed left new did k input rest most reads more)
-  made halt.OutFault did spent closed = cut-off m fuel steps result answers handed left here mid there gave took input_is answer.OutFault (inl refl) closed
+  made halt.OutFault did spent closed = cut-off m fuel steps result answers handed left here mid there gave read took input_is answer.OutFault (inl refl) closed
       (λ input rest most reads more. cut-front m valid linked row flat begins steps answers handed left did input rest most reads more)
-  made halt.NoMemory did spent closed = cut-off m fuel steps result answers handed left here mid there gave took input_is answer.NoMemory (inr refl) closed
+  made halt.NoMemory did spent closed = cut-off m fuel steps result answers handed left here mid there gave read took input_is answer.NoMemory (inr refl) closed
       (λ input rest most reads more. cut-front m valid linked row flat begins steps answers handed left did.0 input rest most reads more)
 
 -- a call of a machine that has made no step, and what is held handed on behind it
-pub run-passed : (m : Module) → IsValid m → IsLinked m → (row : Row) (flat new : Flat) → ((input : Input) → Stands m row flat (first m input)) → (fuel steps : ℕ) → steps ≤ fuel → (h : machine.Halt) → (h ≡ halt.Spent → steps ≡ fuel) → (result : Answer) (held left : List ℕ) (here mid there : Sides) → held ≡ [] → Makes m row flat new 0 steps (Some h) here mid held left → IsClosed (answer_of_halt h) result left mid.output there.output → there.input ≡ mid.input → Passed here there (λ answers handed. IsAnswered m answers handed fuel result steps)
+pub run-passed : (m : Module) → IsValid m → IsLinked m → (row : Row) (flat new : Flat) → ((input : Input) → Stands m row flat (first m input)) → (fuel steps : ℕ) → steps ≤ fuel → (h : machine.Halt) → (h ≡ halt.Spent → steps ≡ fuel) → (result : Answer) (held left : List ℕ) (here mid : Sides) (there : Streams) → held ≡ [] → Makes m row flat new 0 steps (Some h) here mid held left → IsClosed (answer_of_halt h) result left mid.output there.output → there.input ≡ mid.input → Passed (seen here) there (λ answers handed. IsAnswered m answers handed fuel result steps)
 run-passed m valid linked row flat new begins fuel steps within h spent result held left here mid there none makes closed input_is =
     let at : makes.n ≡ steps = sym (zero-add makes.n) ∙ makes.steps_are in
-    made m valid linked row flat new begins fuel steps within result makes.answers makes.handed left here mid there makes.gave makes.took input_is h
+    made m valid linked row flat new begins fuel steps within result makes.answers makes.handed left (seen here) (seen mid) there makes.gave makes.read makes.took input_is h
     (subst (λ (n : ℕ). Did m row (Some h) flat new n makes.answers [] makes.handed left) at
     (subst (λ (bytes : List ℕ). Did m row (Some h) flat new makes.n makes.answers bytes makes.handed left) none makes.did))
     spent closed
 
 -- ---- the module that the bytes spell
 
-pub passed-spelled : (bytes : List ℕ) (m : Module) (fuel : ℕ) (run : Run) (before after : Sides) → ((n : Module) → SpellsModule bytes n → n ≡ m) → HasRunModule m fuel run before after → HasRun bytes fuel run before after
+pub passed-spelled : (bytes : List ℕ) (m : Module) (fuel : ℕ) (run : Run) (before after : Streams) → ((n : Module) → SpellsModule bytes n → n ≡ m) → HasRunModule m fuel run before after → HasRun bytes fuel run before after
 passed-spelled bytes m fuel run before after only passed = record {
   answers = passed.answers;
   gave = passed.gave;
+  read = passed.read;
   handed = passed.handed;
   took = passed.took;
   holds = λ n spelled. subst (λ (x : Module). IsAnswered x passed.answers passed.handed fuel run.answer run.steps) (sym (only n spelled)) passed.holds;
@@ -156,14 +167,18 @@ passed-spelled bytes m fuel run before after only passed = record {
 
 -- ---- where the source tells what it has left
 
-told-reads : (answers : List Take) (given : source.Input) (after : Option source.Input) → Gave answers (Some given) after → (rest : Input) × Reads (input_of given) answers rest
-told-reads [] given after gave = (input_of given, refl)
+-- what is left of it
+abbrev left_of : Option source.Input → Option (List ℕ)
+left_of = option_map (λ (i : source.Input). i.left)
+
+told-reads : (answers : List Take) (given : source.Input) (after : Option source.Input) → Gave answers (Some given) after → (rest : Input) × Reads (input_of given) answers rest × (left_of after ≡ Some rest.bytes)
+told-reads [] given after gave = (input_of given, refl, ap left_of gave)
 told-reads (taken.Byte b ∷ more) given after (middle, (left, here, there), gave) =
     let next = told-reads more (record { left = left; ends = given.ends }) after (subst (λ (o : Option source.Input). Gave more o after) there gave) in
-    (next.0, (left, here, next.1))
+    (next.0, (left, here, next.1.0), next.1.1)
 told-reads (taken.End ∷ more) given after (middle, (none, there), gave) =
     let next = told-reads more _ after (subst (λ (o : Option source.Input). Gave more o after) there gave) in
-    (next.0, (None, ap (λ (bytes : List ℕ). record { bytes = bytes; ends = None }) none, next.1))
+    (next.0, (None, ap (λ (bytes : List ℕ). record { bytes = bytes; ends = None }) none, next.1.0), next.1.1)
 told-reads (taken.Failed ∷ more) given after gave = absurd gave
 
 answered-run : (m : Module) (answers : List Take) (handed : List ℕ) (fuel steps : ℕ) (given : Answer) (h : Halt) → halt_of given ≡ Some h → IsAnswered m answers handed fuel given steps → IsRun m answers handed fuel h steps Any
@@ -180,19 +195,21 @@ answered-run m answers handed fuel steps answer.InFault h is holds = absurd (non
 answered-run m answers handed fuel steps answer.OutFault h is holds = absurd (none-some h is)
 answered-run m answers handed fuel steps answer.NoMemory h is holds = absurd (none-some h is)
 
-pub run-told : (m : Module) (fuel : ℕ) (run : Run) (before after : Sides) → HasRunModule m fuel run before after → ToldModule m fuel run before after
+pub run-told : (m : Module) (fuel : ℕ) (run : Run) (before after : Streams) → HasRunModule m fuel run before after → ToldModule m fuel run before after
 run-told m fuel run before after has given h tells is =
     let reads = told-reads has.answers given after.input (subst (λ (o : Option source.Input). Gave has.answers o after.input) tells has.gave) in
-    let whole = answered-run m has.answers has.handed fuel run.steps run.answer h is has.holds (input_of given) reads.0 reads.1 tt in (
+    let both = answered-run m has.answers has.handed fuel run.steps run.answer h is has.holds (input_of given) reads.0 reads.1.0 tt in
+    let whole = both.0 in (
       ap (λ (r : runs.Run). r.halt) whole,
       ap (λ (r : runs.Run). r.steps) whole,
       subst (λ (output : List ℕ). Took before.output after.output output) (sym (ap (λ (r : runs.Run). r.output) whole)) has.took,
+      reads.1.1 ∙ ap (λ (i : Input). Some i.bytes) (sym both.1),
     )
 
 -- so of the module that the bytes spell
-pub spelled-told : (bytes : List ℕ) (fuel : ℕ) (run : Run) (before after : Sides) → HasRun bytes fuel run before after → Told bytes fuel run before after
+pub spelled-told : (bytes : List ℕ) (fuel : ℕ) (run : Run) (before after : Streams) → HasRun bytes fuel run before after → Told bytes fuel run before after
 spelled-told bytes fuel run before after has m spelled =
-    run-told m fuel run before after (record { answers = has.answers; gave = has.gave; handed = has.handed; took = has.took; holds = has.holds m spelled })
+    run-told m fuel run before after (record { answers = has.answers; gave = has.gave; read = has.read; handed = has.handed; took = has.took; holds = has.holds m spelled })
 
 -- ---- a module that can be run
 

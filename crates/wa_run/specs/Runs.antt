@@ -1,5 +1,5 @@
 -- What an answer says of the run of the standard's machine.
-use Rattle.std.specs.Prelude.{◌≡◌, ◌≢◌, ℕ, ◌≤◌, ◌⊎◌, List, [], ◌++◌, Option, Some, None}
+use Rattle.std.specs.Prelude.{◌≡◌, ◌≢◌, ℕ, ◌≤◌, ◌⊎◌, List, [], ◌++◌, Option, Some, None, option_map}
 use Rattle.sa_outside.specs.declared.source.Take.{Take}
 use Rattle.sa_outside.specs.Input as source
 use Rattle.sa_outside.specs.Output.{Took, TookFront}
@@ -8,25 +8,35 @@ use Rattle.wa_syntax.specs.Binary.{SpellsModule}
 use Rattle.wa_syntax.specs.Machine.{Input, Halt}
 use Rattle.wa_syntax.specs.Machine as standard
 use Rattle.wa_syntax.specs.Runs.{machine_run}
-use Rattle.wa_exec.specs.Outside.{Any, Fails, Sides}
-use Rattle.wa_exec.specs.Reading.{Gave, Reads}
+use Rattle.wa_exec.specs.Outside.{Any}
+use Rattle.wa_exec.specs.Reading.{Gave, AreRead, Reads, Fails, input_left}
 use Rattle.wa_run.specs.declared.answer.Answer.{Answer}
 use Rattle.wa_run.specs.declared.answer.Answer.TheVariants as answer
 use Rattle.wa_run.specs.declared.module_run.Run.{Run}
 
+-- what an input has left and what an output has taken, where they tell
+pub record Streams : Type 0 where
+  pub input : Option source.Input
+  pub output : Option (List ℕ)
+
+abbrev pub streams : Option source.Input → Option (List ℕ) → Streams
+streams input output = record { input = input; output = output }
+
 module _ (m : Module) (answers : List Take) (handed : List ℕ) where
-  -- whatever input gives these answers and goes on so, the run within so many instructions ends so, and what was handed on is its
-  -- output
+  -- whatever input gives these answers and goes on so, the run within so many instructions ends so and reads just these answers,
+  -- and what was handed on is its output
   abbrev pub IsRun : (fuel : ℕ) → Halt → (steps : ℕ) → (Comes : Input → Type 0) → Type 0
   IsRun fuel halt steps Comes =
-      (input rest : Input) → Reads input answers rest → Comes rest
-      → machine_run m input fuel ≡ record { halt = halt; steps = steps; output = handed }
+      (input rest : Input) → Reads input answers rest → Comes rest →
+      (machine_run m input fuel ≡ record { halt = halt; steps = steps; output = handed }) × (input_left m input fuel ≡ rest)
 
-  -- whatever input gives these answers, the output of a run of so many instructions or more begins with what was handed on
+  -- whatever input gives these answers, a run of so many instructions or more reads them first, and its output begins with what was
+  -- handed on
   abbrev pub IsFront : (steps : ℕ) → Type 0
   IsFront steps =
-      (input rest : Input) (most : ℕ) → Reads input answers rest → steps ≤ most
-      → (more : List ℕ) × ((machine_run m input most).output ≡ handed ++ more)
+      (input rest : Input) (most : ℕ) → Reads input answers rest → steps ≤ most →
+      ((further : List Take) × Reads rest further (input_left m input most))
+      × ((more : List ℕ) × ((machine_run m input most).output ≡ handed ++ more))
 
   -- nothing is read and nothing handed on
   abbrev pub IsNothing : Type 0
@@ -47,20 +57,21 @@ module _ (m : Module) (answers : List Take) (handed : List ℕ) where
   IsAnswered fuel answer.OutFault steps = IsFront steps
   IsAnswered fuel answer.NoMemory steps = IsFront steps
 
--- the source gave answers and the sink took bytes of which this holds
-pub record Passed (before after : Sides) (Holds : (answers : List Take) → (handed : List ℕ) → Type 0) : Type 0 where
+-- the source gave answers, as some input does, and the sink took bytes, and this holds of them
+pub record Passed (before after : Streams) (Holds : (answers : List Take) → (handed : List ℕ) → Type 0) : Type 0 where
   pub answers : List Take
   pub gave : Gave answers before.input after.input
+  pub read : AreRead answers
   pub handed : List ℕ
   pub took : Took before.output after.output handed
   pub holds : Holds answers handed
 
 -- what the run of a module was
-abbrev pub HasRunModule : Module → (fuel : ℕ) → Run → (before after : Sides) → Type 0
+abbrev pub HasRunModule : Module → (fuel : ℕ) → Run → (before after : Streams) → Type 0
 HasRunModule m fuel run before after = Passed before after (λ answers handed. IsAnswered m answers handed fuel run.answer run.steps)
 
 -- what the run of the module that the bytes spell was
-abbrev pub HasRun : (bytes : List ℕ) → (fuel : ℕ) → Run → (before after : Sides) → Type 0
+abbrev pub HasRun : (bytes : List ℕ) → (fuel : ℕ) → Run → (before after : Streams) → Type 0
 HasRun bytes fuel run before after =
     Passed before after (λ answers handed. (m : Module) → SpellsModule bytes m → IsAnswered m answers handed fuel run.answer run.steps)
 
@@ -79,15 +90,16 @@ halt_of _ = None
 abbrev pub input_of : source.Input → Input
 input_of given = record { bytes = given.left; ends = None }
 
--- the run is that of the standard over the bytes that the source has left, and the sink takes its output
-abbrev pub ToldModule : Module → (fuel : ℕ) → Run → (before after : Sides) → Type 0
+-- the run is that of the standard over the bytes that the source has left, of which it leaves the same, and the sink takes its output
+abbrev pub ToldModule : Module → (fuel : ℕ) → Run → (before after : Streams) → Type 0
 ToldModule m fuel run before after =
     (given : source.Input) (halt : Halt) → before.input ≡ Some given → halt_of run.answer ≡ Some halt →
     let whole = machine_run m (input_of given) fuel in
     (whole.halt ≡ halt) × (whole.steps ≡ run.steps) × Took before.output after.output whole.output
+    × (option_map (λ (i : source.Input). i.left) after.input ≡ Some (input_left m (input_of given) fuel).bytes)
 
 -- so of the module that the bytes spell
-abbrev pub Told : (bytes : List ℕ) → (fuel : ℕ) → Run → (before after : Sides) → Type 0
+abbrev pub Told : (bytes : List ℕ) → (fuel : ℕ) → Run → (before after : Streams) → Type 0
 Told bytes fuel run before after = (m : Module) → SpellsModule bytes m → ToldModule m fuel run before after
 
 -- ---- the output that is held at the end

@@ -8,20 +8,20 @@ use Rattle.wa_exec.proofs.environment.call_host.Goals as goal
 
 pub returns-in-Put-clause-does : goal.returns-in-Put-clause-does
 returns-in-Put-clause-does g c =
-    let here = sides (g.I.Source.input c.args.input.now) (g.O.Sink.output c.args.out.now) in
-    let there = sides (g.I.Source.input c.args.input.now) (g.O.Sink.output c.put.new.out) in
+    let here = sides (g.I.Source.input c.args.input.now) (g.I.Source.ended c.args.input.now) (g.O.Sink.output c.args.out.now) in
+    let there = sides (g.I.Source.input c.args.input.now) (g.I.Source.ended c.args.input.now) (g.O.Sink.output c.put.new.out) in
     subst (λ (call : HostCall). HasCalled c.args.calls.now c.take-word.new.self here there c.args.host.now c.put.new.host call c.put.result) (sym c.in-Put.is)
     (record {
       word = c.take-word.result;
       rest = c.take-word.ensures.rest;
       takes = λ n stack below on_top. (let taken = c.take-word.ensures.takes n stack below on_top in (sym taken.0, taken.1));
-      input_is = refl;
+      unread = (refl, refl);
       hands = c.put.ensures.hands;
     })
 
 pub returns-in-Stop-clause-does : goal.returns-in-Stop-clause-does
 returns-in-Stop-clause-does g c =
-    let here = sides (g.I.Source.input c.args.input.now) (g.O.Sink.output c.args.out.now) in
+    let here = sides (g.I.Source.input c.args.input.now) (g.I.Source.ended c.args.input.now) (g.O.Sink.output c.args.out.now) in
     subst (λ (call : HostCall). HasCalled c.args.calls.now c.take-in-Stop.new.self here here c.args.host.now c.args.host.now call (Err (halt.Stopped c.low-code.result c.low-site.result))) (sym c.in-Stop.is)
     (record {
       site = c.take.result;
