@@ -2,7 +2,8 @@
 
 ghost use Rattle.std.specs.Prelude.{◌≡◌, ◌&&◌};
 ghost use Rattle.sa_core.specs.Copy.{arg_of, args_of, expr_of};
-ghost use Rattle.sa_contract.specs.Quiet.{are_quiet_args, is_quiet, is_quiet_arg, is_quiet_builtin, is_quiet_call, is_quiet_target, reads_alone};
+ghost use Rattle.sa_contract.specs.Quiet.{are_quiet_args, is_quiet, is_quiet_arg, is_quiet_builtin, is_quiet_call};
+ghost use Rattle.sa_contract.specs.Quiet.{is_quiet_target, reads_alone};
 
 use sa_core::{ArgCore, CalledCore, ExprCore, Target};
 use sa_prelude::BuiltinFeature;

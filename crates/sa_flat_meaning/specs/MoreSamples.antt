@@ -42,7 +42,8 @@ initialises = with_own (layout kind.Immutable (int_type ∷ []) ∷ []) (record 
       Move 0 204 ∷ TypeIs 203 0 own_type ∷ []) (Branch 203 2 3)) (
       block (Unwrap 1 0 own_type ∷ of_type 203 out_type ∷ text 204 0 ∷
       Call (plan (Builtin OutPut) out_type 203 (args In (204 ∷ [])) None) ∷ []) (Return None) ∷
-      block (of_type 203 out_type ∷ text 204 1 ∷ Call (plan (Builtin OutPut) out_type 203 (args In (204 ∷ [])) None) ∷ []) (Return None) ∷ []))
+      block (of_type 203 out_type ∷ text 204 1 ∷
+      Call (plan (Builtin OutPut) out_type 203 (args In (204 ∷ [])) None) ∷ []) (Return None) ∷ []))
       ∷ body None [] 0 (blocks (block (
       Turn ∷ of_type 203 own_type ∷ Call (plan (Get 0) own_type 203 [] (Some 204)) ∷ int 205 1 ∷ plus 206 204 205 ∷ InitShared 0 206 ∷
       Turn ∷ of_type 203 own_type ∷ Widen 204 203 own_type fails ∷ InitShared 1 204 ∷

@@ -90,8 +90,8 @@ lacks_argument = program [] (
 abbrev pub has_argument_more : Program
 has_argument_more = program [] (
     routine [] (int_type ∷ []) [] (
-    Let 0 (Call (Static (target.Builtin IntPlus) int_type) (int 1) (arg_list (tree.Value In (int 2) ∷ tree.Value In (int 3) ∷ [])) here) ∷ [])
-    ∷ [])
+    Let 0 (Call (Static (target.Builtin IntPlus) int_type) (int 1)
+    (arg_list (tree.Value In (int 2) ∷ tree.Value In (int 3) ∷ [])) here) ∷ []) ∷ [])
 
 -- what is widened is of a reference class
 abbrev pub widens_reference : Program

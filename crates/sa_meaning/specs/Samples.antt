@@ -15,7 +15,8 @@ use Rattle.sa_core.specs.Tree.{Arg, Variable, Left, Break, While, Stmt, Let, Do,
 use Rattle.sa_core.specs.Tree.{Protect, Return, Yield, Quit, Raise, Stop, no_stmts, no_else, otherwise}
 use Rattle.sa_prelude.specs.declared.feature.BuiltinFeature.{BuiltinFeature}
 use Rattle.sa_prelude.specs.declared.feature.BuiltinFeature.TheVariants.{IntPlus, IntMinus, IntDiv, IntMod, IntIsEq, IntIsLt, IntChar}
-use Rattle.sa_prelude.specs.declared.feature.BuiltinFeature.TheVariants.{OutPut, OutPutInt, OutPutChar, InGetByte, ArefAsize, ArefAget, ArefAset, ArrayCreate}
+use Rattle.sa_prelude.specs.declared.feature.BuiltinFeature.TheVariants.{OutPut, OutPutInt, OutPutChar, InGetByte}
+use Rattle.sa_prelude.specs.declared.feature.BuiltinFeature.TheVariants.{ArefAsize, ArefAget, ArefAset, ArrayCreate}
 use Rattle.sa_meaning.specs.Value.{bool_type, int_type, str_type, fault_type}
 use Rattle.sa_meaning.specs.Program.{TypeRow, Feature, Program}
 
