@@ -1,5 +1,5 @@
 -- Which expressions are quiet: they make no object, change nothing, put nothing out and take nothing in.
-use Rattle.std.specs.Prelude.{Bool, true, false, ◌&&◌, Option, None, Some, slice_get}
+use Rattle.std.specs.Prelude.{Bool, true, false, ◌&&◌}
 use Rattle.sa_core.specs.Tree.{Expr, Int, Truth, Char, Text, VoidOf, Me, Var, IsVoid}
 use Rattle.sa_core.specs.Tree.{Call, Swapped, And, Or, Arg, Value, Args, no_args, arg}
 use Rattle.sa_core.specs.declared.feature.CalledCore.{CalledCore}
@@ -9,7 +9,6 @@ use Rattle.sa_core.specs.declared.feature.Target.TheVariants as target
 use Rattle.sa_prelude.specs.declared.feature.BuiltinFeature.{BuiltinFeature}
 use Rattle.sa_prelude.specs.declared.feature.BuiltinFeature.TheVariants.{IntStr, CharStr, StrCat, StrSubstring, StrOf, OutPut}
 use Rattle.sa_prelude.specs.declared.feature.BuiltinFeature.TheVariants.{OutPutInt, OutPutChar, InGetByte, ArefAset, ArrayCreate}
-use Rattle.sa_prelude.specs.declared.feature.TheConstants.{BUILTIN_FEATURES}
 
 -- all built-in features but those that make a text or an array, set an element, put or take
 abbrev pub reads_alone : BuiltinFeature → Bool
@@ -26,12 +25,8 @@ reads_alone ArefAset = false
 reads_alone ArrayCreate = false
 reads_alone _ = true
 
-abbrev pub is_quiet_number : Option BuiltinFeature → Bool
-is_quiet_number None = false
-is_quiet_number (Some feature) = reads_alone feature
-
 abbrev pub is_quiet_builtin : Target → Bool
-is_quiet_builtin (target.Builtin number) = is_quiet_number (slice_get BUILTIN_FEATURES number)
+is_quiet_builtin (target.Builtin feature) = reads_alone feature
 is_quiet_builtin _ = false
 
 -- an attribute or a shared is read, or a built-in feature reads alone

@@ -105,10 +105,7 @@ fn is_quiet_builtin(target: Target) -> bool
     ensures { result ≡ is_quiet_builtin target }
 {
     match target {
-        Target::Builtin(number) => match BuiltinFeature::of_number(number) {
-            Some(feature) => reads_alone(feature),
-            None => false,
-        },
+        Target::Builtin(feature) => reads_alone(feature),
         _ => false,
     }
 }
