@@ -87,8 +87,9 @@ OUTSIDE = '''(() => {
   const inside = (node) => node.closest('.editor, .lanes, #output');
   const wide = document.scrollingElement.scrollWidth > innerWidth ? ['the page itself'] : [];
   const nodes = [...document.querySelectorAll('button, select, textarea, input, h1, h2, p, pre, ul')];
-  return [...wide, ...nodes.filter((node) => node.checkVisibility() && !inside(node) &&
-    (node.getBoundingClientRect().right > innerWidth + 1 || node.getBoundingClientRect().left < -1)).map((node) => node.id || node.tagName)];
+  const sticksOut = ({left, right}) => left < -1 || right > innerWidth + 1;
+  const found = nodes.filter((node) => node.checkVisibility() && !inside(node) && sticksOut(node.getBoundingClientRect()));
+  return [...wide, ...found.map((node) => node.id || node.tagName)];
 })()'''
 FOCUSED = '''(() => {
   const node = document.activeElement;
@@ -222,8 +223,9 @@ def is_typed_and_run(page):
 
 def is_highlighted(page):
     write(page, COUNTS)
+    coloured = '#lines :is(.of-structure, .of-statement, .of-repeat)'
     expect('the words in colour', ['class', 'is', 'is', 'loop', 'end', 'end', 'end'],
-           page.value("[...document.querySelectorAll('#lines :is(.of-structure, .of-statement, .of-repeat)')].map((one) => one.textContent)"))
+           page.value("[...document.querySelectorAll('%s')].map((one) => one.textContent)" % coloured))
     expect('the lines that are shown', COUNTS,
            page.value("[...byId('lines').children].map((one) => one.textContent).join('\\n')"))
 
@@ -378,7 +380,7 @@ def opens_as_a_file(page):
     page.open('file://%s#fringe' % os.path.join(WEB, 'index.html'))
     expect('the output', examples.bytes_of('fringe.out').decode(), page.value('output.textContent'))
     expect('whether it has a picture', True, page.value('picture.events.length > 0'))
-    expect('what is there to run', True, page.value('runButton.hidden && traceButton.hidden'))
+    expect('whether there is nothing to run', True, page.value('!runButton.checkVisibility() && !traceButton.checkVisibility()'))
     draws_lives(page)
     steps(page)
 

@@ -151,7 +151,7 @@ addEventListener('keydown', (event) => {
   busy(event.shiftKey ? showIters : runHere);
 });
 if (!isServed) {
-  [runButton.hidden, traceButton.hidden, stopButton.hidden] = [true, true, true];
-  tell(ended, 'What the example prints. This page was opened from a file; hosts/web/serve serves one that runs programs.');
+  document.querySelector('header .actions').hidden = true;
+  byId('alone').hidden = false;
 }
 pick(location.hash.slice(1) || 'squares');

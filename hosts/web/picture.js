@@ -2,7 +2,7 @@
 // events. A cursor stands on one of them, and the picture follows it.
 'use strict';
 
-const COLUMN = 20;                  // pixels of an event
+const [COLUMN, WIDEST] = [20, 40];  // pixels of an event, where there are many and where there are few
 const LANE = 28;                    // pixels of a lane
 const TOP = 8;                      // pixels above the lanes
 const LETTER = 7.6;                 // pixels of a letter of a label
@@ -107,7 +107,7 @@ class Picture {
 
   goTo(click) {
     const box = this.lanes.getBoundingClientRect();
-    const column = Math.floor((click.clientX - box.left - this.labelWidth) / COLUMN);
+    const column = Math.floor((click.clientX - box.left - this.labelWidth) / this.column);
     if (column >= 0) this.go(this.from + column);
   }
 
@@ -154,7 +154,9 @@ class Picture {
     const width = this.lanes.clientWidth;
     this.labelWidth = width < 560 ? 118 : 176;
     if (this.events.length === 0 || width < this.labelWidth) return;
-    const columns = Math.max(1, Math.floor((width - this.labelWidth) / COLUMN));
+    const room = width - this.labelWidth;
+    this.column = Math.max(COLUMN, Math.min(WIDEST, Math.floor(room / this.events.length)));
+    const columns = Math.max(1, Math.floor(room / this.column));
     this.from = Math.max(0, Math.min(this.at - Math.floor(columns * 0.6), this.events.length - columns));
     this.to = Math.min(this.from + columns, this.events.length);
     this.visible = this.lives.filter(({first, last}) => first < this.to && (last === null || last >= this.from));
@@ -189,7 +191,7 @@ class Picture {
 
   // The middle of a column and of a lane.
   x(column) {
-    return this.labelWidth + (column - this.from + 0.5) * COLUMN;
+    return this.labelWidth + (column - this.from + 0.5) * this.column;
   }
 
   y(life) {
@@ -198,12 +200,12 @@ class Picture {
 
   // Where a life ends in the picture.
   end({last}) {
-    return last === null ? this.x(this.to) + COLUMN : this.x(last);
+    return last === null ? this.x(this.to) + this.column : this.x(last);
   }
 
   lane(life) {
     const {row, last} = this.rows.get(life);
-    const [left, y] = [Math.max(this.x(life.first), this.x(this.from) - 2 * COLUMN), this.y(life)];
+    const [left, y] = [Math.max(this.x(life.first), this.x(this.from) - 2 * this.column), this.y(life)];
     const node = drawn('g', {class: `lane hue-${this.hueOf(life)}`, 'data-instance': life.number});
     if (life.inside) {
       node.append(drawn('rect', {
@@ -217,7 +219,7 @@ class Picture {
 
   span(life, span, y) {
     const next = life.spans[life.spans.indexOf(span) + 1];
-    const [left, right] = [Math.max(this.x(span.from), this.x(this.from) - COLUMN), next ? this.x(next.from) : this.end(life)];
+    const [left, right] = [Math.max(this.x(span.from), this.x(this.from) - this.column), next ? this.x(next.from) : this.end(life)];
     return drawn('line', {class: `span is-${span.state}`, x1: left, x2: right, y1: y, y2: y});
   }
 
@@ -248,12 +250,12 @@ class Picture {
   }
 
   cursor(height) {
-    return drawn('rect', {class: 'cursor', x: this.x(this.at) - COLUMN / 2, y: 0, width: COLUMN, height, rx: 4});
+    return drawn('rect', {class: 'cursor', x: this.x(this.at) - this.column / 2, y: 0, width: this.column, height, rx: 4});
   }
 
   // What covers the time that is still to come.
   veil(width, height) {
-    const left = this.x(this.at) + COLUMN / 2;
+    const left = this.x(this.at) + this.column / 2;
     return drawn('rect', {class: 'veil', x: left, y: 0, width: Math.max(0, width - left), height});
   }
 

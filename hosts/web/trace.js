@@ -36,12 +36,13 @@ function readPlace(text) {
 // A life has its number, file, line and name; the life `inside` that has its loop; its first and last column, the latter where it
 // has ended; `ended`, the kind of its last event; its depth; and `spans`, the states that it was in, each from a column on.
 function readLives(events, nameOf) {
-  const program = {number: -1, name: 'main', inside: null, first: 0, last: null, ended: null, depth: 0, spans: [{from: 0, state: 'running'}]};
+  const program = {number: -1, name: 'main', inside: null, first: 0, last: null, ended: null, depth: 0, spans: []};
   const lives = [program];
   const byNumber = new Map();
   const stack = [program];
   const alive = new Map();
 
+  program.spans.push({from: 0, state: 'running'});
   const enter = (life, state, column) => {
     const before = life.spans.at(-1);
     if (before && before.from === column) before.state = state;
