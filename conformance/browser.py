@@ -1,9 +1,11 @@
 """A Chromium without a window, driven by the DevTools protocol over a pipe."""
 import base64
+import contextlib
 import json
 import os
 import select
 import shutil
+import signal
 import subprocess
 import sys
 import tempfile
@@ -43,15 +45,17 @@ class Browser:
         self.folder = tempfile.mkdtemp()
         ours, theirs = os.pipe(), os.pipe()
         words = [found(), '--headless=new', '--remote-debugging-pipe', '--user-data-dir=' + self.folder, '--no-first-run',
-                 '--disable-gpu', '--disable-extensions', '--disable-background-networking', '--disable-dev-shm-usage']
+                 '--disable-gpu', '--disable-extensions', '--disable-background-networking', '--disable-dev-shm-usage',
+                 '--disable-component-update', '--disable-sync', '--disable-crash-reporter']
         if os.geteuid() == 0:
             words.append('--no-sandbox')
         launch = [sys.executable, '-c', LAUNCH, str(ours[0]), str(theirs[1]), *words, 'about:blank']
-        self.process = subprocess.Popen(launch, pass_fds=(ours[0], theirs[1]), stdout=subprocess.DEVNULL, stderr=subprocess.DEVNULL)
+        self.process = subprocess.Popen(launch, pass_fds=(ours[0], theirs[1]), stdout=subprocess.DEVNULL, stderr=subprocess.DEVNULL,
+                                        env={**os.environ, 'HOME': self.folder}, start_new_session=True)
         os.close(ours[0])
         os.close(theirs[1])
         self.writes, self.reads, self.held = ours[1], theirs[0], b''
-        self.count, self.session, self.complaints = 0, None, []
+        self.count, self.session, self.complaints, self.has_ended = 0, None, [], False
 
     def __enter__(self):
         try:
@@ -69,8 +73,11 @@ class Browser:
         try:
             self.process.wait(10)
         except subprocess.TimeoutExpired:
-            self.process.kill()
-            self.process.wait()
+            pass
+        # What it has started ends with it.
+        with contextlib.suppress(ProcessLookupError):
+            os.killpg(self.process.pid, signal.SIGKILL)
+        self.process.wait()
         os.close(self.reads)
         shutil.rmtree(self.folder, ignore_errors=True)
 
@@ -79,9 +86,11 @@ class Browser:
         while b'\0' not in self.held:
             left = until - time.monotonic()
             if left <= 0 or not select.select([self.reads], [], [], left)[0]:
+                self.has_ended = True
                 raise Failed('no answer within %d seconds' % SECONDS)
             piece = os.read(self.reads, 1 << 16)
             if not piece:
+                self.has_ended = True
                 raise Failed('the browser has ended')
             self.held += piece
         text, self.held = self.held.split(b'\0', 1)

@@ -405,24 +405,26 @@ def in_browser(page, name, try_it, folder):
     page.complaints.clear()
     try:
         try_it(page)
-    except (Differs, browser.Failed) as error:
-        return str(error)
-    finally:
         if folder:
             with open(os.path.join(folder, name.replace('/', ' ') + '.png'), 'wb') as file:
                 file.write(page.picture())
+    except (Differs, browser.Failed) as error:
+        return str(error)
     # A refusal is answered by a status that the browser takes for an error.
     complaints = [text for text in page.complaints if '422' not in text]
     return 'the browser complains: %s' % complaints if complaints else None
 
 
-def try_pages(program, address, told, chosen, folder):
-    """Tries the page in a browser."""
+def try_pages(address, told, chosen, folder):
+    """Tries the page in a browser, up to the try in which the browser itself fails."""
     with browser.Browser() as page:
         page.size(1280, 900)
         page.open(address)
         for name, try_it in chosen:
             told.count('%s, in Chromium' % name, in_browser(page, name, try_it, folder))
+            if page.has_ended:
+                return told.leave_out('tries of the page, whose browser has failed', len(chosen) - chosen.index((name, try_it)) - 1)
+    return None
 
 
 def try_all(program, told, word='', folder=None):
@@ -439,7 +441,7 @@ def try_all(program, told, word='', folder=None):
         if not browser.found():
             told.lacks('chromium', 'the page of hosts/web was not tried in a browser')
         elif chosen:
-            try_pages(program, address, told, chosen, folder)
+            try_pages(address, told, chosen, folder)
 
 
 def main():
