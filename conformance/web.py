@@ -149,6 +149,7 @@ def status_of(address, method, path, body=b'', **headers):
 
 
 JSON = {'Content_Type': 'application/json'}
+OUTSIDE_NAME = 'other machines don\'t reach the server'
 # A name, the request, and the status of the answer.
 REQUESTS = [
     ('the page is served', ('GET', '/'), {}, 200),
@@ -163,15 +164,17 @@ REQUESTS = [
 ]
 
 
-def try_server(address):
-    """Tries the requests, one by one."""
+def try_server(address, told, word):
+    """Tries the requests whose names hold the word, one by one."""
     for name, request, headers, wanted in REQUESTS:
-        try:
-            came = status_of(address, *request, **headers)
-        except (ConnectionResetError, BrokenPipeError):
-            came = 413      # the server has answered and gone before all was sent
-        yield name, None if came == wanted else 'expected the status %d, and came %d' % (wanted, came)
-    yield 'other machines don\'t reach it', reached_from_outside(urlsplit(address).port)
+        if word in name:
+            try:
+                came = status_of(address, *request, **headers)
+            except (ConnectionResetError, BrokenPipeError):
+                came = 413      # the server has answered and gone before all was sent
+            told.count(name, None if came == wanted else 'expected the status %d, and came %d' % (wanted, came))
+    if word in OUTSIDE_NAME:
+        told.count(OUTSIDE_NAME, reached_from_outside(urlsplit(address).port))
 
 
 def reached_from_outside(port):
@@ -435,9 +438,7 @@ def try_all(program, told, word='', folder=None):
     if word in 'hosts/web/examples.js':
         told.count('hosts/web/examples.js', script_differs(program))
     with served(program) as address:
-        for name, wrong in try_server(address):
-            if word in name:
-                told.count(name, wrong)
+        try_server(address, told, word)
         if not browser.found():
             told.lacks('chromium', 'the page of hosts/web was not tried in a browser')
         elif chosen:
