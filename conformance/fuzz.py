@@ -19,7 +19,6 @@ import os
 import random
 import subprocess
 import sys
-import tempfile
 import time
 
 import inputs
@@ -182,8 +181,8 @@ def try_all(program, told, count=None, seconds=None, seed=1, ways=(make_source, 
     told.part('sources and modules without end, seed %d' % seed, count or 0)
     fuzzing = Fuzzing(told, program, tree, seed, folder)
     until = None if seconds is None else time.monotonic() + seconds
-    with tempfile.TemporaryDirectory(dir=kept.folder_above()) as quick:
-        judging = program, tree, quick, kept.library(quick)
+    with kept.folders() as (quick, library):
+        judging = program, tree, quick, library
         run_batches(fuzzing, judging, ways, jobs or report.processors(), batches(count, until))
     fuzzing.close()
     return fuzzing
@@ -191,8 +190,8 @@ def try_all(program, told, count=None, seconds=None, seed=1, ways=(make_source, 
 
 def try_again(program, tree, told, paths):
     """Judges the inputs in these files."""
-    with tempfile.TemporaryDirectory(dir=kept.folder_above()) as quick:
-        host = host_of(program, tree, quick, kept.library(quick))
+    with kept.folders() as (quick, library):
+        host = host_of(program, tree, quick, library)
         for path in paths:
             told.count(path, meaning.with_large_stack(lambda: judged(host, inputs.again(path))))
 

@@ -69,16 +69,18 @@ def known_modules(program):
     return made
 
 
-@functools.lru_cache(maxsize=POOL)
 def random_program(number, contracts):
     """The random program with this number, with contracts or without."""
     clauses = random_contracts.Clauses(number) if contracts else random_programs.NoClauses()
     return random_programs.program(number, clauses).encode()
 
 
+changed_program = functools.lru_cache(maxsize=POOL)(random_program)     # those that are changed are asked for again and again
+
+
 def a_source(rng, contracts):
     """A source that may be changed."""
-    return random_program(rng.randrange(POOL), contracts) if rng.random() < 0.15 else rng.choice(known_sources(contracts))
+    return changed_program(rng.randrange(POOL), contracts) if rng.random() < 0.15 else rng.choice(known_sources(contracts))
 
 
 def a_module(rng, program):
@@ -95,7 +97,7 @@ def make_source(rng, host):
         return Input('sentence', SOURCES, sentences.sentence(rng, contracts))
     if way < 0.35:
         number = rng.randrange(1 << 32)
-        return Input('typed', SOURCES, random_program.__wrapped__(number, contracts and number % 2 == 0))
+        return Input('typed', SOURCES, random_program(number, contracts and number % 2 == 0))
     changed = mutants.changed_source(rng, a_source(rng, contracts), a_source(rng, contracts), contracts)
     return Input('changed', SOURCES, changed)
 

@@ -1,11 +1,13 @@
 """Programs that are kept started. The library keeping.c stands before their main function: what a start does is done once, and each
 call is answered by a copy of the process. Where cc or Linux is missing, each call is a start of its own."""
+import contextlib
 import os
 import resource
 import select
 import shutil
 import struct
 import subprocess
+import tempfile
 
 from report import Left
 
@@ -14,13 +16,17 @@ REQUEST, ANSWER = struct.Struct('=II'), struct.Struct('=i')
 QUICK = '/dev/shm'      # a folder in memory, on Linux
 
 
-def folder_above():
-    """A folder whose files lie in memory, or None where there is none."""
-    return QUICK if os.path.isdir(QUICK) and os.access(QUICK, os.W_OK) else None
+@contextlib.contextmanager
+def folders():
+    """A folder in memory, where the system has one for all, and the path of the library, built by cc, or None where it can't be
+    used. They are there as long as the work takes."""
+    in_memory = QUICK if os.access(QUICK, os.W_OK) else None
+    with tempfile.TemporaryDirectory(dir=in_memory) as quick, tempfile.TemporaryDirectory() as folder:
+        yield quick, library(folder)
 
 
 def library(folder):
-    """The path of the library, built by cc in this folder, or None where it can't be used."""
+    """The path of the library, which is built in this folder, or None. Programs can't always be loaded from a folder in memory."""
     if shutil.which('cc') is None or not hasattr(os, 'memfd_create') or not hasattr(resource, 'prlimit'):
         return None
     path = os.path.join(folder, 'keeping.so')
@@ -80,7 +86,8 @@ class Kept:
         self.given = b''
         numbers = [requests, answers, *self.streams, self.limits.seconds, self.limits.memory]
         environment = {**os.environ, 'LD_PRELOAD': self.path, 'LD_BIND_NOW': '1', 'KEEP': ' '.join(map(str, numbers))}
-        self.process = subprocess.Popen([self.program], cwd=self.folder, env=environment, pass_fds=[requests, answers, *self.streams])
+        self.process = subprocess.Popen([self.program], cwd=self.folder, env=environment, pass_fds=[requests, answers, *self.streams],
+                                        stdin=subprocess.DEVNULL, stdout=subprocess.DEVNULL, stderr=subprocess.DEVNULL)
         os.close(requests)
         os.close(answers)
 
@@ -102,6 +109,15 @@ class Kept:
         os.write(self.requests, REQUEST.pack(len(words) + 1, len(spelled)) + spelled)
         status = self.answer(words)
         return Left(self.written(self.out), self.written(self.err), status)
+
+    def answers_calls(self):
+        """Whether the library keeps this program: it has to be linked dynamically, and the library to be let in."""
+        try:
+            self.call([])
+        except (RuntimeError, BrokenPipeError):
+            self.end()
+            return False
+        return True
 
     def prepare(self, given):
         """Makes the streams those of a new call."""
@@ -130,6 +146,10 @@ class Kept:
 
 
 def program(path, folder, limits, library_path):
-    """The program at a path, kept started where there is a library for it."""
+    """The program at a path, kept started where that can be."""
     path = shutil.which(path) or path
-    return Started(path, folder, limits) if library_path is None else Kept(path, folder, limits, library_path)
+    if library_path is not None:
+        one = Kept(path, folder, limits, library_path)
+        if one.answers_calls():
+            return one
+    return Started(path, folder, limits)
