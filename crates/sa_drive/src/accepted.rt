@@ -39,11 +39,7 @@ fn try_unwoven(alloc: Global, classes: &[Class], texts: &[Items<u8>]) -> Result<
 }
 
 /// The typed program of what is declared, with the checks of contracts in the bodies.
-fn with_checks(
-    alloc: Global,
-    declared: Parsed,
-    texts: &[Items<u8>],
-) -> Result<Core, FrontFault> {
+fn with_checks(alloc: Global, declared: Parsed, texts: &[Items<u8>]) -> Result<Core, FrontFault> {
     let woven = woven(alloc, declared)?;
     let core = check(alloc, woven.classes.as_slice(), texts)?;
     if_quiet(core, &woven.checks)
