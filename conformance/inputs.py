@@ -71,7 +71,7 @@ def known_modules(program):
 
 def random_program(number, contracts):
     """The random program with this number, with contracts or without."""
-    clauses = random_contracts.Clauses(number) if contracts else random_programs.NoClauses()
+    clauses = random_contracts.Clauses(number) if contracts else random_contracts.NoClauses()
     return random_programs.program(number, clauses).encode()
 
 

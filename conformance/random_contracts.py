@@ -7,6 +7,16 @@ INVARIANTS = {'C': ('n <= 2147483647', 'void(t) or t.size >= 0', 'n < 100000', '
               'D': ('n >= n', 'void(t) or t.size < 9000', 'n > -50000'), 'P': ('x = x', "c <= '\\377'", 'x < 100000', '~void(x) or true')}
 
 
+class NoClauses:
+    """The contracts of a program that has none."""
+
+    def invariant(self, _name):
+        return ''
+
+    def of_routine(self, _args, _result):
+        return ''
+
+
 class Clauses:
     """The contracts of the random program with a number. They follow from it alone, so that the rest of the program is the same
     without them."""

@@ -11,6 +11,8 @@ import random
 import re
 import sys
 
+from random_contracts import NoClauses
+
 MOST_NAMES = 60          # how many variables a body declares before its last statements
 MOST = 3000              # how many calls and rounds a feature may make by what is known of it
 INFIX = ('+', '-', '*', '/', '%')
@@ -454,16 +456,6 @@ class D < $A is include C val->old; create(n:INT):SAME is r ::= new; r.n := n; r
   val(y:$OB):INT is typecase y when INT then return old(y) + 1; else return 0; end; end;
 end;
 """
-
-
-class NoClauses:
-    """The contracts of a program that has none."""
-
-    def invariant(self, _name):
-        return ''
-
-    def of_routine(self, _args, _result):
-        return ''
 
 
 def routine(chance, features, number, clauses):

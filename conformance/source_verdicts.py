@@ -6,7 +6,7 @@ the line of a refusal by one and changes nothing else; `check`, `build` and `run
 What is accepted has a module that `exec` runs as `run` runs the source, to an end of the table; the steps are within the fuel, with
 fuel for all of them the run is the same, and with a step less the fuel is spent; V8 and wabt take the module, and V8 runs it alike.
 Where the program `typed_tree` is given, the typed tree has the same end by the written meaning, in at most as many turns as the run
-has steps; runs of more than 50,000 steps are interpreted where a source is judged in full alone.
+has steps; runs of more than 200,000 steps are interpreted where a source is judged in full alone.
 
 Of one that is judged in full also: a start of its own answers alike, to `check` and to `run`, and each promise is tried by a call of
 its own. What has contracts is judged by contract_verdicts.py too."""
@@ -25,7 +25,8 @@ from verdicts import GIVEN, SPENT, require
 OLD = b'what the file held'
 ABOVE = b'-- above\n'
 READ_FIRST = ('E01', 'E02', 'E03', 'E04', 'E05', 'E06', 'E07', 'E08', 'E50')
-INTERPRETED = 50_000    # steps of a run that is interpreted though its source isn't judged in full
+FEWEST = 1_000          # steps for a turn, which the bound of each program allows
+INTERPRETED = 200_000   # steps of a run that is interpreted though its source isn't judged in full
 
 
 # ---- refusals
@@ -83,7 +84,9 @@ def as_meant(host, one, made):
         answer = meaning.run_tree(tree, GIVEN, ROOM, made.steps)
     except (IndexError, KeyError, TypeError, AttributeError) as error:
         require(False, 'a typed tree has a meaning', repr(error))
-    wrong = turns.wrong_end(answer, made.ran, ['f.sa']) or turns.wrong_steps(answer.turns, made.steps, turns.bound(tree))
+    wrong = turns.wrong_end(answer, made.ran, ['f.sa'])
+    if wrong is None and not answer.turns <= made.steps <= FEWEST * answer.turns:   # no program has a smaller bound
+        wrong = turns.wrong_steps(answer.turns, made.steps, turns.bound(tree))
     require(wrong is None, 'a run ends as the written meaning has it', wrong)
 
 
