@@ -7,9 +7,9 @@ _sather() {
     return
   fi
   case ${COMP_WORDS[1]} in
-    run) options='--fuel --room --stats --contracts' ;;
-    build) options='--room --contracts -o' ;;
-    check) options='--contracts' ;;
+    run) options='--fuel --room --stats' ;;
+    build) options='--room -o' ;;
+    check) ;;
     exec) options='--fuel --stats' endings='*.wasm' ;;
     *) return ;;
   esac

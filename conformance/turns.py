@@ -3,9 +3,9 @@
 
 Compares programs compiled by PROGRAM with their meaning, and the machine steps of their runs with the turns that they spend.
 
-The programs are those of the table of cases with the words `run ..`, no failing device, no flag `--contracts` and an accepted
-source, the examples, some that spend turns with little else to do, and N random ones, 100 without --count, from the number S on
-(see random_programs.py). TREE is the program `typed_tree`, whose tree meaning.py runs. `PROGRAM run --stats` has to leave the output and the end of that run, the same status or the same fault in the
+The programs are those of the table of cases with the words `run ..`, no failing device and an accepted source, the examples, some
+that spend turns with little else to do, and N random ones, 100 without --count, from the number S on (see random_programs.py). TREE is the program `typed_tree`, whose tree
+meaning.py runs. `PROGRAM run --stats` has to leave the output and the end of that run, the same status or the same fault in the
 same line, and the steps have to be
 
 - at least as many as the turns, and
@@ -167,8 +167,7 @@ def main_of(body, shareds=''):
 def tasks(given):
     """Each program: its name, its files, the words behind `run`, and its input."""
     for case in programs.programs(given.only):
-        if '--contracts' not in case.words:     # the typed tree is that without checks
-            yield case.name, case.files, case.words, case.input
+        yield case.name, case.files, case.words, case.input
     for path in sorted(glob.glob(EXAMPLES)):
         with open(path, 'rb') as file:
             yield from task_of(os.path.basename(path), file.read(), given.only)

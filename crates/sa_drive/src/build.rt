@@ -26,7 +26,6 @@ pub fn build<'a, S: WriteFiles>(alloc: Global, line: &Build<'a>, store: &mut S) 
         alloc,
         store,
         line.files.as_slice(),
-        line.contracts,
         line.room,
     );
     match module {

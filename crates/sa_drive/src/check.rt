@@ -34,12 +34,7 @@ pub fn check<'a, S: ReadFiles, O: Sink>(
     ensures output { Grew (O.output out.old) (O.output out.new) }
     ensures untouched { ComesBeforeOutput result.cause → out.new ≡ out.old }
 {
-    let Checked { sources, core } = check_files(
-        alloc,
-        store,
-        line.files.as_slice(),
-        line.contracts,
-    );
+    let Checked { sources, core } = check_files(alloc, store, line.files.as_slice());
     match core {
         Ok(_core) => Outcome::without_module(alloc, print(ACCEPTED, out), sources),
         Err(cause) => Outcome::without_module(alloc, cause, sources),

@@ -7,16 +7,16 @@ ghost use Rattle.sa_drive.specs.Built.{IsTried};
 ghost use Rattle.sa_drive.specs.Files.{ComesOfFiles, ComesOfGenerated, Explains, ExplainsProgram, IsTakenGenerated, IsTakenProgram, generated_sources};
 ghost use Rattle.sa_drive.specs.Lines.{IsPlaced};
 
-use crate::accepted::accepted;
 use crate::cause::Cause;
 use crate::module::{Built, module_of};
 use crate::place::is_place_in;
+use sa_check::check;
 use sa_core::Core;
 use sa_gen::generate;
 use sa_outside::ReadFiles;
-use sa_read::{Program, ReadFault, parse_program, prelude, read_program};
-use sa_tree::{FrontFault, Name, NoMemory, Refusal, Sources};
-use sa_words::{Contracts, ROOM};
+use sa_read::{Parsed, Program, ReadFault, parse_program, prelude, read_program};
+use sa_tree::{Class, FrontFault, Name, NoMemory, Refusal, Sources};
+use sa_words::ROOM;
 use sqlite_items::Items;
 use std::alloc::Global;
 
@@ -35,12 +35,7 @@ pub struct Compiled {
 }
 
 /// Reads the files of a program and checks it.
-pub fn check_files<S: ReadFiles>(
-    alloc: Global,
-    store: &mut S,
-    files: &[&str],
-    contracts: Contracts,
-) -> Checked
+pub fn check_files<S: ReadFiles>(alloc: Global, store: &mut S, files: &[&str]) -> Checked
     ensures core { MatchResult result.core
         (λ _. IsTakenProgram (S.files store.old) (map (λ file. file.now) files.now) result.sources)
         (ComesOfFiles (S.files store.old) (Rose (S.faults store.old) (S.faults store.new))
@@ -50,7 +45,7 @@ pub fn check_files<S: ReadFiles>(
     ensures count { S.faults store.old ≤ S.faults store.new }
 {
     match read_program(alloc, store, files) {
-        Ok(program) => check_program(alloc, program, contracts),
+        Ok(program) => check_program(alloc, program),
         Err(fault) => Checked {
             sources: no_sources(alloc),
             core: Err(unread(fault)),
@@ -63,7 +58,6 @@ pub fn compile_files<S: ReadFiles>(
     alloc: Global,
     store: &mut S,
     files: &[&str],
-    contracts: Contracts,
     room: u32,
 ) -> Compiled
     ensures module { MatchResult result.«module»
@@ -75,7 +69,7 @@ pub fn compile_files<S: ReadFiles>(
     ensures files { S.files store.new ≡ S.files store.old }
     ensures count { S.faults store.old ≤ S.faults store.new }
 {
-    let checked = check_files(alloc, store, files, contracts);
+    let checked = check_files(alloc, store, files);
     compile_checked(alloc, checked, room)
 }
 
@@ -122,10 +116,7 @@ fn check_generated(alloc: Global, classes: u32) -> Checked
     ensures placed { IfErr result.core (IsPlaced result.sources) }
 {
     match generated_sources(alloc, classes) {
-        Ok(sources) => {
-            let program = Program { sources, cut: None };
-            check_program(alloc, program, Contracts::Dropped)
-        }
+        Ok(sources) => check_program(alloc, Program { sources, cut: None }),
         Err(NoMemory) => Checked {
             sources: no_sources(alloc),
             core: Err(Cause::NoMemory),
@@ -134,7 +125,7 @@ fn check_generated(alloc: Global, classes: u32) -> Checked
 }
 
 /// Checks a program, unless its files are too large.
-fn check_program(alloc: Global, program: Program, contracts: Contracts) -> Checked
+fn check_program(alloc: Global, program: Program) -> Checked
     requires short { All (λ text. length text < 4294967295) program.sources.texts }
     requires few { length program.sources.texts ≤ 65536 }
     requires placed { IfSome program.cut (λ refusal. refusal.pos.file < length program.sources.texts) }
@@ -145,7 +136,7 @@ fn check_program(alloc: Global, program: Program, contracts: Contracts) -> Check
 {
     let Program { sources, cut } = program;
     match cut {
-        None => check_texts(alloc, sources, contracts),
+        None => check_texts(alloc, sources),
         Some(refusal) => Checked {
             sources,
             core: Err(Cause::Refused(refusal)),
@@ -188,34 +179,39 @@ pub fn unread(fault: ReadFault) -> Cause
 }
 
 /// The typed tree of a program of these texts, with the texts.
-fn check_texts(alloc: Global, sources: Sources, contracts: Contracts) -> Checked
+fn check_texts(alloc: Global, sources: Sources) -> Checked
     requires short { All (λ text. length text < 4294967295) sources.texts }
     requires few { length sources.texts < 4294967295 }
     ensures same { result.sources ≡ sources }
     ensures made { IfOk result.core (λ _. IsTakenUpTo sources.texts (length sources.texts)) }
     ensures fault { IfErr result.core (Explains sources.texts) }
 {
-    let core = typed(alloc, sources.texts.as_slice(), contracts);
+    let core = typed(alloc, sources.texts.as_slice());
     Checked { sources, core }
 }
 
 /// The typed tree of a program of these texts, or the cause why there is none.
-fn typed(alloc: Global, texts: &[Items<u8>], contracts: Contracts) -> Result<Core, Cause>
+fn typed(alloc: Global, texts: &[Items<u8>]) -> Result<Core, Cause>
     requires short { All (λ text. length text < 4294967295) texts.now }
     requires few { length texts.now < 4294967295 }
     ensures made { IfOk result (λ _. IsTakenUpTo texts.now (length texts.now)) }
     ensures fault { IfErr result (Explains texts.now) }
 {
-    let declared = match parse_program(alloc, texts) {
-        Ok(declared) => declared,
+    let classes = match parse_program(alloc, texts) {
+        Ok(Parsed { classes, .. }) => classes,
         Err(FrontFault::Refused(refusal)) => return Err(refused(refusal, texts)),
         Err(FrontFault::NoMemory) => return Err(Cause::NoMemory),
     };
-    match accepted(alloc, declared, texts, contracts) {
+    match accepted(alloc, classes, texts) {
         Ok(core) => Ok(core),
         Err(FrontFault::Refused(refusal)) => Err(refused(refusal, texts)),
         Err(FrontFault::NoMemory) => Err(Cause::NoMemory),
     }
+}
+
+/// The typed program of the classes of these texts, of which nothing is kept.
+fn accepted(alloc: Global, classes: Items<Class>, texts: &[Items<u8>]) -> Result<Core, FrontFault> {
+    check(alloc, classes.as_slice(), texts)
 }
 
 /// The cause of the refusal of these texts. A refusal at no place in them, which no phase gives, is answered as out of memory.

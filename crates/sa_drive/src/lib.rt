@@ -1,7 +1,6 @@
 //! The top call: from the words of a command line to its exit.
 #![tactic(auto)]
 
-mod accepted;
 mod build;
 mod cause;
 mod check;

@@ -46,7 +46,6 @@ pub fn run<'a, S: ReadFiles, I: Source, O: Sink>(
         alloc,
         store,
         line.files.as_slice(),
-        line.contracts,
         line.room,
     );
     match module {

@@ -9,23 +9,21 @@ use Rattle.sa_words.specs.Numbers.{number_in, number_or}
 use Rattle.sa_words.specs.Program.{program}
 use Rattle.sa_words.specs.declared.command.Command.{Command}
 use Rattle.sa_words.specs.declared.command.Command.TheVariants as command
-use Rattle.sa_words.specs.declared.command.Contracts.{Contracts}
-use Rattle.sa_words.specs.declared.command.Contracts.TheVariants.{Dropped, Checked}
 
 -- a command with its texts and numbers
 pub data Line : Type 0 where
-  Run : (fuel : ℕ) → (room : ℕ) → (stats : Bool) → (contracts : Contracts) → (files : List Text) → Line
-  Build : (room : ℕ) → (contracts : Contracts) → (out : Text) → (files : List Text) → Line
-  Check : (contracts : Contracts) → (files : List Text) → Line
+  Run : (fuel : ℕ) → (room : ℕ) → (stats : Bool) → (files : List Text) → Line
+  Build : (room : ℕ) → (out : Text) → (files : List Text) → Line
+  Check : (files : List Text) → Line
   Exec : (fuel : ℕ) → (stats : Bool) → (file : Text) → Line
   Gen : (classes : ℕ) → Line
   Selftest : (classes : ℕ) → Line
 
 -- what a command says
 abbrev pub line_of : Command → Line
-line_of (command.Run run) = Run run.fuel run.room run.stats run.contracts (map (λ file. file.now) run.files.items)
-line_of (command.Build build) = Build build.room build.contracts build.out.now (map (λ file. file.now) build.files.items)
-line_of (command.Check check) = Check check.contracts (map (λ file. file.now) check.files.items)
+line_of (command.Run run) = Run run.fuel run.room run.stats (map (λ file. file.now) run.files.items)
+line_of (command.Build build) = Build build.room build.out.now (map (λ file. file.now) build.files.items)
+line_of (command.Check check) = Check (map (λ file. file.now) check.files.items)
 line_of (command.Exec exec) = Exec exec.fuel exec.stats exec.«module».now
 line_of (command.Gen classes) = Gen classes
 line_of (command.Selftest classes) = Selftest classes
@@ -38,27 +36,17 @@ fuel_in rows = number_or (2 ^ 64 - 1) 0 (2 ^ 64 - 1) (first_of (codes "fuel") ro
 abbrev pub room_in : List Row → Option ℕ
 room_in rows = number_or 65536 64 1048576 (first_of (codes "room") rows)
 
--- whether a flag is given: `clap` gives it the value `true` then
-abbrev pub is_given : Text → List Row → Bool
-is_given name rows = option_map_or (λ text. bytes_eq text (codes "true")) (first_of name rows) false
-
 abbrev pub stats_in : List Row → Bool
-stats_in = is_given (codes "stats")
-
-abbrev pub contracts_in : List Row → Contracts
-contracts_in rows = if is_given (codes "contracts") rows then Checked else Dropped
+stats_in rows = option_map_or (λ text. bytes_eq text (codes "true")) (first_of (codes "stats") rows) false
 
 abbrev pub files_in : List Row → List Text
 files_in rows = unwrap_or (all_of (codes "file") rows) []
 
 abbrev pub run_in : List Row → Option Line
-run_in rows = option_and_then (λ fuel. option_map (λ room. Run fuel room (stats_in rows) (contracts_in rows) (files_in rows)) (room_in rows)) (fuel_in rows)
+run_in rows = option_and_then (λ fuel. option_map (λ room. Run fuel room (stats_in rows) (files_in rows)) (room_in rows)) (fuel_in rows)
 
 abbrev pub build_in : List Row → Option Line
-build_in rows = option_and_then (λ room. option_map (λ out. Build room (contracts_in rows) out (files_in rows)) (first_of (codes "out") rows)) (room_in rows)
-
-abbrev pub check_in : List Row → Line
-check_in rows = Check (contracts_in rows) (files_in rows)
+build_in rows = option_and_then (λ room. option_map (λ out. Build room out (files_in rows)) (first_of (codes "out") rows)) (room_in rows)
 
 abbrev pub exec_in : List Row → Option Line
 exec_in rows = option_and_then (λ fuel. option_map (λ file. Exec fuel (stats_in rows) file) (first_of (codes "module") rows)) (fuel_in rows)
@@ -72,7 +60,7 @@ abbrev pub named_line : Text → List Row → Option Line
 named_line name rows =
     if bytes_eq name (codes "run") then run_in rows
     else (if bytes_eq name (codes "build") then build_in rows
-    else (if bytes_eq name (codes "check") then Some (check_in rows)
+    else (if bytes_eq name (codes "check") then Some (Check (files_in rows))
     else (if bytes_eq name (codes "exec") then exec_in rows
     else (if bytes_eq name (codes "gen") then option_map Gen (classes_in rows)
     else (if bytes_eq name (codes "selftest") then option_map Selftest (classes_in rows) else None)))))

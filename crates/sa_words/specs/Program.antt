@@ -7,7 +7,7 @@ use Rattle.clap.specs.declared.builder.action.ArgAction.TheVariants.{Append, Set
 abbrev pub option : Text → Rule
 option name = record (new_rule name) { long = Some name }
 
--- an option without a value: `--stats`, `--contracts`
+-- an option without a value: `--stats`
 abbrev pub flag : Text → Rule
 flag name = record (new_rule name) { long = Some name; action = Some SetTrue }
 
@@ -27,21 +27,17 @@ module_file = record (new_rule (codes "module")) { required = true }
 abbrev pub classes : Rule
 classes = record (new_rule (codes "classes")) { required = true }
 
--- the options of a command that runs a module
-abbrev pub running : App → App
-running app = with_rule (with_rule app (option (codes "fuel"))) (flag (codes "stats"))
-
 abbrev pub run : App
-run = with_rule (with_rule (with_rule (running (new_app (codes "run"))) (option (codes "room"))) (flag (codes "contracts"))) files
+run = with_rule (with_rule (with_rule (with_rule (new_app (codes "run")) (option (codes "fuel"))) (option (codes "room"))) (flag (codes "stats"))) files
 
 abbrev pub build : App
-build = with_rule (with_rule (with_rule (with_rule (new_app (codes "build")) (option (codes "room"))) (flag (codes "contracts"))) out) files
+build = with_rule (with_rule (with_rule (new_app (codes "build")) (option (codes "room"))) out) files
 
 abbrev pub check : App
-check = with_rule (with_rule (new_app (codes "check")) (flag (codes "contracts"))) files
+check = with_rule (new_app (codes "check")) files
 
 abbrev pub exec : App
-exec = with_rule (running (new_app (codes "exec"))) module_file
+exec = with_rule (with_rule (with_rule (new_app (codes "exec")) (option (codes "fuel"))) (flag (codes "stats"))) module_file
 
 abbrev pub gen : App
 gen = with_rule (new_app (codes "gen")) classes

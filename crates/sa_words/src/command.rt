@@ -13,15 +13,6 @@ pub enum Command<'a> {
     Selftest(u32),
 }
 
-/// What is done with the contracts of a program.
-#[derive(Clone, Copy, Debug, PartialEq, Eq, Hash)]
-pub enum Contracts {
-    /// They are read, and say nothing.
-    Dropped,
-    /// What they say is checked when the program runs.
-    Checked,
-}
-
 /// The program in the files is to be compiled and run.
 #[derive(Debug, Drop)]
 pub struct Run<'a> {
@@ -31,7 +22,6 @@ pub struct Run<'a> {
     pub room: u32,
     /// Whether the steps and the module's length are told at the end.
     pub stats: bool,
-    pub contracts: Contracts,
     /// The files' names: one or more.
     pub files: Vec<&'a str>,
 }
@@ -41,7 +31,6 @@ pub struct Run<'a> {
 pub struct Build<'a> {
     /// The bytes that the program may charge, in KiB.
     pub room: u32,
-    pub contracts: Contracts,
     /// The name of the module's file.
     pub out: &'a str,
     /// The files' names: one or more.
@@ -51,7 +40,6 @@ pub struct Build<'a> {
 /// It is to be told whether the program in the files is accepted.
 #[derive(Debug, Drop)]
 pub struct Check<'a> {
-    pub contracts: Contracts,
     /// The files' names: one or more.
     pub files: Vec<&'a str>,
 }

@@ -58,51 +58,42 @@ fn classes<'a>(alloc: Global) -> Arg<'a>
     Arg::new(alloc, "classes").required(true)
 }
 
-/// The options of a command that runs a module: `[--fuel N] [--stats]`
-fn running<'a>(alloc: Global, command: Command<'a>) -> Result<Command<'a>, AllocError>
-    requires own { (out-Command command).has_globals ≡ false }
-    ensures { IfOk result (λ c. (app_of c ≡ line.running (app_of command.entry)) × ((out-Command c).has_globals ≡ false)) }
-{
-    command
-        .arg(option(alloc, "fuel"))?
-        .arg(flag(alloc, "stats"))
-}
-
-/// `run [--fuel N] [--stats] [--room KIB] [--contracts] FILE..`
+/// `run [--fuel N] [--room KIB] [--stats] FILE..`
 fn run<'a>(alloc: Global) -> Result<Command<'a>, AllocError>
     ensures { IfOk result (λ c. (app_of c ≡ line.run) × ((out-Command c).has_globals ≡ false)) }
 {
-    running(alloc, Command::new(alloc, "run"))?
+    Command::new(alloc, "run")
+        .arg(option(alloc, "fuel"))?
         .arg(option(alloc, "room"))?
-        .arg(flag(alloc, "contracts"))?
+        .arg(flag(alloc, "stats"))?
         .arg(files(alloc))
 }
 
-/// `build [--room KIB] [--contracts] -o OUT FILE..`
+/// `build [--room KIB] -o OUT FILE..`
 fn build<'a>(alloc: Global) -> Result<Command<'a>, AllocError>
     ensures { IfOk result (λ c. (app_of c ≡ line.build) × ((out-Command c).has_globals ≡ false)) }
 {
     Command::new(alloc, "build")
         .arg(option(alloc, "room"))?
-        .arg(flag(alloc, "contracts"))?
         .arg(out(alloc))?
         .arg(files(alloc))
 }
 
-/// `check [--contracts] FILE..`
+/// `check FILE..`
 fn check<'a>(alloc: Global) -> Result<Command<'a>, AllocError>
     ensures { IfOk result (λ c. (app_of c ≡ line.check) × ((out-Command c).has_globals ≡ false)) }
 {
-    Command::new(alloc, "check")
-        .arg(flag(alloc, "contracts"))?
-        .arg(files(alloc))
+    Command::new(alloc, "check").arg(files(alloc))
 }
 
 /// `exec [--fuel N] [--stats] MODULE`
 fn exec<'a>(alloc: Global) -> Result<Command<'a>, AllocError>
     ensures { IfOk result (λ c. (app_of c ≡ line.exec) × ((out-Command c).has_globals ≡ false)) }
 {
-    running(alloc, Command::new(alloc, "exec"))?.arg(module_file(alloc))
+    Command::new(alloc, "exec")
+        .arg(option(alloc, "fuel"))?
+        .arg(flag(alloc, "stats"))?
+        .arg(module_file(alloc))
 }
 
 /// `gen N`

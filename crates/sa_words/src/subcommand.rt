@@ -1,10 +1,10 @@
 //! A subcommand with its matches, as a command.
 
-ghost use Rattle.std.specs.Prelude.{◌≡◌, IfOk, Some, map, option_map};
+ghost use Rattle.std.specs.Prelude.{◌≡◌, IfOk, map, option_map};
 ghost use Rattle.clap.specs.Words.{all_of, first_of, found_of, rows_of};
-ghost use Rattle.sa_words.specs.Line.{build_in, check_in, classes_in, contracts_in, exec_in, files_in, fuel_in, is_given, line_of, named_line, room_in, run_in, stats_in, Gen, Selftest};
+ghost use Rattle.sa_words.specs.Line.{build_in, classes_in, exec_in, files_in, fuel_in, line_of, named_line, room_in, run_in, stats_in, Gen, Selftest};
 
-use crate::command::{Build, Check, Command, Contracts, Exec, Run};
+use crate::command::{Build, Check, Command, Exec, Run};
 use crate::number::{number_in, number_or};
 use clap::ArgMatches;
 use std::alloc::{AllocError, Global};
@@ -56,29 +56,11 @@ fn room(matches: &ArgMatches<'_>) -> Option<u32>
     Some(room as u32)
 }
 
-/// Whether the flag of this name is given. `clap` gives it the value `true` then.
-fn is_given(matches: &ArgMatches<'_>, name: &str) -> bool
-    ensures { result ≡ is_given name.now (rows_of (found_of matches.now)) }
-{
-    value(matches, name) == Some("true")
-}
-
-/// Whether the statistics are asked for.
+/// Whether the statistics are asked for. `clap` gives a flag that is used the value `true`.
 fn stats(matches: &ArgMatches<'_>) -> bool
     ensures { result ≡ stats_in (rows_of (found_of matches.now)) }
 {
-    is_given(matches, "stats")
-}
-
-/// What is done with contracts.
-fn contracts(matches: &ArgMatches<'_>) -> Contracts
-    ensures { result ≡ contracts_in (rows_of (found_of matches.now)) }
-{
-    if is_given(matches, "contracts") {
-        Contracts::Checked
-    } else {
-        Contracts::Dropped
-    }
+    value(matches, "stats") == Some("true")
 }
 
 /// The names of the files.
@@ -98,11 +80,11 @@ fn run<'a>(alloc: Global, matches: &ArgMatches<'a>) -> Result<Option<Command<'a>
     let (Some(fuel), Some(room)) = (fuel(matches), room(matches)) else {
         return Ok(None);
     };
+    let stats = stats(matches);
     Ok(Some(Command::Run(Run {
         fuel,
         room,
-        stats: stats(matches),
-        contracts: contracts(matches),
+        stats,
         files,
     })))
 }
@@ -114,20 +96,7 @@ fn build<'a>(alloc: Global, matches: &ArgMatches<'a>) -> Result<Option<Command<'
     let (Some(room), Some(out)) = (room(matches), value(matches, "out")) else {
         return Ok(None);
     };
-    Ok(Some(Command::Build(Build {
-        room,
-        contracts: contracts(matches),
-        out,
-        files,
-    })))
-}
-
-fn check<'a>(alloc: Global, matches: &ArgMatches<'a>) -> Result<Option<Command<'a>>, AllocError>
-    ensures { IfOk result (λ command. option_map line_of command ≡ Some (check_in (rows_of (found_of matches.now)))) }
-{
-    let files = files(alloc, matches)?;
-    let contracts = contracts(matches);
-    Ok(Some(Command::Check(Check { contracts, files })))
+    Ok(Some(Command::Build(Build { room, out, files })))
 }
 
 fn exec<'a>(matches: &ArgMatches<'a>) -> Option<Command<'a>>
@@ -174,7 +143,10 @@ pub(crate) fn named<'a>(
     match name {
         "run" => run(alloc, matches),
         "build" => build(alloc, matches),
-        "check" => check(alloc, matches),
+        "check" => {
+            let files = files(alloc, matches)?;
+            Ok(Some(Command::Check(Check { files })))
+        }
         "exec" => Ok(exec(matches)),
         "gen" => Ok(generate(matches)),
         "selftest" => Ok(selftest(matches)),
