@@ -20,7 +20,6 @@ class Sentence:
 
     def __init__(self, rng):
         self.rng, self.params = rng, ()
-        self.in_post = False    # whether `result` and `initial` may stand
         self.classes = [name for name in CLASSES if self.some(50)]
 
     def some(self, percent):
@@ -61,7 +60,7 @@ class Sentence:
             above = self.maybe(5, self.types_behind, '>')
             return ['abstract', 'class', *self.head(name), *above, 'is', *self.listed(3, self.sig), 'end']
         kind = [self.pick(('immutable', 'partial'))] if name != 'MAIN' and self.some(30) else []
-        features = self.maybe(10, lambda: [*self.invariant(), ';']) + self.listed(3, self.feature, kind == ['partial'])
+        features = self.listed(3, self.feature, kind == ['partial'])
         if name == 'MAIN':
             features = ['main', 'is', *self.stmts(0), 'end', ';', *features]
         return [*kind, 'class', *self.head(name), 'is', *features, 'end']
@@ -69,16 +68,13 @@ class Sentence:
     def head(self, name):
         made = [name]
         for place, param in enumerate(self.params):
-            made += ['{' if place == 0 else ',', param, *self.maybe(10, self.bound)]
+            made += ['{' if place == 0 else ',', param, *self.maybe(10, self.types_behind, '<')]
         return made + (['}'] if self.params else []) + self.maybe(25, self.types_behind, '<')
 
     def types_behind(self, sign):
         """Types that a class is put below, mostly abstract ones."""
         if self.some(10):
             return [sign, *self.several(',', 2, self.type, 3)]
-        return self.bound(sign)
-
-    def bound(self, sign='<'):
         return [sign, self.pick([name for name in self.classes if name == '$A'] + ['$OB', '$STR'])]
 
     # Types
@@ -133,21 +129,7 @@ class Sentence:
         return [self.pick(words)] if self.some(20) else []
 
     def routine(self):
-        return [*self.access('private'), *self.sig(), *self.clauses(), 'is', *self.stmts(0), 'end']
-
-    def clauses(self):
-        pre = self.maybe(10, lambda: ['pre', *self.expr(2)])
-        return pre + self.maybe(10, lambda: ['post', *self.condition(2, True)])
-
-    def condition(self, deep, in_post):
-        """An expression in which `result` and `initial` may stand, or may not."""
-        around, self.in_post = self.in_post, in_post
-        made = self.expr(deep)
-        self.in_post = around
-        return made
-
-    def invariant(self):
-        return ['invariant', ':', 'BOOL', 'is', 'return', *self.expr(2), *self.maybe(50, lambda: [';']), 'end']
+        return [*self.access('private'), *self.sig(), 'is', *self.stmts(0), 'end']
 
     def stub(self):
         return [*self.access('private'), 'stub', *self.sig()]
@@ -270,8 +252,6 @@ class Sentence:
         return self.maybe(10, lambda: [self.pick(('out', 'inout'))]) + self.expr(deep)
 
     def first(self, deep, in_array):
-        if self.in_post and self.some(20):
-            return self.result_or_initial(deep + 1)
         if deep >= DEEPEST or self.some(60):
             return self.leaf()
         ways = [self.class_call, self.parenthesised, self.bind, self.new_object, self.of_void, self.index]
@@ -280,9 +260,6 @@ class Sentence:
     def leaf(self):
         kinds = (NUMBERS, NAMES, NAMES, CHARACTERS, TEXTS, ('true', 'false', 'self', 'exception', 'void', 'new', '#'))
         return [self.pick(self.pick(kinds))]
-
-    def result_or_initial(self, deep):
-        return ['result'] if self.some(50) else ['initial', '(', *self.condition(deep, False), ')']
 
     def class_call(self, deep):
         return [*self.type(3), '::', *self.call(deep)]

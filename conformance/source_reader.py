@@ -33,7 +33,7 @@ EXPRESSIONS = ('-', '~', 'number', 'character', 'text', 'true', 'false', 'self',
 BLOCKS = ('if', 'loop', 'case', 'typecase', 'protect')
 STATEMENTS = (*BLOCKS, 'return', 'yield', 'quit', 'raise', 'assert', *EXPRESSIONS)
 DECLARED = ('attr', 'shared')
-MEMBERS = ('private', 'readonly', 'const', 'include', 'stub', 'invariant', *DECLARED, *FEATURES)
+MEMBERS = ('private', 'readonly', 'const', 'include', 'stub', *DECLARED, *FEATURES)
 CLASSES = ('abstract', 'class', 'immutable', 'partial')
 END = 'the end'
 
@@ -181,12 +181,10 @@ def scan(tokens):
 class Grammar:
     """A place in the tokens of a file. A method reads its production there."""
 
-    def __init__(self, tokens, text):
+    def __init__(self, tokens, length):
         self.symbols = [token.symbol for token in tokens] + [END] * 2
-        self.places = [token.at for token in tokens] + [len(text)] * 2
-        self.spelled = [text[token.at:token.end] for token in tokens]
+        self.places = [token.at for token in tokens] + [length] * 2
         self.at = 0
-        self.in_post = False    # whether `result` and `initial` may stand
 
     def next(self):
         return self.symbols[self.at]
@@ -240,7 +238,7 @@ class Grammar:
             self.need('class')
             self.head('CNAME')
             self.need('is')
-            members = [symbol for symbol in MEMBERS if is_partial or symbol != 'stub']
+            members = MEMBERS if is_partial else [symbol for symbol in MEMBERS if symbol != 'stub']
             self.listed(lambda: self.feature(members), members)
         self.need('end')
 
@@ -304,19 +302,12 @@ class Grammar:
         self.several(lambda: self.need('LNAME'), ',')
 
     def feature(self, members):
-        """A feature that begins with one of these. An invariant that is read is none of them any more."""
-        if self.next() == 'invariant':
-            members.remove('invariant')
-            return self.invariant()
         if self.has('private'):
-            members = [symbol for symbol in members if symbol not in ('private', 'readonly', 'invariant')]
+            members = [symbol for symbol in members if symbol not in ('private', 'readonly')]
         elif self.has('readonly'):
             members = DECLARED
         if self.next() not in members:
             self.need()
-        self.without_access()
-
-    def without_access(self):
         if self.has('stub'):
             self.sig()
         elif self.has('attr'):
@@ -331,32 +322,7 @@ class Grammar:
             self.include()
         else:
             self.sig()
-            self.clauses()
             self.between('is', self.stmts, 'end')
-
-    def clauses(self):
-        if self.has('pre'):
-            self.expr()
-        if self.has('post'):
-            self.condition(True)
-
-    def condition(self, in_post):
-        """An expression in which `result` and `initial` may stand, or may not."""
-        around, self.in_post = self.in_post, in_post
-        self.expr()
-        self.in_post = around
-
-    def invariant(self):
-        self.need('invariant')
-        self.need(':')
-        if self.spelled[self.at:self.at + 1] != [b'BOOL']:
-            self.need()
-        self.need('CNAME')
-        self.need('is')
-        self.need('return')
-        self.expr()
-        self.has(';')
-        self.need('end')
 
     def shared(self):
         self.names()
@@ -530,10 +496,6 @@ class Grammar:
         elif self.has('void', 'new'):
             if self.next() == '(':
                 self.between('(', self.expr, ')')
-        elif self.in_post and self.has('initial'):
-            self.between('(', lambda: self.condition(False), ')')
-        elif self.in_post and self.has('result'):
-            pass
         elif self.has('bind'):
             self.between('(', self.post, ')')
         elif self.has('#'):
@@ -557,7 +519,7 @@ def refusal(text):
             raise Refused('E50', LARGEST)
         tokens = tokens_of(text)
         scan(tokens)
-        Grammar(tokens, text).file()
+        Grammar(tokens, len(text)).file()
     except Refused as fault:
         return fault.code, line_of(text, fault.at)
     return None

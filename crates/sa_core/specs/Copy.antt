@@ -12,8 +12,10 @@ use Rattle.sa_core.specs.declared.stmt.StmtCore.{StmtCore}
 use Rattle.sa_core.specs.declared.stmt.StmtCore.TheOpen.{StmtCore-F, TestCore-F, ArmCore-F}
 use Rattle.sa_core.specs.declared.stmt.StmtCore.TheFolds.{fold-StmtCore, fold-TestCore, fold-ArmCore}
 use Rattle.sa_core.specs.declared.stmt.TestCore.{TestCore}
-use Rattle.sa_core.specs.Tree.{Expr, Int, Truth, Char, Text, VoidOf, Me, Var, Exception, IsVoid, New, NewArray, Elements, Call, IterCall, Bind, Swapped, And, Or, Widen, Exprs, no_exprs, expr, Arg, Value, Variable, Left, Args, no_args, arg}
-use Rattle.sa_core.specs.Tree.{Exit, Break, While, Until, Stmt, Let, Do, If, Loop, Leave, TypeCase, Protect, Return, Yield, Quit, Raise, Stop, Stmts, no_stmts, stmt, Tests, no_tests, branch, Arms, no_arms, arm, Else, no_else, otherwise}
+use Rattle.sa_core.specs.Tree.{Expr, Int, Truth, Char, Text, VoidOf, Me, Var, Exception, IsVoid, New, NewArray, Elements, Call, IterCall}
+use Rattle.sa_core.specs.Tree.{Bind, Swapped, And, Or, Widen, Exprs, no_exprs, expr, Arg, Value, Variable, Left, Args, no_args, arg}
+use Rattle.sa_core.specs.Tree.{Exit, Break, While, Until, Stmt, Let, Do, If, Loop, Leave, TypeCase, Protect, Return, Yield, Quit, Raise}
+use Rattle.sa_core.specs.Tree.{Stop, Stmts, no_stmts, stmt, Tests, no_tests, branch, Arms, no_arms, arm, Else, no_else, otherwise}
 
 -- ---- lists of expressions and arguments
 

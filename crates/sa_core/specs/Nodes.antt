@@ -4,8 +4,10 @@ use Rattle.std.specs.Prelude.{ℕ, ◌+◌, Option, Some, None, min}
 use Rattle.sa_core.specs.declared.feature.FeatureCore.{FeatureCore}
 use Rattle.sa_core.specs.declared.program.SharedCore.{SharedCore}
 use Rattle.sa_core.specs.Copy.{block_of, option_expr_of}
-use Rattle.sa_core.specs.Tree.{Expr, IsVoid, NewArray, Elements, Call, IterCall, Bind, Swapped, And, Or, Widen, Exprs, no_exprs, expr, Arg, Value, Args, no_args, arg}
-use Rattle.sa_core.specs.Tree.{Exit, Break, While, Until, Stmt, Let, Do, If, Loop, Leave, TypeCase, Protect, Return, Yield, Raise, Stmts, no_stmts, stmt, Tests, no_tests, branch, Arms, no_arms, arm, Else, no_else, otherwise}
+use Rattle.sa_core.specs.Tree.{Expr, IsVoid, NewArray, Elements, Call, IterCall, Bind, Swapped, And}
+use Rattle.sa_core.specs.Tree.{Or, Widen, Exprs, no_exprs, expr, Arg, Value, Args, no_args, arg}
+use Rattle.sa_core.specs.Tree.{Exit, Break, While, Until, Stmt, Let, Do, If, Loop, Leave, TypeCase, Protect, Return, Yield, Raise}
+use Rattle.sa_core.specs.Tree.{Stmts, no_stmts, stmt, Tests, no_tests, branch, Arms, no_arms, arm, Else, no_else, otherwise}
 
 abbrev mutual
   pub expr_nodes : Expr → ℕ

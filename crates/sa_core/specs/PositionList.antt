@@ -6,8 +6,10 @@ use Rattle.sa_core.specs.declared.feature.FeatureCore.{FeatureCore}
 use Rattle.sa_core.specs.declared.program.Core.{Core}
 use Rattle.sa_core.specs.declared.program.SharedCore.{SharedCore}
 use Rattle.sa_core.specs.Copy.{block_of, option_expr_of}
-use Rattle.sa_core.specs.Tree.{Expr, IsVoid, New, NewArray, Elements, Call, IterCall, Bind, Swapped, And, Or, Widen, Exprs, no_exprs, expr, Arg, Value, Args, no_args, arg}
-use Rattle.sa_core.specs.Tree.{Exit, Break, While, Until, Stmt, Let, Do, If, Loop, Leave, TypeCase, Protect, Return, Yield, Raise, Stop, Stmts, no_stmts, stmt, Tests, no_tests, branch, Arms, no_arms, arm, Else, no_else, otherwise}
+use Rattle.sa_core.specs.Tree.{Expr, IsVoid, New, NewArray, Elements, Call, IterCall, Bind, Swapped}
+use Rattle.sa_core.specs.Tree.{And, Or, Widen, Exprs, no_exprs, expr, Arg, Value, Args, no_args, arg}
+use Rattle.sa_core.specs.Tree.{Exit, Break, While, Until, Stmt, Let, Do, If, Loop, Leave, TypeCase, Protect, Return, Yield, Raise}
+use Rattle.sa_core.specs.Tree.{Stop, Stmts, no_stmts, stmt, Tests, no_tests, branch, Arms, no_arms, arm, Else, no_else, otherwise}
 
 abbrev mutual
   pub expr_positions : Expr → List Pos

@@ -2,8 +2,10 @@
 //! those inside others included. A count that 32 bits don't hold is told as the greatest number that they do.
 
 ghost use Rattle.std.specs.Prelude.{◌≡◌, ◌+◌};
-ghost use Rattle.sa_core.specs.Copy.{arg_of, args_of, arm_of, arms_of, block_of, exit_of, expr_of, exprs_of, option_expr_of, stmt_of, test_of, tests_of};
-ghost use Rattle.sa_core.specs.Nodes.{arg_nodes, args_nodes, arms_nodes, capped, exit_nodes, expr_nodes, exprs_nodes, feature_nodes, option_expr_nodes, shared_nodes, stmt_nodes, stmts_nodes, tests_nodes};
+ghost use Rattle.sa_core.specs.Copy.{arg_of, args_of, arm_of, arms_of, block_of, exit_of, expr_of};
+ghost use Rattle.sa_core.specs.Copy.{exprs_of, option_expr_of, stmt_of, test_of, tests_of};
+ghost use Rattle.sa_core.specs.Nodes.{arg_nodes, args_nodes, arms_nodes, capped, exit_nodes, expr_nodes, exprs_nodes};
+ghost use Rattle.sa_core.specs.Nodes.{feature_nodes, option_expr_nodes, shared_nodes, stmt_nodes, stmts_nodes, tests_nodes};
 
 use crate::expr::{ArgCore, ExprCore};
 use crate::feature::FeatureCore;

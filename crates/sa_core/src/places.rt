@@ -2,8 +2,11 @@
 //! the order of the fields. A fault of the running program is told by its place in this list.
 
 ghost use Rattle.std.specs.Prelude.{◌≡◌, [], ◌∷◌, ◌++◌, flat_map, IfOk, OnOk};
-ghost use Rattle.sa_core.specs.Copy.{arg_of, args_of, arm_of, arms_of, block_of, exit_of, expr_of, exprs_of, option_expr_of, stmt_of, test_of, tests_of};
-ghost use Rattle.sa_core.specs.PositionList.{arg_positions, args_positions, arms_positions, core_positions, exit_positions, expr_positions, exprs_positions, feature_positions, option_expr_positions, shared_positions, stmt_positions, stmts_positions, tests_positions};
+ghost use Rattle.sa_core.specs.Copy.{arg_of, args_of, arm_of, arms_of, block_of, exit_of, expr_of};
+ghost use Rattle.sa_core.specs.Copy.{exprs_of, option_expr_of, stmt_of, test_of, tests_of};
+ghost use Rattle.sa_core.specs.PositionList.{arg_positions, args_positions, arms_positions, core_positions, exit_positions};
+ghost use Rattle.sa_core.specs.PositionList.{expr_positions, exprs_positions, feature_positions, option_expr_positions};
+ghost use Rattle.sa_core.specs.PositionList.{shared_positions, stmt_positions, stmts_positions, tests_positions};
 
 use crate::expr::{ArgCore, ExprCore};
 use crate::feature::FeatureCore;

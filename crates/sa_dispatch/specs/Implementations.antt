@@ -20,4 +20,5 @@ first_of rows sig = sum_by length (take sig rows)
 
 -- the place, in this list, of a signature's implementation for a type
 abbrev pub row_of : List (List ℕ) → ℕ → ℕ → Option ℕ
-row_of rows sig ty = option_and_then (λ types. option_map (λ place. first_of rows sig + place) (position (λ t. t == ty) types)) (slice_get rows sig)
+row_of rows sig ty =
+    option_and_then (λ types. option_map (λ place. first_of rows sig + place) (position (λ t. t == ty) types)) (slice_get rows sig)

@@ -10,7 +10,8 @@ shown signatures = map (λ signature. signature.types) signatures
 -- signatures behind `before` implementations: their types rise, and each knows where its first implementation stands
 abbrev pub AreNumbered : ℕ → List Signature → Type 0
 AreNumbered before [] = Unit {0}
-AreNumbered before (signature ∷ more) = IsRising signature.types × (signature.first ≡ before) × AreNumbered (before + length signature.types) more
+AreNumbered before (signature ∷ more) =
+    IsRising signature.types × (signature.first ≡ before) × AreNumbered (before + length signature.types) more
 
 -- the count is that of all implementations, and it and the number of signatures are numbers of 32 bits
 pub record IsKept (signatures : List Signature) (count : ℕ) : Type 0 where

@@ -1,5 +1,6 @@
 -- What the outcome of each command says of the outside.
-use Rattle.std.specs.Prelude.{codes, ◌≡◌, ◌≢◌, ◌≤◌, ◌^◌, ◌-◌, ◌⊎◌, ◌&&◌, ⊤, ℕ, Bool, true, false, List, [], length, Option, None, Some, is_some}
+use Rattle.std.specs.Prelude.{codes, ◌≡◌, ◌≢◌, ◌≤◌, ◌^◌, ◌-◌, ◌⊎◌, ◌&&◌, ⊤, ℕ, Bool}
+use Rattle.std.specs.Prelude.{true, false, List, [], length, Option, None, Some, is_some}
 use Rattle.sa_gen.specs.Generated.{generated}
 use Rattle.sa_outside.specs.Files.{Files, Lacks}
 use Rattle.sa_outside.specs.Input.{Input}
@@ -35,7 +36,9 @@ IsRun store input out fuel names outcome =
 abbrev pub IsBuilt : Part Files → List ℕ → List (List ℕ) → Outcome → Type 0
 IsBuilt store name names outcome =
     GivesNone store names outcome
-    ⊎ (IsTakenProgram store.before names outcome.sources × SpellsRunnable outcome.«module».items × IsWritten store name outcome.«module».items outcome.cause)
+    ⊎ (IsTakenProgram store.before names outcome.sources
+    × SpellsRunnable outcome.«module».items
+    × IsWritten store name outcome.«module».items outcome.cause)
 
 -- out took that the program in these files is accepted, or it isn't
 abbrev pub IsChecked : Part Files → Part (List ℕ) → List (List ℕ) → Outcome → Type 0

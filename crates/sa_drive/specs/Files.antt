@@ -27,7 +27,8 @@ IsRefusalFor texts refusal = (IsRefusalOf texts refusal ⊎ IsTakenUpTo texts (l
 
 -- the refusal is that of the files: they are too large together, or it is that of their texts
 abbrev pub IsRefusedFor : Option Files → List (List ℕ) → Sources → Refusal → Type 0
-IsRefusedFor files names sources refusal = IsReadAs files names sources (Some refusal) ⊎ (IsReadAs files names sources None × IsRefusalFor sources.texts refusal)
+IsRefusedFor files names sources refusal =
+    IsReadAs files names sources (Some refusal) ⊎ (IsReadAs files names sources None × IsRefusalFor sources.texts refusal)
 
 -- why texts give no module
 abbrev pub Explains : List (List ℕ) → Cause → Type 0
@@ -37,7 +38,9 @@ Explains texts _ = ⊥
 
 -- why a program that was read gives no module: it was cut, or its texts give none
 abbrev pub ExplainsProgram : Program → Cause → Type 0
-ExplainsProgram program ends = ((refusal : Refusal) × (program.cut ≡ Some refusal) × (ends ≡ cause.Refused refusal)) ⊎ ((program.cut ≡ None) × Explains program.sources.texts ends)
+ExplainsProgram program ends =
+    ((refusal : Refusal) × (program.cut ≡ Some refusal) × (ends ≡ cause.Refused refusal))
+    ⊎ ((program.cut ≡ None) × Explains program.sources.texts ends)
 
 -- why files give no module, where this says that the store failed
 abbrev pub ComesOfFiles : Option Files → Type 0 → List (List ℕ) → Sources → Cause → Type 0

@@ -1,5 +1,6 @@
 -- The lines on err.
-use Rattle.std.specs.Prelude.{ℕ, ◌+◌, ◌<◌, ⊤, List, [], ◌++◌, ◌==◌, length, take, count_by, codes, decimal, slice_get, slice_index_or, unwrap_or}
+use Rattle.std.specs.Prelude.{ℕ, ◌+◌, ◌<◌, ⊤, List, [], ◌++◌, ◌==◌, length, take, count_by}
+use Rattle.std.specs.Prelude.{codes, decimal, slice_get, slice_index_or, unwrap_or}
 use Rattle.sa_tree.specs.declared.pos.Pos.{Pos}
 use Rattle.sa_tree.specs.declared.pos.Sources.{Sources}
 use Rattle.sa_tree.specs.Sources.{text_of}
@@ -8,7 +9,8 @@ use Rattle.sa_drive.specs.declared.outcome.Outcome.{Outcome}
 use Rattle.sa_tree.specs.Rules.{rule_text}
 use Rattle.sa_tree.specs.Faults.{fault_text}
 use Rattle.sa_drive.specs.declared.cause.Cause.{Cause}
-use Rattle.sa_drive.specs.declared.cause.Cause.TheVariants.{Done, Refused, Fault, Stopped, Spent, StoreFault, InFault, OutFault, Usage, Malformed, Invalid, Unlinked, Segment, Trap, TooDeep, NotListing, NoMemory}
+use Rattle.sa_drive.specs.declared.cause.Cause.TheVariants.{Done, Refused, Fault, Stopped, Spent, StoreFault, InFault, OutFault, Usage}
+use Rattle.sa_drive.specs.declared.cause.Cause.TheVariants.{Malformed, Invalid, Unlinked, Segment, Trap, TooDeep, NotListing, NoMemory}
 
 -- the line of a place, from 1
 abbrev pub line_number : Sources → Pos → ℕ
@@ -75,7 +77,8 @@ told_statistics (Some steps) bytes = statistics steps bytes
 
 -- the lines of an outcome with this cause
 abbrev pub lines_of : Outcome → Cause → List ℕ
-lines_of outcome cause = line_of_cause outcome.sources outcome.file.now cause ++ told_statistics outcome.steps (length outcome.«module».items)
+lines_of outcome cause =
+    line_of_cause outcome.sources outcome.file.now cause ++ told_statistics outcome.steps (length outcome.«module».items)
 
 -- `selftest N: B bytes, status S`, which out takes
 abbrev pub selftest_line : ℕ → ℕ → ℕ → List ℕ

@@ -54,7 +54,8 @@ Ran input out fuel IsCause outcome =
     (run : Run) × IsRunOf input out outcome.«module».items fuel run × Shows fuel IsCause outcome run
 
 -- the bytes of the outcome spell a module that can be run, it was run with this fuel, and the outcome is that of the run
-pub record RanBuilt (input : Part Input) (out : Part (List ℕ)) (fuel : ℕ) (IsCause : (of_module : Cause) → (told : Cause) → Type 0) (outcome : Outcome) : Type 0 where
+pub record RanBuilt (input : Part Input) (out : Part (List ℕ)) (fuel : ℕ)
+    (IsCause : (of_module : Cause) → (told : Cause) → Type 0) (outcome : Outcome) : Type 0 where
   pub built : Module
   pub spelled : SpellsModule outcome.«module».items built
   pub runnable : IsRunnable built

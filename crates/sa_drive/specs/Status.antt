@@ -1,7 +1,8 @@
 -- The status of each cause.
 use Rattle.std.specs.Prelude.{ℕ}
 use Rattle.sa_drive.specs.declared.cause.Cause.{Cause}
-use Rattle.sa_drive.specs.declared.cause.Cause.TheVariants.{Done, Refused, Fault, Stopped, Spent, StoreFault, InFault, OutFault, Usage, Malformed, Invalid, Unlinked, Segment, Trap, TooDeep, NotListing, NoMemory}
+use Rattle.sa_drive.specs.declared.cause.Cause.TheVariants.{Done, Refused, Fault, Stopped, Spent, StoreFault, InFault, OutFault, Usage}
+use Rattle.sa_drive.specs.declared.cause.Cause.TheVariants.{Malformed, Invalid, Unlinked, Segment, Trap, TooDeep, NotListing, NoMemory}
 
 abbrev pub status_of : Cause → ℕ
 status_of Done = 0

@@ -4,7 +4,8 @@ ghost use Rattle.std.specs.Prelude.{◌≡◌, ◌≤◌, ◌<◌, ◌⊎◌, Al
 ghost use Rattle.sa_outside.specs.Faults.{Rose};
 ghost use Rattle.sa_read.specs.Front.{IsRefusalOf, IsTakenUpTo};
 ghost use Rattle.sa_drive.specs.Built.{IsTried};
-ghost use Rattle.sa_drive.specs.Files.{ComesOfFiles, ComesOfGenerated, Explains, ExplainsProgram, IsTakenGenerated, IsTakenProgram, generated_sources};
+ghost use Rattle.sa_drive.specs.Files.{ComesOfFiles, ComesOfGenerated, Explains, ExplainsProgram};
+ghost use Rattle.sa_drive.specs.Files.{IsTakenGenerated, IsTakenProgram, generated_sources};
 ghost use Rattle.sa_drive.specs.Lines.{IsPlaced};
 
 use crate::cause::Cause;
@@ -14,7 +15,7 @@ use sa_check::check;
 use sa_core::Core;
 use sa_gen::generate;
 use sa_outside::ReadFiles;
-use sa_read::{Parsed, Program, ReadFault, parse_program, prelude, read_program};
+use sa_read::{Program, ReadFault, classes, prelude, read_program};
 use sa_tree::{Class, FrontFault, Name, NoMemory, Refusal, Sources};
 use sa_words::ROOM;
 use sqlite_items::Items;
@@ -197,8 +198,8 @@ fn typed(alloc: Global, texts: &[Items<u8>]) -> Result<Core, Cause>
     ensures made { IfOk result (λ _. IsTakenUpTo texts.now (length texts.now)) }
     ensures fault { IfErr result (Explains texts.now) }
 {
-    let classes = match parse_program(alloc, texts) {
-        Ok(Parsed { classes, .. }) => classes,
+    let classes = match classes(alloc, texts) {
+        Ok(classes) => classes,
         Err(FrontFault::Refused(refusal)) => return Err(refused(refusal, texts)),
         Err(FrontFault::NoMemory) => return Err(Cause::NoMemory),
     };

@@ -1,7 +1,8 @@
 //! The lines on err.
 
 ghost use Rattle.std.specs.Prelude.{◌≡◌, ◌++◌, ◌∷◌, [], ◌<◌, ◌^◌, codes, map, decimal, length, slice_get, unwrap_or, IfOk, OnOk};
-ghost use Rattle.sa_drive.specs.Lines.{about_place, about_file, stop_line, listing_line, line_of_cause, lines_of, statistics, IsPlaced, IsInside};
+ghost use Rattle.sa_drive.specs.Lines.{about_place, about_file, stop_line, listing_line};
+ghost use Rattle.sa_drive.specs.Lines.{line_of_cause, lines_of, statistics, IsPlaced, IsInside};
 
 use crate::cause::Cause;
 use crate::outcome::Outcome;

@@ -3,7 +3,8 @@
 ghost use Rattle.std.specs.Prelude.{◌≡◌, ◌≢◌, ◌&&◌, [], None, Some, is_some, map, string_bytes};
 ghost use Rattle.sa_outside.specs.Output.{Grew};
 ghost use Rattle.sa_words.specs.Line.{line_in, line_of};
-ghost use Rattle.sa_drive.specs.Answer.{Does, IsTellable, Obeys, PrintsNone, ReadsNone, RunsNone, WritesNone, asks_stats, has_steps, module_file};
+ghost use Rattle.sa_drive.specs.Answer.{Does, IsTellable, Obeys, PrintsNone, ReadsNone};
+ghost use Rattle.sa_drive.specs.Answer.{RunsNone, WritesNone, asks_stats, has_steps, module_file};
 ghost use Rattle.sa_drive.specs.Ends.{ComesBeforeOutput};
 ghost use Rattle.sa_drive.specs.Lines.{IsPlaced};
 ghost use Rattle.sa_drive.specs.Report.{IsExitOf};

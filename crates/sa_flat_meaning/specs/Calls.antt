@@ -1,5 +1,6 @@
 -- What a call reaches, what it hands over and copies back, the run of a body, and what a bound value keeps.
-use Rattle.std.specs.Prelude.{ℕ, ◌+◌, ◌-◌, Bool, true, false, not, ◌&&◌, ◌==◌, nat_le, if◌then◌else◌, List, [], ◌∷◌, ◌++◌, map, length, drop, replicate, filter_map, Option, Some, None, is_some, option_map}
+use Rattle.std.specs.Prelude.{ℕ, ◌+◌, ◌-◌, Bool, true, false, not, ◌&&◌, ◌==◌, nat_le, if◌then◌else◌, List, [], ◌∷◌}
+use Rattle.std.specs.Prelude.{◌++◌, map, length, drop, replicate, filter_map, Option, Some, None, is_some, option_map}
 use Rattle.std.specs.Option.{option_map_or}
 use Rattle.sa_tree.specs.declared.fault_kind.FaultKind.TheVariants as fault_kind
 use Rattle.sa_tree.specs.declared.ty.Mode.{Mode}
@@ -24,7 +25,8 @@ use Rattle.sa_meaning.specs.Sequence.{◌>>=◌, ◌>>◌, pure, stop, or_stuck,
 use Rattle.sa_meaning.specs.State.{Object}
 use Rattle.sa_meaning.specs.Steps.{object_at, charge, object_size, add_object}
 use Rattle.sa_meaning.specs.Builtin.{builtins, builtin_call}
-use Rattle.sa_meaning.specs.Calls.{dynamic_type, is_raw, interleaved, only_given, single, filled, attribute, set_attribute, shared, set_shared}
+use Rattle.sa_meaning.specs.Calls.{dynamic_type, is_raw, interleaved, only_given, single}
+use Rattle.sa_meaning.specs.Calls.{filled, attribute, set_attribute, shared, set_shared}
 use Rattle.sa_meaning.specs.Instances.{set_anew}
 use Rattle.sa_flat_meaning.specs.Frames.{Activation, Ending, Returned, Raised, Handed, Way, Onward, Faulted}
 use Rattle.sa_flat_meaning.specs.Order.{Eval, turn, types_of, nowhere, within, if_abstract, read, put, put_given, this, enter, leave}
@@ -177,7 +179,9 @@ with_others b arguments = arguments ++ replicate (width b - length b.formals) Vo
 -- at the entry, where what is handed over is what the arguments want by their modes
 abbrev pub first_variables : FlatProgram → FlatBody → List Passed → Eval (List Value)
 first_variables p b given =
-    if all_fit given b.formals then or_stuck (option_map (with_others b) (filled (modes_of b) (void_formals p b) (values_of given))) else stuck
+    if all_fit given b.formals
+    then or_stuck (option_map (with_others b) (filled (modes_of b) (void_formals p b) (values_of given)))
+    else stuck
 
 -- At a resumption the arguments that aren't `once` are set anew, and those that come out are void.
 abbrev pub variables_anew : FlatProgram → FlatBody → List Passed → List Value → Eval (List Value)
@@ -222,7 +226,8 @@ module _ (p : FlatProgram) (go : ℕ → ℕ → Eval Ending) where
     pure (ending, variables)
 
   abbrev pub routine : ℕ → FlatBody → Value → List Value → ℕ → Activation
-  routine k b self variables depth = record { body = k; self = self; variables = variables; sites = no_frames b; frame = None; station = None; depth = depth }
+  routine k b self variables depth =
+      record { body = k; self = self; variables = variables; sites = no_frames b; frame = None; station = None; depth = depth }
 
   -- A body that was made for an implementation takes neither a turn nor depth.
   abbrev pub call_in : Activation → ℕ → FlatBody → Value → List Value → Eval (Ending × List Value)
@@ -242,7 +247,9 @@ module _ (p : FlatProgram) (go : ℕ → ℕ → Eval Ending) where
   simply gives f = f >>= (λ v. pure (Returned (if gives then Some v else None), []))
 
   abbrev pub run_builtin : ℕ → Value → List Passed → BuiltinFeature → Eval (Ending × List Value)
-  run_builtin class self given f = if_of p class self (simply (gives_value f) (within (builtin_call (types_of p) (Some class) nowhere self (only_given (values_of given)) f)))
+  run_builtin class self given f =
+      if_of p class self
+      (simply (gives_value f) (within (builtin_call (types_of p) (Some class) nowhere self (only_given (values_of given)) f)))
 
   abbrev pub run_reached : Callee → ℕ → Value → List Passed → Eval (Ending × List Value)
   run_reached (Body k) class self given = call_body k self given
@@ -288,7 +295,12 @@ read_all (var ∷ more) = do
 
 -- The class is the one whose feature is called. The receiver is kept as that class has it.
 abbrev pub bound_object : BindEntry → Target → ℕ → Value → List Value → Object
-bound_object e t class receiver kept = record { ty = e.ty; fields = unwrapped receiver ∷ kept; elements = []; binding = Some (record { target = t; class = class; is_open = e.open }) }
+bound_object e t class receiver kept = record {
+  ty = e.ty;
+  fields = unwrapped receiver ∷ kept;
+  elements = [];
+  binding = Some (record { target = t; class = class; is_open = e.open });
+}
 
 module _ (p : FlatProgram) (rows : List (List ℕ)) where
   -- For a signature the receiver chooses what the bound value calls. The call of a bound value isn't bound.

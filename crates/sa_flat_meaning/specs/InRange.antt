@@ -17,7 +17,9 @@ use Rattle.sa_flat.specs.declared.step.FlatConst.TheVariants as const
 use Rattle.sa_flat.specs.declared.step.FlatExit.{FlatExit}
 use Rattle.sa_flat.specs.declared.step.FlatExit.TheVariants.{Jump, Branch, Return, Suspend, Quit, Raise, Stop}
 use Rattle.sa_flat.specs.declared.step.FlatStep.{FlatStep}
-use Rattle.sa_flat.specs.declared.step.FlatStep.TheVariants.{Const, Move, Me, IsVoid, Turn, New, NewArray, PutItem, Widen, WidenFor, Unwrap, TypeIs, NotVoid, InitShared, Call, Bind, HasEntry, Start, Resume, HasFrame, Enter, Release, Raising}
+use Rattle.sa_flat.specs.declared.step.FlatStep.TheVariants.{Const, Move, Me, IsVoid, Turn, New, NewArray, PutItem, Widen}
+use Rattle.sa_flat.specs.declared.step.FlatStep.TheVariants.{WidenFor, Unwrap, TypeIs, NotVoid, InitShared, Call, Bind}
+use Rattle.sa_flat.specs.declared.step.FlatStep.TheVariants.{HasEntry, Start, Resume, HasFrame, Enter, Release, Raising}
 use Rattle.sa_meaning.specs.Builtin.{builtins}
 use Rattle.sa_flat_meaning.specs.Calls.{width}
 
@@ -107,7 +109,8 @@ module _ (p : FlatProgram) (rows : List (List ℕ)) (b : FlatBody) where
   IsStep (NewArray to ty count fail) = IsVariable b to × IsType p ty × IsVariable b count × IsFail fail
   IsStep (PutItem array ty at value) = IsVariable b array × IsType p ty × IsVariable b at × IsVariable b value
   IsStep (Widen to from ty fail) = IsVariable b to × IsVariable b from × IsType p ty × IsFail fail
-  IsStep (WidenFor to from ty recv types fail) = IsVariable b to × IsVariable b from × IsType p ty × IsVariable b recv × All (IsType p) types × IsFail fail
+  IsStep (WidenFor to from ty recv types fail) =
+      IsVariable b to × IsVariable b from × IsType p ty × IsVariable b recv × All (IsType p) types × IsFail fail
   IsStep (Unwrap to from ty) = IsVariable b to × IsVariable b from × IsType p ty
   IsStep (TypeIs to from ty) = IsVariable b to × IsVariable b from × IsType p ty
   IsStep (NotVoid from fail) = IsVariable b from × IsFail fail
@@ -118,7 +121,8 @@ module _ (p : FlatProgram) (rows : List (List ℕ)) (b : FlatBody) where
   IsStep (Start site plan quit) = IsSite b site × IsPlan plan × IsVariable b quit
   IsStep (Resume site plan quit) = IsSite b site × IsPlan plan × IsVariable b quit
   IsStep (HasFrame to) = IsVariable b to
-  IsStep (Enter body recv args value quit) = CanEnter p body × IsVariable b recv × All (IsArgument b) args × IfSome value (IsVariable b) × IsVariable b quit
+  IsStep (Enter body recv args value quit) =
+      CanEnter p body × IsVariable b recv × All (IsArgument b) args × IfSome value (IsVariable b) × IsVariable b quit
   IsStep (Release sites) = All (IsSite b) sites
   IsStep (Raising value place to) = IsVariable b value × IsPlace p place × IsRaised b to
 

@@ -1,5 +1,6 @@
 -- Instances of iters: their frames, starts and resumptions, suspensions and ends.
-use Rattle.std.specs.Prelude.{ℕ, zero, suc, ◌+◌, ◌-◌, Bool, true, false, not, ◌==◌, nat_le, if◌then◌else◌, List, [], ◌∷◌, ◌++◌, length, set, Option, Some, None, is_some}
+use Rattle.std.specs.Prelude.{ℕ, zero, suc, ◌+◌, ◌-◌, Bool, true, false, not, ◌==◌, nat_le, if◌then◌else◌}
+use Rattle.std.specs.Prelude.{List, [], ◌∷◌, ◌++◌, length, set, Option, Some, None, is_some}
 use Rattle.sa_tree.specs.declared.fault_kind.FaultKind.TheVariants as fault_kind
 use Rattle.sa_flat.specs.declared.body.FlatBody.{FlatBody}
 use Rattle.sa_flat.specs.declared.call.Callee.{Callee}
@@ -11,10 +12,12 @@ use Rattle.sa_meaning.specs.Value.{Value, Truth}
 use Rattle.sa_meaning.specs.Sequence.{resolve, ◌>>=◌, ◌>>◌, pure, stop, or_stuck, at_place, look, change, with_place, stuck}
 use Rattle.sa_meaning.specs.State as language
 use Rattle.sa_meaning.specs.Calls.{is_once}
-use Rattle.sa_flat_meaning.specs.Frames.{Frame, Station, Activation, Ending, Suspended, Ended, Raised, Handed, Way, Onward, Leaving, Cause, Faulted}
+use Rattle.sa_flat_meaning.specs.Frames.{Frame, Station, Activation, Ending, Suspended, Ended}
+use Rattle.sa_flat_meaning.specs.Frames.{Raised, Handed, Way, Onward, Leaving, Cause, Faulted}
 use Rattle.sa_flat_meaning.specs.Order.{Eval, count, turn, read, write, put_given, this}
 use Rattle.sa_flat_meaning.specs.Faults.{raised}
-use Rattle.sa_flat_meaning.specs.Calls.{Passed, passed, passed_by, copied_back, all_passed, reached, void_formals, with_others, first_variables, variables_anew, no_frames, checked_depth, run_body}
+use Rattle.sa_flat_meaning.specs.Calls.{Passed, passed, passed_by, copied_back, all_passed, reached, void_formals}
+use Rattle.sa_flat_meaning.specs.Calls.{with_others, first_variables, variables_anew, no_frames, checked_depth, run_body}
 
 -- ---- frames and sites
 
@@ -125,12 +128,23 @@ checked_live = look (λ s. s.world.live) >>= (λ live. if nat_le 10000 live then
 abbrev pub after_run : Station → ℕ → Ending × List Value → Eval (Ending × List Value)
 after_run at number (Suspended v frame, variables) = tell (language.Yields at.feature at.site number) >> pure (Suspended v frame, variables)
 after_run at number (Ended, variables) = ends at.feature at.site number language.Quits >> pure (Ended, variables)
-after_run at number (Raised v place kind, variables) = ends at.feature at.site number language.Abandon >> pure (Raised v place kind, variables)
+after_run at number (Raised v place kind, variables) =
+    ends at.feature at.site number language.Abandon >> pure (Raised v place kind, variables)
 after_run at number _ = stuck
 
 -- that of a start, before block 0
 abbrev pub new_frame : Station → ℕ → ℕ → FlatBody → Value → List Value → ℕ → Frame
-new_frame at entered feature b self variables number = record { number = number; body = entered; feature = feature; called = at.called; block = 0; self = self; through = at.through; variables = variables; sites = no_frames b }
+new_frame at entered feature b self variables number = record {
+  number = number;
+  body = entered;
+  feature = feature;
+  called = at.called;
+  block = 0;
+  self = self;
+  through = at.through;
+  variables = variables;
+  sites = no_frames b;
+}
 
 -- From a block and a place in it on, `go` runs a body.
 module _ (p : FlatProgram) (go : ℕ → ℕ → Eval Ending) where
@@ -139,7 +153,15 @@ module _ (p : FlatProgram) (go : ℕ → ℕ → Eval Ending) where
   run_instance at k b frame = do
     caller ← this
     count b.sites
-    r ← run_body p go frame.block (record { body = k; self = frame.self; variables = frame.variables; sites = frame.sites; frame = Some frame.number; station = None; depth = caller.depth + 1 })
+    r ← run_body p go frame.block (record {
+      body = k;
+      self = frame.self;
+      variables = frame.variables;
+      sites = frame.sites;
+      frame = Some frame.number;
+      station = None;
+      depth = caller.depth + 1;
+    })
     after_run at frame.number r
 
   -- a new frame, for a feature's body that is reached by way of a body or itself
@@ -196,7 +218,15 @@ module _ (p : FlatProgram) (go : ℕ → ℕ → Eval Ending) where
   abbrev pub run_for : Station → ℕ → FlatBody → Value → Option ℕ → List Value → Eval (Ending × List Value)
   run_for at k b self frame variables = do
     caller ← this
-    run_body p go 0 (record { body = k; self = self; variables = variables; sites = no_frames b; frame = frame; station = Some at; depth = caller.depth })
+    run_body p go 0 (record {
+      body = k;
+      self = self;
+      variables = variables;
+      sites = no_frames b;
+      frame = frame;
+      station = Some at;
+      depth = caller.depth;
+    })
 
   abbrev pub started : Station → ℕ → Value → List Passed → Eval (Ending × List Value)
   started at k self given = do

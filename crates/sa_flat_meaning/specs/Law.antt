@@ -15,7 +15,8 @@ module _ (p : FlatProgram) (rows : List (List ℕ)) where
   -- A run from the place of a step does this step, and then what it leads to.
   abbrev pub RunsSteps : Type 0
   RunsSteps = (level block place : ℕ) (a : FlatStep) (s : State) → HasStep p s.here.body block place a →
-      run_from p rows (suc level) block place s ≡ (count 1 >> (step p rows (run_from p rows level) a >>= next (run_from p rows level) block place)) s
+      run_from p rows (suc level) block place s
+      ≡ (count 1 >> (step p rows (run_from p rows level) a >>= next (run_from p rows level) block place)) s
 
   -- a run from the place of an exit
   abbrev pub RunsExits : Type 0
@@ -24,4 +25,5 @@ module _ (p : FlatProgram) (rows : List (List ℕ)) where
 
   -- More levels than steps that are left make no difference.
   abbrev pub HasLevels : Type 0
-  HasLevels = (level block place : ℕ) (s : State) → s.steps ≤ level → run_from p rows level block place s ≡ run_from p rows s.steps block place s
+  HasLevels =
+      (level block place : ℕ) (s : State) → s.steps ≤ level → run_from p rows level block place s ≡ run_from p rows s.steps block place s

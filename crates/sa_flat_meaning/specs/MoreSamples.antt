@@ -11,10 +11,13 @@ use Rattle.sa_flat.specs.declared.program.Layout.{Layout}
 use Rattle.sa_flat.specs.declared.step.FlatConst.TheVariants as const
 use Rattle.sa_flat.specs.declared.step.FlatExit.TheVariants.{Jump, Branch, Return, Suspend, Quit, Stop}
 use Rattle.sa_flat.specs.declared.step.FlatStep.{FlatStep}
-use Rattle.sa_flat.specs.declared.step.FlatStep.TheVariants.{Const, Move, Me, Turn, New, Widen, Unwrap, TypeIs, InitShared, Call, Start, Resume, HasFrame, Enter}
+use Rattle.sa_flat.specs.declared.step.FlatStep.TheVariants.{Const, Move, Me, Turn, New, Widen, Unwrap, TypeIs}
+use Rattle.sa_flat.specs.declared.step.FlatStep.TheVariants.{InitShared, Call, Start, Resume, HasFrame, Enter}
 use Rattle.sa_meaning.specs.Value.{bool_type, int_type, str_type}
 use Rattle.sa_meaning.specs.Program.{Signature}
-use Rattle.sa_flat_meaning.specs.Samples.{leaving, fails_to, fails, block, blocks, args, plan, int, of_type, plus, main_type, out_type, own_type, put_int, layout, layouts, body, formal, program, iter_body, upto, looping_from, iter_plan}
+use Rattle.sa_flat_meaning.specs.Samples.{leaving, fails_to, fails, block, blocks, args, plan, int, of_type}
+use Rattle.sa_flat_meaning.specs.Samples.{plus, main_type, out_type, own_type, put_int, layout, layouts}
+use Rattle.sa_flat_meaning.specs.Samples.{body, formal, program, iter_body, upto, looping_from, iter_plan}
 
 -- the program where the types of its own have these layouts
 abbrev pub with_own : List Layout → FlatProgram → FlatProgram
@@ -34,8 +37,10 @@ initialises = with_own (layout kind.Immutable (int_type ∷ []) ∷ []) (record 
   bodies =
       body (Some 0) [] 2 (blocks (block (
       of_type 203 out_type ∷ of_type 204 own_type ∷ Call (plan (GetShared 0) own_type 204 [] (Some 205)) ∷ put_int 203 205 ∷
-      of_type 203 own_type ∷ Call (plan (GetShared 1) own_type 203 [] (Some 204)) ∷ Move 0 204 ∷ TypeIs 203 0 own_type ∷ []) (Branch 203 2 3)) (
-      block (Unwrap 1 0 own_type ∷ of_type 203 out_type ∷ text 204 0 ∷ Call (plan (Builtin 24) out_type 203 (args In (204 ∷ [])) None) ∷ []) (Return None) ∷
+      of_type 203 own_type ∷ Call (plan (GetShared 1) own_type 203 [] (Some 204)) ∷
+      Move 0 204 ∷ TypeIs 203 0 own_type ∷ []) (Branch 203 2 3)) (
+      block (Unwrap 1 0 own_type ∷ of_type 203 out_type ∷ text 204 0 ∷ Call (plan (Builtin 24) out_type 203 (args In (204 ∷ [])) None) ∷ [])
+      (Return None) ∷
       block (of_type 203 out_type ∷ text 204 1 ∷ Call (plan (Builtin 24) out_type 203 (args In (204 ∷ [])) None) ∷ []) (Return None) ∷ []))
       ∷ body None [] 0 (blocks (block (
       Turn ∷ of_type 203 own_type ∷ Call (plan (Get 0) own_type 203 [] (Some 204)) ∷ int 205 1 ∷ plus 206 204 205 ∷ InitShared 0 206 ∷
@@ -49,7 +54,8 @@ initialises = with_own (layout kind.Immutable (int_type ∷ []) ∷ []) (record 
 -- main is s ::= "123456789"; s := s + s; end
 abbrev pub joining : FlatProgram
 joining = record (program (body (Some 0) [] 0 (blocks (block (
-    text 203 0 ∷ Call (plan (Builtin 21) str_type 203 (args In (203 ∷ [])) (Some 204)) ∷ []) (Return None)) []) ∷ []) [] []) { texts = codes "123456789" ∷ [] }
+    text 203 0 ∷ Call (plan (Builtin 21) str_type 203 (args In (203 ∷ [])) (Some 204)) ∷ []) (Return None)) []) ∷ []) [] [])
+    { texts = codes "123456789" ∷ [] }
 
 -- ---- widening
 
@@ -64,14 +70,17 @@ abbrev pub widening_in_two_stages : FlatProgram
 widening_in_two_stages = program (
     body (Some 0) [] 4 (blocks (block (
     New 203 own_type fails ∷ Move 0 203 ∷ of_type 203 0 ∷ Move 1 203 ∷ of_type 203 0 ∷ Move 2 203 ∷
-    Call (plan (Dispatch 0) 0 0 (args Out (203 ∷ 204 ∷ [])) None) ∷ Widen 1 203 int_type fails ∷ Move 2 204 ∷ TypeIs 203 1 int_type ∷ []) (Branch 203 2 3)) (
+    Call (plan (Dispatch 0) 0 0 (args Out (203 ∷ 204 ∷ [])) None) ∷
+    Widen 1 203 int_type fails ∷ Move 2 204 ∷ TypeIs 203 1 int_type ∷ []) (Branch 203 2 3)) (
     block (Unwrap 3 1 int_type ∷ puts_int) (Jump 3) ∷
     block (TypeIs 203 2 int_type ∷ []) (Branch 203 4 5) ∷
     block (Unwrap 3 2 int_type ∷ puts_int) (Jump 5) ∷
     block [] (Return None) ∷ [])) ∷
-    body (Some 1) (formal Out int_type ∷ formal Out int_type ∷ []) 2 (blocks (block (int 203 1 ∷ Move 0 203 ∷ int 203 2 ∷ Move 1 203 ∷ []) (Return None)) []) ∷
+    body (Some 1) (formal Out int_type ∷ formal Out int_type ∷ []) 2
+    (blocks (block (int 203 1 ∷ Move 0 203 ∷ int 203 2 ∷ Move 1 203 ∷ []) (Return None)) []) ∷
     body None (formal Out int_type ∷ formal Out 0 ∷ []) 2 (blocks (block (
-    Me 203 ∷ Call (plan (Body 1) own_type 203 (args Out (0 ∷ 204 ∷ [])) None) ∷ Widen 1 204 int_type fails ∷ []) (Return None)) []) ∷ []) (2 ∷ []) []
+    Me 203 ∷ Call (plan (Body 1) own_type 203 (args Out (0 ∷ 204 ∷ [])) None) ∷ Widen 1 204 int_type fails ∷ []) (Return None)) []) ∷ [])
+    (2 ∷ []) []
 
 -- the type behind the first of the program's own
 abbrev pub other_type : ℕ
@@ -84,7 +93,8 @@ abbrev pub widening_once_first : FlatProgram
 widening_once_first = with_own (layout kind.Reference [] ∷ layout kind.Immutable (int_type ∷ int_type ∷ int_type ∷ []) ∷ []) (program (
     looping_from [] (New 206 own_type fails ∷ of_type 209 other_type ∷ int 207 7 ∷ [])
     (record (iter_plan (Dispatch 0) []) { args = args In (207 ∷ []) ++ args Once (209 ∷ []) }) (put_int 203 208 ∷ []) (Jump 9) ∷
-    iter_body (Some 1) (formal In 0 ∷ formal Once 0 ∷ []) 2 (blocks (block (int 203 1 ∷ []) (Suspend (Some 203) (Some 2))) (block [] Quit ∷ [])) ∷
+    iter_body (Some 1) (formal In 0 ∷ formal Once 0 ∷ []) 2
+    (blocks (block (int 203 1 ∷ []) (Suspend (Some 203) (Some 2))) (block [] Quit ∷ [])) ∷
     iter_body None (formal In int_type ∷ formal Once other_type ∷ []) 2 (blocks (block (HasFrame 203 ∷ []) (Branch 203 3 2)) (
     block (Me 204 ∷ Widen 205 1 other_type fails ∷ []) (Jump 3) ∷
     block (Widen 206 0 int_type fails ∷ Enter 1 204 (args In (206 ∷ []) ++ args Once (205 ∷ [])) (Some 207) 208 ∷ []) (Branch 208 4 5) ∷
@@ -149,7 +159,8 @@ sets_no_variable = doing (int 300 7 ∷ [])
 abbrev pub resumes_other : FlatProgram
 resumes_other = program (
     record (body (Some 0) [] 0 (blocks (block (
-    Me 206 ∷ int 207 3 ∷ Start 0 (iter_plan (Body 1) (207 ∷ [])) 205 ∷ Resume 0 (iter_plan Bound []) 205 ∷ []) (Return None)) [])) { sites = 1 } ∷ upto ∷ []) [] []
+    Me 206 ∷ int 207 3 ∷ Start 0 (iter_plan (Body 1) (207 ∷ [])) 205 ∷ Resume 0 (iter_plan Bound []) 205 ∷ []) (Return None)) []))
+    { sites = 1 } ∷ upto ∷ []) [] []
 
 -- ---- bound values
 

@@ -34,7 +34,8 @@ abbrev pub type_row : Layout → TypeRow
 type_row t = record { kind = t.kind; attrs = t.attrs; elem = t.elem; above = t.above; wide_args = []; wide = false }
 
 abbrev pub types_of : FlatProgram → Program
-types_of p = record { types = map type_row p.layouts; features = []; signatures = []; shareds = []; main = 0; feeds = []; faults_raise = true }
+types_of p =
+    record { types = map type_row p.layouts; features = []; signatures = []; shareds = []; main = 0; feeds = []; faults_raise = true }
 
 -- a position that is told to nothing
 abbrev pub nowhere : Pos

@@ -11,7 +11,8 @@ use Rattle.sa_meaning.specs.Sequence.{◌>>=◌, ◌>>◌, pure, at_place, Gives
 use Rattle.sa_meaning.specs.State as language
 use Rattle.sa_meaning.specs.Run as whole
 use Rattle.sa_meaning.specs.Run.{End, status_of}
-use Rattle.sa_flat_meaning.specs.Frames.{Activation, State, Ending, Returned, Raised, Way, Onward, To, Leaving, Failed, InputFailed, Outcome}
+use Rattle.sa_flat_meaning.specs.Frames.{Activation, State, Ending, Returned, Raised, Way}
+use Rattle.sa_flat_meaning.specs.Frames.{Onward, To, Leaving, Failed, InputFailed, Outcome}
 use Rattle.sa_flat_meaning.specs.Order.{Eval, count, types_of, this}
 use Rattle.sa_flat_meaning.specs.Calls.{first_variables, run_body, routine}
 use Rattle.sa_flat_meaning.specs.Steps.{step}

@@ -21,7 +21,8 @@ use Rattle.sa_flat.specs.declared.step.FlatConst.TheVariants as const
 use Rattle.sa_flat.specs.declared.step.FlatExit.{FlatExit}
 use Rattle.sa_flat.specs.declared.step.FlatExit.TheVariants.{Jump, Branch, Return, Suspend, Quit, Raise}
 use Rattle.sa_flat.specs.declared.step.FlatStep.{FlatStep}
-use Rattle.sa_flat.specs.declared.step.FlatStep.TheVariants.{Const, Move, Me, Turn, New, Widen, WidenFor, Unwrap, TypeIs, Call, Bind, HasEntry, Start, Resume, HasFrame, Enter, Release}
+use Rattle.sa_flat.specs.declared.step.FlatStep.TheVariants.{Const, Move, Me, Turn, New, Widen, WidenFor, Unwrap, TypeIs}
+use Rattle.sa_flat.specs.declared.step.FlatStep.TheVariants.{Call, Bind, HasEntry, Start, Resume, HasFrame, Enter, Release}
 use Rattle.sa_meaning.specs.Value.{int_type, fault_type}
 
 -- ---- words for flat programs, all of whose faults stand at one place
@@ -92,7 +93,8 @@ layouts =
     layout kind.Reference (int_type ∷ int_type ∷ []) ∷ layout kind.Reference [] ∷ layout kind.Reference [] ∷ layout kind.Reference [] ∷ []
 
 abbrev pub body : Option ℕ → List FlatFormal → ℕ → List FlatBlock → FlatBody
-body feature formals own blocks = record { feature = feature; iter = false; formals = formals; own = own; temporaries = 220; sites = 0; kept = []; blocks = blocks }
+body feature formals own blocks =
+    record { feature = feature; iter = false; formals = formals; own = own; temporaries = 220; sites = 0; kept = []; blocks = blocks }
 
 abbrev pub formal : Mode → ℕ → FlatFormal
 formal mode ty = record { mode = mode; ty = ty }
@@ -125,7 +127,15 @@ overflowing = program (body (Some 0) [] 1 (blocks (block (
 abbrev pub caught : FlatProgram
 caught = program (body (Some 0) [] 1 (blocks (block (
     int 203 2147483647 ∷ Move 0 203 ∷
-    int 203 1 ∷ Call (record { callee = Builtin 2; class = int_type; recv = 0; args = args In (203 ∷ []); value = Some 204; fail = fails_to (record { block = 3; value = 210; place = 211; kind = 212 }) }) ∷
+    int 203 1 ∷
+    Call (record {
+      callee = Builtin 2;
+      class = int_type;
+      recv = 0;
+      args = args In (203 ∷ []);
+      value = Some 204;
+      fail = fails_to (record { block = 3; value = 210; place = 211; kind = 212 });
+    }) ∷
     Move 0 204 ∷ []) (Jump 2)) (
     block [] (Return None) ∷
     block (TypeIs 203 210 fault_type ∷ []) (Branch 203 4 5) ∷
@@ -145,7 +155,11 @@ summing = program (body (Some 0) [] 2 (blocks (block (int 203 0 ∷ Move 0 203 �
 -- twice(n:INT):INT is return n + n; end
 abbrev pub calling : FlatProgram
 calling = program (
-    body (Some 0) [] 0 (blocks (block (of_type 203 out_type ∷ Me 204 ∷ int 205 21 ∷ Call (plan (Body 1) main_type 204 (args In (205 ∷ [])) (Some 206)) ∷ put_int 203 206 ∷ []) (Return None)) []) ∷
+    body (Some 0) [] 0 (blocks
+    (block
+    (of_type 203 out_type ∷ Me 204 ∷ int 205 21 ∷ Call (plan (Body 1) main_type 204 (args In (205 ∷ [])) (Some 206)) ∷ put_int 203 206 ∷ [])
+    (Return None))
+    []) ∷
     body (Some 1) (formal In int_type ∷ []) 1 (blocks (block (plus 203 0 0 ∷ []) (Return (Some 203))) []) ∷ []) [] []
 
 -- main is deeper; end
@@ -158,11 +172,13 @@ deep = program (body (Some 0) [] 0 (blocks (block (Me 203 ∷ Call (plan (Body 0
 -- f:INT is return 7; end, in a class B < $A
 abbrev pub widening_of : FlatStep → FlatProgram
 widening_of first = program (
-    body (Some 0) [] 3 (blocks (block (first ∷ Move 0 203 ∷ Call (plan (Dispatch 0) 0 0 [] (Some 203)) ∷ Move 1 203 ∷ TypeIs 203 1 int_type ∷ []) (Branch 203 2 3)) (
+    body (Some 0) [] 3 (blocks
+    (block (first ∷ Move 0 203 ∷ Call (plan (Dispatch 0) 0 0 [] (Some 203)) ∷ Move 1 203 ∷ TypeIs 203 1 int_type ∷ []) (Branch 203 2 3)) (
     block (Unwrap 2 1 int_type ∷ of_type 203 out_type ∷ put_int 203 2 ∷ []) (Jump 3) ∷
     block [] (Return None) ∷ [])) ∷
     body (Some 1) [] 0 (blocks (block (int 203 7 ∷ []) (Return (Some 203))) []) ∷
-    body None [] 0 (blocks (block (Me 203 ∷ Call (plan (Body 1) own_type 203 [] (Some 204)) ∷ Widen 205 204 int_type fails ∷ []) (Return (Some 205))) []) ∷ []) (2 ∷ []) []
+    body None [] 0 (blocks (block (Me 203 ∷ Call (plan (Body 1) own_type 203 [] (Some 204))
+    ∷ Widen 205 204 int_type fails ∷ []) (Return (Some 205))) []) ∷ []) (2 ∷ []) []
 
 abbrev pub widening : FlatProgram
 widening = widening_of (New 203 own_type fails)
@@ -217,13 +233,15 @@ keeping = program (
     block (Unwrap 1 0 int_type ∷ []) (Return (Some 1)) ∷
     block (int 203 0 ∷ []) (Return (Some 203)) ∷ [])) ∷
     body None (formal In int_type ∷ []) 1 (blocks (block (
-    Me 203 ∷ Widen 204 0 int_type fails ∷ Call (plan (Body 1) own_type 203 (args In (204 ∷ [])) (Some 205)) ∷ []) (Return (Some 205))) []) ∷ [])
+    Me 203 ∷ Widen 204 0 int_type fails ∷ Call (plan (Body 1) own_type 203 (args In (204 ∷ [])) (Some 205)) ∷ []) (Return (Some 205))) [])
+    ∷ [])
     (2 ∷ []) (record { ty = own_type; callee = Dispatch 0; class = 0; «open» = false ∷ [] } ∷ [])
 
 -- ---- iters
 
 abbrev pub iter_body : Option ℕ → List FlatFormal → ℕ → List FlatBlock → FlatBody
-iter_body feature formals own blocks = record { feature = feature; iter = true; formals = formals; own = own; temporaries = 220; sites = 0; kept = []; blocks = blocks }
+iter_body feature formals own blocks =
+    record { feature = feature; iter = true; formals = formals; own = own; temporaries = 220; sites = 0; kept = []; blocks = blocks }
 
 -- upto!(once n:INT):INT is i ::= 0; loop while!(i < n); yield i; i := i + 1; end; end
 abbrev pub upto : FlatBody
@@ -238,7 +256,8 @@ abbrev pub out_of_loop : Raised
 out_of_loop = record { block = 8; value = 200; place = 201; kind = 202 }
 
 abbrev pub iter_plan : Callee → List ℕ → CallPlan
-iter_plan callee vars = record { callee = callee; class = main_type; recv = 206; args = args Once vars; value = Some 208; fail = fails_to out_of_loop }
+iter_plan callee vars =
+    record { callee = callee; class = main_type; recv = 206; args = args Once vars; value = Some 208; fail = fails_to out_of_loop }
 
 -- The first steps, and then a loop each round of which has a call of an iter and what comes behind it; where the loop is left,
 -- its instance is released, and the body ends by the last exit.
@@ -254,7 +273,8 @@ loop_blocks first operands plan round exit last = blocks (block first (Jump 2)) 
     block (Release (0 ∷ []) ∷ []) (Jump 3) ∷ [])
 
 abbrev pub looping_from : List FlatStep → List FlatStep → CallPlan → List FlatStep → FlatExit → FlatBody
-looping_from first operands plan round exit = record (body (Some 0) [] 1 (loop_blocks first operands plan round exit (Return None))) { sites = 1 }
+looping_from first operands plan round exit =
+    record (body (Some 0) [] 1 (loop_blocks first operands plan round exit (Return None))) { sites = 1 }
 
 abbrev pub looping : FlatStep → Callee → List FlatStep → FlatExit → FlatBody
 looping receiver callee = looping_from [] (receiver ∷ int 207 3 ∷ []) (iter_plan callee (207 ∷ []))
@@ -296,7 +316,17 @@ widening_once = program (
 -- main is loop upto!(3); x ::= 2147483647; x := x + 1; end; end
 -- The raise releases the instance that is suspended.
 abbrev pub failing : FlatProgram
-failing = program (looping (Me 206) (Body 1) (int 210 2147483647 ∷ int 211 1 ∷ Call (record { callee = Builtin 2; class = int_type; recv = 210; args = args In (211 ∷ []); value = Some 212; fail = fails_to out_of_loop }) ∷ []) (Jump 2) ∷ upto ∷ []) [] []
+failing =
+    program
+    (looping (Me 206) (Body 1)
+    (int 210 2147483647 ∷ int 211 1
+    ∷ Call
+    (record { callee = Builtin 2; class = int_type; recv = 210; args = args In (211 ∷ []); value = Some 212; fail = fails_to out_of_loop })
+    ∷ [])
+    (Jump 2)
+    ∷ upto
+    ∷ [])
+    [] []
 
 -- main is loop #OUT + broken!(3); end; end
 -- broken!(once n:INT):INT is yield n; n := n + 2147483647; end
@@ -312,7 +342,8 @@ swapping = program (
     body (Some 0) [] 2 (blocks (block (int 203 1 ∷ Move 0 203 ∷ int 203 2 ∷ Move 1 203 ∷
     Me 203 ∷ Call (plan (Body 1) main_type 203 (args Inout (0 ∷ 1 ∷ [])) None) ∷
     of_type 203 out_type ∷ put_int 203 0 ∷ of_type 203 out_type ∷ put_int 203 1 ∷ []) (Return None)) []) ∷
-    body (Some 1) (formal Inout int_type ∷ formal Inout int_type ∷ []) 3 (blocks (block (Move 2 0 ∷ Move 0 1 ∷ Move 1 2 ∷ []) (Return None)) []) ∷ []) [] []
+    body (Some 1) (formal Inout int_type ∷ formal Inout int_type ∷ []) 3
+    (blocks (block (Move 2 0 ∷ Move 0 1 ∷ Move 1 2 ∷ []) (Return None)) []) ∷ []) [] []
 
 -- main is r ::= bind(upto!(3)); loop #OUT + r.call!; end; end
 abbrev pub bound_iter : FlatProgram
@@ -326,4 +357,5 @@ bound_iter = program (
 abbrev pub nested : FlatProgram
 nested = program (
     looping_from [] (Me 206 ∷ []) (iter_plan (Body 2) []) (put_int 203 208 ∷ []) (Jump 9) ∷ upto ∷
-    record (iter_body (Some 2) [] 0 (loop_blocks [] (Me 206 ∷ int 207 3 ∷ []) (iter_plan (Body 1) (207 ∷ [])) [] (Suspend (Some 208) (Some 2)) Quit)) { sites = 1 } ∷ []) [] []
+    record (iter_body (Some 2) [] 0 (loop_blocks [] (Me 206 ∷ int 207 3 ∷ [])
+    (iter_plan (Body 1) (207 ∷ [])) [] (Suspend (Some 208) (Some 2)) Quit)) { sites = 1 } ∷ []) [] []

@@ -6,7 +6,9 @@ use Rattle.sa_tree.specs.Faults.{fault_number}
 use Rattle.sa_flat.specs.declared.step.FlatConst.{FlatConst}
 use Rattle.sa_flat.specs.declared.step.FlatConst.TheVariants as const
 use Rattle.sa_flat.specs.declared.step.FlatStep.{FlatStep}
-use Rattle.sa_flat.specs.declared.step.FlatStep.TheVariants.{Const, Move, Me, IsVoid, Turn, New, NewArray, PutItem, Widen, WidenFor, Unwrap, TypeIs, NotVoid, InitShared, Call, Bind, HasEntry, Start, Resume, HasFrame, Enter, Release, Raising}
+use Rattle.sa_flat.specs.declared.step.FlatStep.TheVariants.{Const, Move, Me, IsVoid, Turn, New, NewArray, PutItem, Widen}
+use Rattle.sa_flat.specs.declared.step.FlatStep.TheVariants.{WidenFor, Unwrap, TypeIs, NotVoid, InitShared, Call, Bind}
+use Rattle.sa_flat.specs.declared.step.FlatStep.TheVariants.{HasEntry, Start, Resume, HasFrame, Enter, Release, Raising}
 use Rattle.sa_flat.specs.declared.program.FlatProgram.{FlatProgram}
 use Rattle.sa_meaning.specs.Value.{Value, Int, Truth, Char, Text, Wide, is_void, is_nothing, as_int, as_object, unwrapped}
 use Rattle.sa_meaning.specs.Program.{void_of}
@@ -75,7 +77,8 @@ module _ (p : FlatProgram) where
 
   -- what a bind keeps of a value: it is widened where the class of the receiver is one of the types
   abbrev pub kept_as : Value → List ℕ → Option ℕ → Eval Value
-  kept_as v types dynamic = within (widened_if (types_of p) nowhere (option_map_or (λ class. is_some (find (λ ty. ty == class) types)) dynamic false) v)
+  kept_as v types dynamic =
+      within (widened_if (types_of p) nowhere (option_map_or (λ class. is_some (find (λ ty. ty == class) types)) dynamic false) v)
 
   abbrev pub kept_for : ℕ → ℕ → ℕ → List ℕ → Eval Value
   kept_for from ty recv types = do
@@ -92,7 +95,9 @@ put_item array ty at value = do
   number ← or_stuck (as_object a)
   place ← or_stuck (as_int i)
   o ← within (object_at number)
-  if o.ty == ty && is_place place (length o.elements) then within (set_object number (record o { elements = set o.elements (place_of place) v })) else stuck
+  if o.ty == ty && is_place place (length o.elements)
+      then within (set_object number (record o { elements = set o.elements (place_of place) v }))
+      else stuck
 
 abbrev pub not_void : Value → Eval Way
 not_void v = if is_nothing v then stop (Faulted fault_kind.Void) else if_abstract v (pure Onward)

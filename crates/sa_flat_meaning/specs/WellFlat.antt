@@ -1,5 +1,6 @@
 -- Flat programs whose numbers are in range, whose sizes have bounds, and which read no variable that isn't there.
-use Rattle.std.specs.Prelude.{◌≡◌, ◌≢◌, ℕ, ◌+◌, ◌-◌, ◌<◌, ◌≤◌, ◌↔◌, Bool, false, IsTrue, List, [], ◌∷◌, map, length, take, drop, slice_get, sum_by, unwrap_or, All, AllPairs, Contains, Some, None, IfSome, is_some}
+use Rattle.std.specs.Prelude.{◌≡◌, ◌≢◌, ℕ, ◌+◌, ◌-◌, ◌<◌, ◌≤◌, ◌↔◌, Bool, false, IsTrue, List, [], ◌∷◌, map, length, take}
+use Rattle.std.specs.Prelude.{drop, slice_get, sum_by, unwrap_or, All, AllPairs, Contains, Some, None, IfSome, is_some}
 use Rattle.std.specs.Option.{option_map_or}
 use Rattle.sa_tree.specs.declared.class.Kind.{Kind}
 use Rattle.sa_tree.specs.declared.class.Kind.TheVariants as kind

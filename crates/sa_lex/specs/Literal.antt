@@ -1,5 +1,6 @@
 -- Characters and texts.
-use Rattle.std.specs.Prelude.{not, ℕ, zero, suc, ◌+◌, ◌-◌, Bool, ◌&&◌, ◌||◌, false, ◌==◌, List, [], ◌∷◌, length, take, Option, Some, None, option_map, Result, Ok, Err, nat_le, nat_lt, if◌then◌else◌}
+use Rattle.std.specs.Prelude.{not, ℕ, zero, suc, ◌+◌, ◌-◌, Bool, ◌&&◌, ◌||◌, false, ◌==◌, List, [], ◌∷◌, length}
+use Rattle.std.specs.Prelude.{take, Option, Some, None, option_map, Result, Ok, Err, nat_le, nat_lt, if◌then◌else◌}
 use Rattle.std.specs.List.{take_while}
 use Rattle.std.specs.Char.{is_digit}
 use Rattle.sa_lex.specs.declared.token.TokenKind.TheVariants.{Char, Text}

@@ -1,5 +1,6 @@
 -- Names.
-use Rattle.std.specs.Prelude.{not, ℕ, ◌+◌, Bool, ◌&&◌, List, [], ◌∷◌, length, drop, Option, Some, None, Result, Ok, Err, nat_lt, if◌then◌else◌}
+use Rattle.std.specs.Prelude.{not, ℕ, ◌+◌, Bool, ◌&&◌, List, [], ◌∷◌, length, drop}
+use Rattle.std.specs.Prelude.{Option, Some, None, Result, Ok, Err, nat_lt, if◌then◌else◌}
 use Rattle.std.specs.List.{take_while, list_any}
 use Rattle.std.specs.Char.{is_ascii_alphabetic, is_ascii_lowercase}
 use Rattle.sa_lex.specs.Bytes.{is_name_byte, begins_with}

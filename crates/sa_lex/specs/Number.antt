@@ -1,5 +1,6 @@
 -- Numbers.
-use Rattle.std.specs.Prelude.{ℕ, ◌+◌, ◌*◌, ◌^◌, Bool, false, ◌||◌, ◌&&◌, ◌==◌, List, [], ◌∷◌, take, drop, Result, Ok, Err, fold, filter, codes, nat_eq, nat_le, if◌then◌else◌}
+use Rattle.std.specs.Prelude.{ℕ, ◌+◌, ◌*◌, ◌^◌, Bool, false, ◌||◌, ◌&&◌, ◌==◌, List, [], ◌∷◌, take}
+use Rattle.std.specs.Prelude.{drop, Result, Ok, Err, fold, filter, codes, nat_eq, nat_le, if◌then◌else◌}
 use Rattle.std.specs.List.{prefix_len, starts_with}
 use Rattle.std.specs.Char.{digit_value, is_digit, is_ascii_alphanumeric}
 use Rattle.sa_lex.specs.declared.token.TokenKind.TheVariants.{Int}

@@ -4,7 +4,8 @@ ghost use Rattle.std.specs.Prelude.{◌≡◌, ◌<◌, ◌≤◌, ◌+◌, fals
 ghost use Rattle.std.specs.List.{prefix_len};
 ghost use Rattle.std.specs.Char.{is_digit};
 ghost use Rattle.sa_lex.specs.Found.{Gives, IsAmong, StopsAmong};
-ghost use Rattle.sa_lex.specs.Literal.{inside_len, named_escape, octal_digits, escape_at, item_at, items_from, bytes_of, character_of, text_of, character_token, text_token};
+ghost use Rattle.sa_lex.specs.Literal.{inside_len, named_escape, octal_digits, escape_at, item_at, items_from};
+ghost use Rattle.sa_lex.specs.Literal.{bytes_of, character_of, text_of, character_token, text_token};
 
 use crate::byte::is_digit;
 use crate::found::{Fault, Found, Stop};

@@ -1,5 +1,6 @@
 -- The variables that an iter keeps while it is suspended.
-use Rattle.std.specs.Prelude.{◌≡◌, ℕ, ◌<◌, ◌⊎◌, Bool, true, false, IsTrue, if◌then◌else◌, List, [], ◌∷◌, ◌++◌, Option, Some, None, slice_get, Contains, filter_map}
+use Rattle.std.specs.Prelude.{◌≡◌, ℕ, ◌<◌, ◌⊎◌, Bool, true, false, IsTrue, if◌then◌else◌, List}
+use Rattle.std.specs.Prelude.{[], ◌∷◌, ◌++◌, Option, Some, None, slice_get, Contains, filter_map}
 use Rattle.sa_tree.specs.declared.ty.Mode.{Mode}
 use Rattle.sa_tree.specs.declared.ty.Mode.TheVariants as mode
 use Rattle.sa_flat.specs.declared.body.FlatBlock.{FlatBlock}
@@ -10,7 +11,9 @@ use Rattle.sa_flat.specs.declared.call.Raised.{Raised}
 use Rattle.sa_flat.specs.declared.step.FlatExit.{FlatExit}
 use Rattle.sa_flat.specs.declared.step.FlatExit.TheVariants.{Jump, Branch, Return, Suspend, Raise, Stop}
 use Rattle.sa_flat.specs.declared.step.FlatStep.{FlatStep}
-use Rattle.sa_flat.specs.declared.step.FlatStep.TheVariants.{Const, Move, Me, IsVoid, New, NewArray, PutItem, Widen, WidenFor, Unwrap, TypeIs, NotVoid, InitShared, Call, Bind, HasEntry, Start, Resume, HasFrame, Enter, Raising}
+use Rattle.sa_flat.specs.declared.step.FlatStep.TheVariants.{Const, Move, Me, IsVoid, New, NewArray, PutItem, Widen}
+use Rattle.sa_flat.specs.declared.step.FlatStep.TheVariants.{WidenFor, Unwrap, TypeIs, NotVoid, InitShared, Call}
+use Rattle.sa_flat.specs.declared.step.FlatStep.TheVariants.{Bind, HasEntry, Start, Resume, HasFrame, Enter, Raising}
 
 -- ---- arguments
 
@@ -139,11 +142,17 @@ resume_of _ = []
 -- block from before what its step sets, and sets variables of its own.
 pub data IsLive (b : FlatBody) (v : ℕ) : List FlatStep → FlatExit → Type 0 where
   read : (step : FlatStep) (more : List FlatStep) (exit : FlatExit) → Contains (read_by step) v → IsLive b v (step ∷ more) exit
-  passed : (step : FlatStep) (more : List FlatStep) (exit : FlatExit) → ¬ (Contains (set_by step) v) → IsLive b v more exit → IsLive b v (step ∷ more) exit
-  raised : (step : FlatStep) (more : List FlatStep) (exit : FlatExit) (to : Raised) (block : FlatBlock) → raised_by step ≡ Some to → ¬ (Contains (set_by_raise to) v) → slice_get b.blocks to.block ≡ Some block → IsLive b v block.steps block.exit → IsLive b v (step ∷ more) exit
+  passed : (step : FlatStep) (more : List FlatStep) (exit : FlatExit) → ¬ (Contains (set_by step) v) → IsLive b v more exit
+      → IsLive b v (step ∷ more) exit
+  raised : (step : FlatStep) (more : List FlatStep) (exit : FlatExit) (to : Raised) (block : FlatBlock)
+      → raised_by step ≡ Some to → ¬ (Contains (set_by_raise to) v)
+      → slice_get b.blocks to.block ≡ Some block → IsLive b v block.steps block.exit
+      → IsLive b v (step ∷ more) exit
   read_last : (exit : FlatExit) → IsReadBy b exit v → IsLive b v [] exit
-  left : (exit : FlatExit) (to : ℕ) (block : FlatBlock) → Contains (next_of exit) to → ¬ (Contains (set_by_exit exit) v) → slice_get b.blocks to ≡ Some block → IsLive b v block.steps block.exit → IsLive b v [] exit
-  resumed : (exit : FlatExit) (to : ℕ) (block : FlatBlock) → Contains (resume_of exit) to → slice_get b.blocks to ≡ Some block → ¬ (IsArgument is_set_anew b v) → IsLive b v block.steps block.exit → IsLive b v [] exit
+  left : (exit : FlatExit) (to : ℕ) (block : FlatBlock) → Contains (next_of exit) to → ¬ (Contains (set_by_exit exit) v)
+      → slice_get b.blocks to ≡ Some block → IsLive b v block.steps block.exit → IsLive b v [] exit
+  resumed : (exit : FlatExit) (to : ℕ) (block : FlatBlock) → Contains (resume_of exit) to → slice_get b.blocks to ≡ Some block
+      → ¬ (IsArgument is_set_anew b v) → IsLive b v block.steps block.exit → IsLive b v [] exit
 
 -- where a block of the body suspends it and the variable is live in the block in which it goes on, unless it is set anew
 pub record IsKept (b : FlatBody) (v : ℕ) : Type 0 where

@@ -1,20 +1,31 @@
 -- What the features do that the prelude leaves to the implementation.
-use Rattle.std.specs.Prelude.{ℕ, ◌-◌, ℤ, pos, negsuc, ◌+ℤ◌, ◌-ℤ◌, ◌*ℤ◌, neg_ℤ, int_le, int_lt, int_div, int_rem, Bool, not, ◌&&◌, ◌==◌, nat_le, nat_lt, if◌then◌else◌, List, [], ◌∷◌, ◌++◌, map, length, take, drop, set, replicate, slice_get, Option, Some, option_map, option_and_then, bit_and, bit_or, bit_xor}
+use Rattle.std.specs.Prelude.{ℕ, ◌-◌, ℤ, pos, negsuc, ◌+ℤ◌, ◌-ℤ◌, ◌*ℤ◌, neg_ℤ, int_le, int_lt, int_div, int_rem, Bool, not}
+use Rattle.std.specs.Prelude.{◌&&◌, ◌==◌, nat_le, nat_lt, if◌then◌else◌, List, [], ◌∷◌, ◌++◌, map, length, take, drop, set}
+use Rattle.std.specs.Prelude.{replicate, slice_get, Option, Some, option_map, option_and_then, bit_and, bit_or, bit_xor}
 use Rattle.std.specs.Fmt.{signed_decimal}
 use Rattle.std.specs.Option.{option_map_or}
 use Rattle.sa_tree.specs.declared.fault_kind.FaultKind.TheVariants as fault_kind
 use Rattle.sa_tree.specs.declared.pos.Pos.{Pos}
 use Rattle.sa_prelude.specs.declared.feature.BuiltinFeature.{BuiltinFeature}
-use Rattle.sa_prelude.specs.declared.feature.BuiltinFeature.TheVariants.{BoolIsEq, BoolNot, IntPlus, IntMinus, IntTimes, IntNegate, IntDiv, IntMod, IntIsEq, IntIsLt, IntBand, IntBor, IntBxor, IntStr, IntChar, CharIsEq, CharIsLt, CharInt, CharStr, StrSize, StrAget, StrCat, StrSubstring, StrOf, OutPut, OutPutInt, OutPutChar, InGetByte, SysObEq, ArefAsize, ArefAget, ArefAset, ArrayCreate}
+use Rattle.sa_prelude.specs.declared.feature.BuiltinFeature.TheVariants.{BoolIsEq, BoolNot, IntPlus, IntMinus, IntTimes, IntNegate, IntDiv}
+use Rattle.sa_prelude.specs.declared.feature.BuiltinFeature.TheVariants.{IntMod, IntIsEq, IntIsLt, IntBand, IntBor, IntBxor, IntStr}
+use Rattle.sa_prelude.specs.declared.feature.BuiltinFeature.TheVariants.{IntChar, CharIsEq, CharIsLt, CharInt, CharStr, StrSize, StrAget}
+use Rattle.sa_prelude.specs.declared.feature.BuiltinFeature.TheVariants.{StrCat, StrSubstring, StrOf, OutPut, OutPutInt, OutPutChar}
+use Rattle.sa_prelude.specs.declared.feature.BuiltinFeature.TheVariants.{InGetByte, SysObEq, ArefAsize, ArefAget, ArefAset, ArrayCreate}
 use Rattle.sa_meaning.specs.Sequence.{◌>>=◌, ◌>>◌, pure, or_stuck, at_place, stuck}
-use Rattle.sa_meaning.specs.Value.{Value, Void, Int, Truth, Char, Ref, Bound, is_void, is_nothing, is_zero, as_int, as_truth, as_char, as_text, as_object}
+use Rattle.sa_meaning.specs.Value.{Value, Void, Int, Truth, Char, Ref, Bound, is_void, is_nothing}
+use Rattle.sa_meaning.specs.Value.{is_zero, as_int, as_truth, as_char, as_text, as_object}
 use Rattle.sa_meaning.specs.Program.{Program, void_of}
 use Rattle.sa_meaning.specs.State.{Object}
-use Rattle.sa_meaning.specs.Steps.{Eval, spend, charge, object_size, eights, add_object, object_at, set_object, plain, fault, new_text, put_byte, put_bytes, put_text, get_byte}
+use Rattle.sa_meaning.specs.Steps.{Eval, spend, charge, object_size, eights, add_object, object_at}
+use Rattle.sa_meaning.specs.Steps.{set_object, plain, fault, new_text, put_byte, put_bytes, put_text, get_byte}
 
 -- the features by their numbers
 abbrev pub builtins : List BuiltinFeature
-builtins = BoolIsEq ∷ BoolNot ∷ IntPlus ∷ IntMinus ∷ IntTimes ∷ IntNegate ∷ IntDiv ∷ IntMod ∷ IntIsEq ∷ IntIsLt ∷ IntBand ∷ IntBor ∷ IntBxor ∷ IntStr ∷ IntChar ∷ CharIsEq ∷ CharIsLt ∷ CharInt ∷ CharStr ∷ StrSize ∷ StrAget ∷ StrCat ∷ StrSubstring ∷ StrOf ∷ OutPut ∷ OutPutInt ∷ OutPutChar ∷ InGetByte ∷ SysObEq ∷ ArefAsize ∷ ArefAget ∷ ArefAset ∷ ArrayCreate ∷ []
+builtins =
+    BoolIsEq ∷ BoolNot ∷ IntPlus ∷ IntMinus ∷ IntTimes ∷ IntNegate ∷ IntDiv ∷ IntMod ∷ IntIsEq ∷ IntIsLt ∷ IntBand ∷ IntBor
+    ∷ IntBxor ∷ IntStr ∷ IntChar ∷ CharIsEq ∷ CharIsLt ∷ CharInt ∷ CharStr ∷ StrSize ∷ StrAget ∷ StrCat ∷ StrSubstring
+    ∷ StrOf ∷ OutPut ∷ OutPutInt ∷ OutPutChar ∷ InGetByte ∷ SysObEq ∷ ArefAsize ∷ ArefAget ∷ ArefAset ∷ ArrayCreate ∷ []
 
 -- ---- numbers
 
@@ -116,12 +127,14 @@ module _ (p : Program) (class : Option ℕ) (at : Pos) (self : Value) (arguments
   long_text bytes = spend (eights (length bytes)) >> new_text at bytes
 
   abbrev pub byte_at : List ℕ → ℤ → Eval Value
-  byte_at bytes i = if is_place i (length bytes) then (at_place bytes (place_of i) >>= (λ byte. pure (Char byte))) else fault p fault_kind.Index at
+  byte_at bytes i =
+      if is_place i (length bytes) then (at_place bytes (place_of i) >>= (λ byte. pure (Char byte))) else fault p fault_kind.Index at
 
   -- so many bytes from a place on
   abbrev pub part : List ℕ → ℤ → ℤ → Eval Value
   part bytes i n =
-      if int_le (pos 0) i && int_le (pos 0) n && int_le (i +ℤ n) (pos (length bytes)) then long_text (take (place_of n) (drop (place_of i) bytes))
+      if int_le (pos 0) i && int_le (pos 0) n && int_le (i +ℤ n) (pos (length bytes))
+      then long_text (take (place_of n) (drop (place_of i) bytes))
       else fault p fault_kind.Index at
 
   -- a text of the first elements of an array of characters

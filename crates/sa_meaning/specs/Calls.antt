@@ -1,5 +1,6 @@
 -- What a call reaches, what it hands over and brings back, and the run of a routine.
-use Rattle.std.specs.Prelude.{ℕ, ◌+◌, Bool, true, false, ◌&&◌, ◌==◌, if◌then◌else◌, List, [], ◌∷◌, map, length, drop, slice_get, find, filter_map, Option, Some, None, option_map, option_and_then}
+use Rattle.std.specs.Prelude.{ℕ, ◌+◌, Bool, true, false, ◌&&◌, ◌==◌, if◌then◌else◌, List, [], ◌∷◌, map, length}
+use Rattle.std.specs.Prelude.{drop, slice_get, find, filter_map, Option, Some, None, option_map, option_and_then}
 use Rattle.std.specs.Option.{option_map_or}
 use Rattle.sa_tree.specs.declared.fault_kind.FaultKind.TheVariants as fault_kind
 use Rattle.sa_tree.specs.declared.pos.Pos.{Pos}
@@ -13,7 +14,8 @@ use Rattle.sa_core.specs.declared.program.ImplCore.{ImplCore}
 use Rattle.sa_prelude.specs.declared.feature.BuiltinFeature.{BuiltinFeature}
 use Rattle.sa_prelude.specs.declared.feature.BuiltinFeature.TheVariants.{SysObEq, ArefAset}
 use Rattle.sa_meaning.specs.Sequence.{resolve, ◌>>=◌, ◌>>◌, pure, look, change, stop, or_stuck, at_place, with_place, stuck}
-use Rattle.sa_meaning.specs.Value.{Value, Void, Int, Truth, Char, Text, Imm, Ref, Bound, Wide, fields_of, field_list, bool_type, int_type, char_type, str_type, raw_type, is_nothing, as_bound, unwrapped}
+use Rattle.sa_meaning.specs.Value.{Value, Void, Int, Truth, Char, Text, Imm, Ref, Bound, Wide, fields_of, field_list}
+use Rattle.sa_meaning.specs.Value.{bool_type, int_type, char_type, str_type, raw_type, is_nothing, as_bound, unwrapped}
 use Rattle.sa_meaning.specs.Program.{Program, Feature, of_type, is_abstract, void_of}
 use Rattle.sa_meaning.specs.State.{Object, Residue, all_of, Empty, Activation, Cause, Broke, Raised, Flow, Done, Returning}
 use Rattle.sa_meaning.specs.Steps.{Eval, turn, charge, object_size, object_at, set_object, fault, write, enter, leave, checked_depth}
@@ -157,7 +159,8 @@ module _ (p : Program) (at : Pos) where
 
   -- A dispatched call and the call of a bound value widen the arguments. The kept values of a bound value stand between.
   abbrev pub handed : CalledCore → Callee → List (Option Value) → List (Option ℕ) → Eval Handed
-  handed (called.Static target class) c given back = pure (record { given = given; back = back; wide_back = map (λ var. false) back; wide = false })
+  handed (called.Static target class) c given back =
+      pure (record { given = given; back = back; wide_back = map (λ var. false) back; wide = false })
   handed (called.Dispatch k) c given back = do
     signature ← at_place p.signatures k
     values ← widened_for c given

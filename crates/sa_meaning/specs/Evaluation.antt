@@ -8,7 +8,8 @@ use Rattle.sa_core.specs.declared.feature.CalledCore.TheVariants as called
 use Rattle.sa_core.specs.declared.feature.SiteCore.{SiteCore}
 use Rattle.sa_core.specs.declared.feature.Target.TheVariants as target
 use Rattle.sa_core.specs.Tree as tree
-use Rattle.sa_core.specs.Tree.{Expr, VoidOf, Me, Var, Exception, IsVoid, New, NewArray, Elements, Call, IterCall, Bind, Swapped, And, Or, Widen, Exprs, no_exprs, expr, Arg, Variable, Left, Args, no_args, arg}
+use Rattle.sa_core.specs.Tree.{Expr, VoidOf, Me, Var, Exception, IsVoid, New, NewArray, Elements, Call, IterCall, Bind}
+use Rattle.sa_core.specs.Tree.{Swapped, And, Or, Widen, Exprs, no_exprs, expr, Arg, Variable, Left, Args, no_args, arg}
 use Rattle.sa_meaning.specs.Sequence.{◌>>=◌, ◌>>◌, pure, look, or_stuck, at_place, stuck}
 use Rattle.sa_meaning.specs.Value.{Value, Int, Truth, Char, Text, Ref, Bound, is_void, as_int, as_truth}
 use Rattle.sa_meaning.specs.Program.{Program, void_of}
@@ -69,7 +70,12 @@ module _ (p : Program) (at : Pos) where
   bound_value ty c given = do
     class ← or_stuck c.class
     charge at (object_size (1 + length (only_given given)) 0)
-    number ← add_object (record { ty = ty; fields = c.self ∷ only_given given; elements = []; binding = Some (record { target = c.target; class = class; is_open = map is_none given }) })
+    number ← add_object (record {
+      ty = ty;
+      fields = c.self ∷ only_given given;
+      elements = [];
+      binding = Some (record { target = c.target; class = class; is_open = map is_none given });
+    })
     pure (Bound number)
 
   -- The values that a bind keeps, which that of a signature widens. The call of a bound value isn't bound.
@@ -100,7 +106,8 @@ module _ (p : Program) (go : Residue → Eval Flow) (site : ℕ) (at : Pos) wher
     at_place f.sites site
 
   -- Self and the `once` arguments are evaluated at a start alone, and before the others.
-  abbrev pub iter_call : Eval Value → Eval (List (Option Value)) → Eval (List (Option Value)) → List (Option ℕ) → Option (Instance × Sites) → Eval Value
+  abbrev pub iter_call : Eval Value → Eval (List (Option Value))
+      → Eval (List (Option Value)) → List (Option ℕ) → Option (Instance × Sites) → Eval Value
   iter_call self once others back None = do
     v ← self
     first ← once
@@ -113,7 +120,8 @@ module _ (p : Program) (go : Residue → Eval Flow) (site : ℕ) (at : Pos) wher
   iter_call self once others back (Some e) = do
     given ← others
     s ← this_site
-    h ← handed p at s.called (record { target = target.Feature e.0.feature; class = None; self = e.0.self; through = e.0.through }) given back
+    h ← handed p at s.called
+        (record { target = target.Feature e.0.feature; class = None; self = e.0.self; through = e.0.through }) given back
     here ← station
     resume p go here e.0 e.1 h
 
@@ -143,7 +151,8 @@ module _ (p : Program) (go : Residue → Eval Flow) where
       call p go at called v given (variables_of arguments)
     evaluate (IterCall site on arguments at) = do
       sites ← look (λ s. s.here.sites)
-      iter_call p go site at (evaluate on) (evaluate_args is_once arguments) (evaluate_args not_once arguments) (variables_of arguments) (found site sites)
+      iter_call p go site at (evaluate on) (evaluate_args is_once arguments)
+          (evaluate_args not_once arguments) (variables_of arguments) (found site sites)
     evaluate (Bind called on arguments ty at) = do
       v ← evaluate on
       given ← evaluate_args every arguments
@@ -174,7 +183,8 @@ module _ (p : Program) (go : Residue → Eval Flow) where
 
     pub evaluate_arg : (Mode → Bool) → Arg → Eval (Option Value)
     evaluate_arg test (tree.Value mode e) = if test mode then (evaluate e >>= (λ v. pure (Some v))) else pure None
-    evaluate_arg test (Variable mode var) = if test mode then (if is_read mode then (read var >>= (λ v. pure (Some v))) else pure None) else pure None
+    evaluate_arg test (Variable mode var) =
+        if test mode then (if is_read mode then (read var >>= (λ v. pure (Some v))) else pure None) else pure None
     evaluate_arg test Left = pure None
 
   -- a test of a condition

@@ -1,5 +1,6 @@
 -- Instances of iters: their sites, their starts, resumptions and ends.
-use Rattle.std.specs.Prelude.{ℕ, ◌+◌, ◌-◌, Bool, false, not, ◌==◌, nat_lt, if◌then◌else◌, List, [], ◌∷◌, ◌++◌, length, slice_get, Option, Some, None, option_map}
+use Rattle.std.specs.Prelude.{ℕ, ◌+◌, ◌-◌, Bool, false, not, ◌==◌, nat_lt, if◌then◌else◌, List}
+use Rattle.std.specs.Prelude.{[], ◌∷◌, ◌++◌, length, slice_get, Option, Some, None, option_map}
 use Rattle.sa_tree.specs.declared.pos.Pos.{Pos}
 use Rattle.sa_tree.specs.declared.ty.Mode.{Mode}
 use Rattle.sa_tree.specs.declared.ty.Mode.TheVariants as mode
@@ -9,7 +10,8 @@ use Rattle.sa_core.specs.declared.feature.Target.TheVariants as target
 use Rattle.sa_meaning.specs.Sequence.{resolve, ◌>>=◌, ◌>>◌, look, change, stop, or_stuck, at_place, Gives, stuck}
 use Rattle.sa_meaning.specs.Value.{Value}
 use Rattle.sa_meaning.specs.Program.{Program, Feature}
-use Rattle.sa_meaning.specs.State.{Residue, all_of, Sites, Empty, Entry, Instance, Activation, Event, Start, Resume, Yields, Quits, Abandon, Leave, State, Cause, Broke, Raised, Flow, Yielding, Returning}
+use Rattle.sa_meaning.specs.State.{Residue, all_of, Sites, Empty, Entry, Instance, Activation, Event, Start, Resume}
+use Rattle.sa_meaning.specs.State.{Yields, Quits, Abandon, Leave, State, Cause, Broke, Raised, Flow, Yielding, Returning}
 use Rattle.sa_meaning.specs.Steps.{Eval, turn, enter, checked_depth, checked_live}
 use Rattle.sa_meaning.specs.Calls.{Callee, Handed, brought, filled, void_variables}
 
@@ -78,7 +80,8 @@ end_loop p loop = do
 -- and the others are set anew.
 abbrev pub set_anew : List Mode → (voids variables : List Value) → List (Option Value) → Option (List Value)
 set_anew (mode.Once ∷ modes) (u ∷ voids) (v ∷ variables) (_ ∷ given) = option_map (λ rest. v ∷ rest) (set_anew modes voids variables given)
-set_anew (mode.Out ∷ modes) (u ∷ voids) (v ∷ variables) (None ∷ given) = option_map (λ rest. u ∷ rest) (set_anew modes voids variables given)
+set_anew (mode.Out ∷ modes) (u ∷ voids) (v ∷ variables) (None ∷ given) =
+    option_map (λ rest. u ∷ rest) (set_anew modes voids variables given)
 set_anew (mode.Out ∷ modes) (u ∷ voids) (v ∷ variables) (Some w ∷ given) = None
 set_anew (_ ∷ modes) (u ∷ voids) (v ∷ variables) (Some w ∷ given) = option_map (λ rest. w ∷ rest) (set_anew modes voids variables given)
 set_anew [] voids variables [] = Some variables
@@ -104,7 +107,11 @@ instance_ends here i event = change (λ s. record s {
 -- the instance stands at its site again, with what is left of it
 abbrev pub instance_waits : Station → Instance → Residue → Eval (Unit {0})
 instance_waits here i left = change (λ s. record s {
-  here = record (here.caller) { sites = added here.site (record i { variables = s.here.variables; left = left }) s.here.sites (without here.site here.caller.sites) };
+  here =
+      record (here.caller) {
+        sites = added here.site (record i { variables = s.here.variables; left = left })
+            s.here.sites (without here.site here.caller.sites);
+      };
   events = s.events ++ Yields here.feature here.site i.number ∷ [];
   trail = s.trail ++ Leave i.feature ∷ [];
 })
@@ -129,12 +136,21 @@ module _ (p : Program) (here : Station) (i : Instance) where
 module _ (p : Program) (go : Residue → Eval Flow) (here : Station) where
   abbrev pub run_instance : Handed → Instance → Sites → Eval Value
   run_instance h i inside = do
-    enter i.feature (record { feature = Some i.feature; self = i.self; variables = i.variables; sites = inside; exception = None; depth = here.caller.depth + 1 })
+    enter i.feature (record {
+      feature = Some i.feature;
+      self = i.self;
+      variables = i.variables;
+      sites = inside;
+      exception = None;
+      depth = here.caller.depth + 1;
+    })
     resolve (go i.left) (suspended p here i h) (raised_through p here i)
 
   -- a new instance, by its number
   abbrev pub add_instance : Eval ℕ
-  add_instance = λ s. Gives s.started (record s { live = s.live + 1; started = s.started + 1; events = s.events ++ Start here.feature here.site s.started ∷ [] })
+  add_instance = λ s.
+      Gives s.started
+      (record s { live = s.live + 1; started = s.started + 1; events = s.events ++ Start here.feature here.site s.started ∷ [] })
 
   abbrev pub begun : ℕ → Feature → Callee → Handed → Eval Value
   begun k f c h = do
@@ -142,7 +158,8 @@ module _ (p : Program) (go : Residue → Eval Flow) (here : Station) where
     checked_depth here.at here.caller
     checked_live here.at
     number ← add_instance
-    run_instance h (record { number = number; feature = k; self = c.self; through = c.through; variables = variables; left = all_of f.body }) Empty
+    run_instance h
+        (record { number = number; feature = k; self = c.self; through = c.through; variables = variables; left = all_of f.body }) Empty
 
   abbrev pub start_of : Target → Callee → Handed → Eval Value
   start_of (target.Feature k) c h = do

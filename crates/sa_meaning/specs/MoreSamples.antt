@@ -7,10 +7,12 @@ use Rattle.sa_core.specs.declared.feature.CalledCore.TheVariants.{Static, Dispat
 use Rattle.sa_core.specs.declared.feature.Target.TheVariants as target
 use Rattle.sa_core.specs.Copy.{arg_list, stmt_list, arm_list}
 use Rattle.sa_core.specs.Tree as tree
-use Rattle.sa_core.specs.Tree.{Break, Stmt, VoidOf, Me, Var, New, Call, IterCall, Variable, Let, Do, Leave, TypeCase, Protect, Yield, Stop, no_else, otherwise}
+use Rattle.sa_core.specs.Tree.{Break, Stmt, VoidOf, Me, Var, New, Call, IterCall, Variable, Let}
+use Rattle.sa_core.specs.Tree.{Do, Leave, TypeCase, Protect, Yield, Stop, no_else, otherwise}
 use Rattle.sa_meaning.specs.Value.{int_type}
 use Rattle.sa_meaning.specs.Program.{Program}
-use Rattle.sa_meaning.specs.Samples.{here, int, with_one, plus, main_type, own_type, ob_type, put, put_int, call, get_shared, loop, class_row, immutable_row, abstract_row, routine, iter, program, text, get_x}
+use Rattle.sa_meaning.specs.Samples.{here, int, with_one, plus, main_type, own_type, ob_type, put, put_int, call, get_shared}
+use Rattle.sa_meaning.specs.Samples.{loop, class_row, immutable_row, abstract_row, routine, iter, program, text, get_x}
 
 -- ---- initialisers
 
@@ -20,7 +22,8 @@ abbrev pub initialises : Program
 initialises = record (program (immutable_row (int_type ∷ []) (ob_type ∷ []) ∷ []) (
     routine [] (ob_type ∷ own_type ∷ []) [] (
     put_int (get_shared 0) ∷ Let 0 (get_shared 1)
-    ∷ TypeCase 0 (arm_list ((own_type, 1, stmt_list (put (text (codes "P")) ∷ [])) ∷ [])) (otherwise (stmt_list (put (text (codes "v")) ∷ []))) here ∷ [])
+    ∷ TypeCase 0 (arm_list ((own_type, 1, stmt_list (put (text (codes "P")) ∷ [])) ∷ []))
+    (otherwise (stmt_list (put (text (codes "v")) ∷ []))) here ∷ [])
     ∷ [])) {
       shareds = record { ty = int_type; class = own_type; start = Some (plus (get_x Me) (int 1)) }
           ∷ record { ty = ob_type; class = own_type; start = Some (tree.Widen own_type Me here) } ∷ [];
@@ -30,7 +33,8 @@ initialises = record (program (immutable_row (int_type ∷ []) (ob_type ∷ []) 
 
 -- typecase v when INT then #OUT + v; end
 abbrev pub put_if_int : ℕ → ℕ → Stmt
-put_if_int var narrowed = TypeCase var (arm_list ((int_type, narrowed, stmt_list (put_int (Var narrowed) ∷ [])) ∷ [])) (otherwise (stmt_list [])) here
+put_if_int var narrowed =
+    TypeCase var (arm_list ((int_type, narrowed, stmt_list (put_int (Var narrowed) ∷ [])) ∷ [])) (otherwise (stmt_list [])) here
 
 -- abstract class $A is f(out a:INT, out b:$OB); end;
 -- class C < $A is create:SAME is return new; end; f(out a:INT, out b:INT) is a := 1; b := 2; end; end;
@@ -42,25 +46,35 @@ widens_in_two_stages = record (program (abstract_row (ob_type ∷ []) ∷ class_
     ∷ Do (Call (Dispatch 0) (Var 0) (arg_list (Variable Out 1 ∷ Variable Out 2 ∷ [])) here)
     ∷ put_if_int 1 3 ∷ put_if_int 2 3 ∷ [])
     ∷ routine (Out ∷ Out ∷ []) (int_type ∷ int_type ∷ []) [] (Let 0 (int 1) ∷ Let 1 (int 2) ∷ [])
-    ∷ [])) { signatures = record { impls = record { ty = 11; target = target.Feature 1 } ∷ []; wide_args = false ∷ true ∷ []; wide = false } ∷ [] }
+    ∷ []))
+    { signatures = record { impls = record { ty = 11; target = target.Feature 1 } ∷ []; wide_args = false ∷ true ∷ []; wide = false } ∷ [] }
 
 -- immutable class P is attr x,y,z:INT; end; abstract class $A is g!(a:INT, once b:P):INT; end;
 -- class C < $A is create:SAME is return new; end; g!(a:$OB, once b:$OB):INT is yield 1; end; end;
 -- c:$A := #C; p:P; loop #OUT + c.g!(7, p); break!; end
 abbrev pub widens_once_first : Program
-widens_once_first = record (program (abstract_row (ob_type ∷ []) ∷ class_row [] (ob_type ∷ own_type ∷ []) ∷ immutable_row (int_type ∷ int_type ∷ int_type ∷ []) (ob_type ∷ []) ∷ []) (
+widens_once_first = record (program (abstract_row (ob_type ∷ []) ∷ class_row [] (ob_type ∷ own_type ∷ []) ∷
+    immutable_row (int_type ∷ int_type ∷ int_type ∷ []) (ob_type ∷ []) ∷ []) (
     routine [] (own_type ∷ 12 ∷ []) (record { owner = 0; called = Dispatch 0; pos = here } ∷ []) (
     Let 0 (New 11 here) ∷ Let 1 (VoidOf 12)
     ∷ loop (put_int (IterCall 0 (Var 0) (arg_list (tree.Value In (int 7) ∷ tree.Value Once (Var 1) ∷ [])) here) ∷ Leave Break ∷ []) ∷ [])
     ∷ iter (In ∷ Once ∷ []) (ob_type ∷ ob_type ∷ []) [] (Yield (Some (int 1)) ∷ [])
-    ∷ [])) { signatures = record { impls = record { ty = 11; target = target.Feature 1 } ∷ []; wide_args = false ∷ false ∷ []; wide = false } ∷ [] }
+    ∷ [])) {
+      signatures = record {
+        impls = record { ty = 11; target = target.Feature 1 }
+            ∷ [];
+        wide_args = false ∷ false ∷ [];
+        wide = false;
+      } ∷ [];
+    }
 
 -- ---- faults
 
 -- protect STATEMENT else #OUT + "c"; end, where the statement is a fault of a kind
 abbrev pub catches_stop : FaultKind → Program
 catches_stop kind = program [] (
-    routine [] [] [] (Protect (stmt_list (Stop kind here ∷ [])) (arm_list []) (otherwise (stmt_list (put (text (codes "c")) ∷ []))) ∷ []) ∷ [])
+    routine [] [] [] (Protect (stmt_list (Stop kind here ∷ [])) (arm_list []) (otherwise (stmt_list (put (text (codes "c")) ∷ []))) ∷ [])
+    ∷ [])
 
 -- ---- programs that the checker doesn't give
 
@@ -77,7 +91,8 @@ lacks_argument = program [] (
 -- there is an argument more than the built-in feature takes
 abbrev pub has_argument_more : Program
 has_argument_more = program [] (
-    routine [] (int_type ∷ []) [] (Let 0 (Call (Static (target.Builtin 2) int_type) (int 1) (arg_list (tree.Value In (int 2) ∷ tree.Value In (int 3) ∷ [])) here) ∷ []) ∷ [])
+    routine [] (int_type ∷ []) [] (Let 0
+    (Call (Static (target.Builtin 2) int_type) (int 1) (arg_list (tree.Value In (int 2) ∷ tree.Value In (int 3) ∷ [])) here) ∷ []) ∷ [])
 
 -- what is widened is of a reference class
 abbrev pub widens_reference : Program

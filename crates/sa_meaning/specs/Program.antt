@@ -1,5 +1,6 @@
 -- A typed program as its meaning sees it, and which of these a tree of the checker is.
-use Rattle.std.specs.Prelude.{ℕ, zero, suc, ◌+◌, pos, Bool, true, false, ◌||◌, ◌==◌, nat_lt, if◌then◌else◌, List, [], ◌∷◌, map, length, slice_get, count_by, find, Option, is_some, unwrap_or}
+use Rattle.std.specs.Prelude.{ℕ, zero, suc, ◌+◌, pos, Bool, true, false, ◌||◌, ◌==◌, nat_lt, if◌then◌else◌}
+use Rattle.std.specs.Prelude.{List, [], ◌∷◌, map, length, slice_get, count_by, find, Option, is_some, unwrap_or}
 use Rattle.std.specs.Option.{option_map_or}
 use Rattle.sa_tree.specs.declared.class.Kind.{Kind}
 use Rattle.sa_tree.specs.declared.class.Kind.TheVariants as kind
@@ -86,13 +87,21 @@ has_wide_result (Iter args result) = is_wide_result result
 has_wide_result _ = false
 
 abbrev pub type_row : TypeInfo → TypeRow
-type_row t = record { kind = t.kind; attrs = t.attrs; elem = t.elem; above = t.above; wide_args = wide_arguments_of (bare t.ty); wide = has_wide_result (bare t.ty) }
+type_row t = record {
+  kind = t.kind;
+  attrs = t.attrs;
+  elem = t.elem;
+  above = t.above;
+  wide_args = wide_arguments_of (bare t.ty);
+  wide = has_wide_result (bare t.ty);
+}
 
 abbrev pub feature_of : FeatureCore → Feature
 feature_of f = record { iter = f.iter; modes = f.modes; vars = f.vars; sites = f.sites; body = block_of f.body; pos = f.pos }
 
 abbrev pub signature_of : SigCore → Signature
-signature_of s = record { impls = s.impls; wide_args = wide_list (all_bare_args s.sig.args); wide = is_wide_result (option_bare s.sig.result) }
+signature_of s =
+    record { impls = s.impls; wide_args = wide_list (all_bare_args s.sig.args); wide = is_wide_result (option_bare s.sig.result) }
 
 abbrev pub shared_row : SharedCore → SharedRow
 shared_row s = record { ty = s.ty; class = s.class; start = option_expr_of s.start }

@@ -1,6 +1,7 @@
 -- Statements and programs in which no protect stands.
 use Rattle.std.specs.Prelude.{All}
-use Rattle.sa_core.specs.Tree.{Stmt, If, Loop, TypeCase, Protect, Stmts, no_stmts, stmt, Tests, no_tests, branch, Arms, no_arms, arm, Else, no_else, otherwise}
+use Rattle.sa_core.specs.Tree.{Stmt, If, Loop, TypeCase, Protect, Stmts, no_stmts, stmt, Tests}
+use Rattle.sa_core.specs.Tree.{no_tests, branch, Arms, no_arms, arm, Else, no_else, otherwise}
 use Rattle.sa_meaning.specs.Program.{Program}
 
 abbrev mutual

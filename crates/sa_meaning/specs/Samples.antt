@@ -10,7 +10,9 @@ use Rattle.sa_core.specs.declared.feature.SiteCore.{SiteCore}
 use Rattle.sa_core.specs.declared.feature.Target.TheVariants as target
 use Rattle.sa_core.specs.Copy.{expr_list, arg_list, stmt_list, test_list, arm_list}
 use Rattle.sa_core.specs.Tree as tree
-use Rattle.sa_core.specs.Tree.{Expr, VoidOf, Me, Var, Exception, IsVoid, New, Call, IterCall, Bind, Or, Arg, Variable, Left, Break, While, Stmt, Let, Do, If, Loop, Leave, TypeCase, Protect, Return, Yield, Quit, Raise, Stop, no_stmts, no_else, otherwise}
+use Rattle.sa_core.specs.Tree.{Expr, VoidOf, Me, Var, Exception, IsVoid, New, Call, IterCall, Bind, Or}
+use Rattle.sa_core.specs.Tree.{Arg, Variable, Left, Break, While, Stmt, Let, Do, If, Loop, Leave, TypeCase}
+use Rattle.sa_core.specs.Tree.{Protect, Return, Yield, Quit, Raise, Stop, no_stmts, no_else, otherwise}
 use Rattle.sa_meaning.specs.Value.{bool_type, int_type, str_type, fault_type}
 use Rattle.sa_meaning.specs.Program.{TypeRow, Feature, Program}
 
@@ -118,7 +120,8 @@ abbrev pub site : ℕ → ℕ → SiteCore
 site k ty = record { owner = 0; called = Static (target.Feature k) ty; pos = here }
 
 abbrev pub program : List TypeRow → List Feature → Program
-program types features = record { types = base_types ++ types; features = features; signatures = []; shareds = []; main = 0; feeds = []; faults_raise = true }
+program types features =
+    record { types = base_types ++ types; features = features; signatures = []; shareds = []; main = 0; feeds = []; faults_raise = true }
 
 -- ---- features of the prelude
 
@@ -159,7 +162,8 @@ then_text on bytes = Call (Static (target.Feature 3) out_type) on (arg_list (wit
 abbrev pub two_sites : Program
 two_sites = program [] (
     routine [] [] (site 1 int_type ∷ site 1 int_type ∷ []) (
-    loop (Do (then_text (then_int (then_text (then_int (VoidOf out_type) (up 0 (int 1) (int 3))) (codes " ")) (up 1 (int 5) (int 6))) (codes "\n")) ∷ []) ∷ [])
+    loop (Do (then_text (then_int (then_text (then_int (VoidOf out_type) (up 0 (int 1) (int 3))) (codes " ")) (up 1 (int 5) (int 6)))
+    (codes "\n")) ∷ []) ∷ [])
     ∷ upto ∷ plus_int ∷ plus_text ∷ [])
 
 -- s ::= 0; loop s := s + 1.upto!(2); end; #OUT + s
@@ -237,7 +241,8 @@ copies_at_yield = program [] (
     ∷ loop (Let 2 (IterCall 0 Me (arg_list (Variable Inout 0 ∷ Variable Out 1 ∷ [])) here) ∷ put_int (Var 1) ∷ Leave (While (Var 2)) ∷ [])
     ∷ put_int (Var 0) ∷ [])
     ∷ iter (Inout ∷ Out ∷ []) (int_type ∷ int_type ∷ []) [] (
-    loop (when (is_eq (Var 1) (int 0)) (Let 1 (Var 0) ∷ []) ∷ Let 0 (plus (Var 0) (Var 0)) ∷ Yield (Some (is_lt (Var 0) (int 9))) ∷ []) ∷ [])
+    loop (when (is_eq (Var 1) (int 0)) (Let 1 (Var 0) ∷ []) ∷ Let 0 (plus (Var 0) (Var 0)) ∷ Yield (Some (is_lt (Var 0) (int 9))) ∷ [])
+    ∷ [])
     ∷ [])
 
 -- class MAIN is f(out n:INT) is n := 7; end; main is x:$OB; f(out x); typecase x when INT then #OUT + x; end; end; end
@@ -278,11 +283,15 @@ bound_anew = program (bound_row [] ∷ []) (
 
 -- #OUT + "a"; x ::= 2147483647; x := x + 1
 abbrev pub overflows : Program
-overflows = program [] (routine [] (int_type ∷ []) [] (put (text (codes "a")) ∷ Let 0 (int 2147483647) ∷ Let 0 (plus (Var 0) (int 1)) ∷ []) ∷ [])
+overflows =
+    program [] (routine [] (int_type ∷ []) [] (put (text (codes "a")) ∷ Let 0 (int 2147483647) ∷ Let 0 (plus (Var 0) (int 1)) ∷ []) ∷ [])
 
 -- x ::= (-2147483647-1) / (-1)
 abbrev pub overflows_by_division : Program
-overflows_by_division = program [] (routine [] (int_type ∷ []) [] (Let 0 (div (plus (tree.Int (negsuc 2147483646)) (tree.Int (negsuc 0))) (tree.Int (negsuc 0))) ∷ []) ∷ [])
+overflows_by_division =
+    program [] (routine [] (int_type ∷ []) []
+    (Let 0 (div (plus (tree.Int (negsuc 2147483646)) (tree.Int (negsuc 0))) (tree.Int (negsuc 0))) ∷ [])
+    ∷ [])
 
 -- x ::= 1/0
 abbrev pub divides_by_zero : Program
@@ -291,7 +300,8 @@ divides_by_zero = program [] (routine [] (int_type ∷ []) [] (Let 0 (div (int 1
 -- #OUT + (-7)/2 + " " + (-7)%2
 abbrev pub divides : Program
 divides = program [] (routine [] [] [] (
-    put_int (div (tree.Int (negsuc 6)) (int 2)) ∷ put (text (codes " ")) ∷ put_int (builtin int_type 7 (tree.Int (negsuc 6)) (with_one (int 2))) ∷ []) ∷ [])
+    put_int (div (tree.Int (negsuc 6)) (int 2)) ∷ put (text (codes " "))
+    ∷ put_int (builtin int_type 7 (tree.Int (negsuc 6)) (with_one (int 2))) ∷ []) ∷ [])
 
 -- the types with ARRAY{INT}
 abbrev pub array_types : List TypeRow
@@ -358,7 +368,10 @@ fault_str = routine [] (int_type ∷ []) [] (
 
 -- the program with the feature, as the implementation of the signature `str` of `$STR` by FAULT
 abbrev pub with_str : Program → Program
-with_str p = record p { features = p.features ++ fault_str ∷ []; signatures = record { impls = record { ty = fault_type; target = target.Feature 1 } ∷ []; wide_args = []; wide = false } ∷ [] }
+with_str p = record p {
+  features = p.features ++ fault_str ∷ [];
+  signatures = record { impls = record { ty = fault_type; target = target.Feature 1 } ∷ []; wide_args = []; wide = false } ∷ [];
+}
 
 -- an attribute of the exception
 abbrev pub of_fault : ℕ → Expr
@@ -367,7 +380,8 @@ of_fault a = Call (Static (target.Get a) fault_type) Exception (arg_list []) her
 -- #OUT + exception.kind + " " + exception.line + " " + exception, where the exception's text is that of its `str`
 abbrev pub tells_fault : Program
 tells_fault = with_str (catches_fault (
-    put_int (of_fault 0) ∷ put (text (codes " ")) ∷ put_int (of_fault 1) ∷ put (text (codes " ")) ∷ put (Call (Dispatch 0) Exception (arg_list []) here) ∷ []))
+    put_int (of_fault 0) ∷ put (text (codes " ")) ∷ put_int (of_fault 1)
+    ∷ put (text (codes " ")) ∷ put (Call (Dispatch 0) Exception (arg_list []) here) ∷ []))
 
 -- raise exception
 abbrev pub raises_again : Program
@@ -384,7 +398,8 @@ raises_in_branches = program [] (
       0,
       stmt_list (
           Protect (stmt_list (
-          Protect (stmt_list (Raise (text (codes "b")) here ∷ [])) (arm_list ((str_type, 0, stmt_list (Raise (text (codes "c")) here ∷ [])) ∷ [])) no_else ∷ []))
+          Protect (stmt_list (Raise (text (codes "b")) here ∷ []))
+          (arm_list ((str_type, 0, stmt_list (Raise (text (codes "c")) here ∷ [])) ∷ [])) no_else ∷ []))
           (arm_list ((str_type, 0, stmt_list (put Exception ∷ [])) ∷ [])) no_else
           ∷ put Exception ∷ []),
     ) ∷ [])) no_else ∷ [])
@@ -395,7 +410,8 @@ raises_in_branches = program [] (
 abbrev pub catches_fault_of_iter : Program
 catches_fault_of_iter = program [] (
     routine [] [] (site 1 main_type ∷ []) (
-    Protect (stmt_list (loop (put_int (IterCall 0 Me (arg_list []) here) ∷ []) ∷ [])) (arm_list []) (otherwise (stmt_list (put (text (codes "c")) ∷ []))) ∷ [])
+    Protect (stmt_list (loop (put_int (IterCall 0 Me (arg_list []) here) ∷ []) ∷ []))
+    (arm_list []) (otherwise (stmt_list (put (text (codes "c")) ∷ []))) ∷ [])
     ∷ iter [] (int_type ∷ []) [] (Yield (Some (int 1)) ∷ Let 0 (div (int 1) (int 0)) ∷ [])
     ∷ [])
 
@@ -425,7 +441,8 @@ dispatches = record (program (abstract_row (ob_type ∷ []) ∷ class_row [] (ob
     ∷ TypeCase 1 (arm_list ((int_type, 2, stmt_list (put_int (Var 2) ∷ [])) ∷ [])) no_else here
     ∷ when (IsVoid (Var 1)) (put (text (codes "void")) ∷ []) ∷ [])
     ∷ routine (In ∷ []) (ob_type ∷ int_type ∷ []) [] (
-    TypeCase 0 (arm_list ((int_type, 1, stmt_list (Return (Some (plus (Var 1) (int 1))) ∷ [])) ∷ [])) no_else here ∷ Stop fault_kind.NoReturn here ∷ [])
+    TypeCase 0 (arm_list ((int_type, 1, stmt_list (Return (Some (plus (Var 1) (int 1))) ∷ [])) ∷ [])) no_else here
+    ∷ Stop fault_kind.NoReturn here ∷ [])
     ∷ [])) { signatures = record { impls = record { ty = 11; target = target.Feature 1 } ∷ []; wide_args = false ∷ []; wide = true } ∷ [] }
 
 -- abstract class $A is f!(x:INT):$OB; end; class C < $A is create:SAME is return new; end; f!(x:$OB):INT is

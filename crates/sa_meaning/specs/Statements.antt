@@ -3,11 +3,13 @@ use Rattle.std.specs.Prelude.{ℕ, zero, suc, Bool, false, if◌then◌else◌, 
 use Rattle.std.specs.Option.{option_map_or}
 use Rattle.sa_tree.specs.declared.fault_kind.FaultKind.TheVariants as fault_kind
 use Rattle.sa_tree.specs.declared.pos.Pos.{Pos}
-use Rattle.sa_core.specs.Tree.{Expr, Exit, Break, While, Until, Stmt, Let, Do, If, Loop, Leave, TypeCase, Protect, Return, Yield, Quit, Raise, Stop, Stmts, no_stmts, stmt, Tests, no_tests, branch, Arms, no_arms, arm, Else, no_else, otherwise}
+use Rattle.sa_core.specs.Tree.{Expr, Exit, Break, While, Until, Stmt, Let, Do, If, Loop, Leave, TypeCase, Protect, Return, Yield, Quit}
+use Rattle.sa_core.specs.Tree.{Raise, Stop, Stmts, no_stmts, stmt, Tests, no_tests, branch, Arms, no_arms, arm, Else, no_else, otherwise}
 use Rattle.sa_meaning.specs.Sequence.{resolve, ◌>>=◌, ◌>>◌, pure, look, change, stop, Exhausts, stuck}
 use Rattle.sa_meaning.specs.Value.{Value, Void, is_nothing, unwrapped}
 use Rattle.sa_meaning.specs.Program.{Program, holds, is_immutable}
-use Rattle.sa_meaning.specs.State.{Residue, Over, Next, Rest, all_of, joined, Cause, Broke, Raised, Flow, Done, Yielding, Returning, Quitting}
+use Rattle.sa_meaning.specs.State.{Residue, Over, Next, Rest, all_of, joined, Cause, Broke}
+use Rattle.sa_meaning.specs.State.{Raised, Flow, Done, Yielding, Returning, Quitting}
 use Rattle.sa_meaning.specs.Steps.{Eval, turn, fault, read, write}
 use Rattle.sa_meaning.specs.Calls.{dynamic_type}
 use Rattle.sa_meaning.specs.Instances.{clear_loop, end_loop}
@@ -110,7 +112,9 @@ module _ (p : Program) (go : Residue → Eval Flow) where
       v ← read var
       dynamic ← dynamic_type v
       execute_case v dynamic arms (execute_else other (fault p fault_kind.NoBranch at))
-    execute (Protect body arms other) = resolve (execute_all body) not_suspended (caught (λ v dynamic again. execute_branch v dynamic arms (execute_else_with v other again)))
+    execute (Protect body arms other) =
+        resolve (execute_all body) not_suspended
+        (caught (λ v dynamic again. execute_branch v dynamic arms (execute_else_with v other again)))
     execute (Return value) = value_of value >>= (λ v. pure (Returning v))
     execute (Yield value) = value_of value >>= (λ v. pure (Yielding v Over))
     execute Quit = pure Quitting
@@ -124,7 +128,8 @@ module _ (p : Program) (go : Residue → Eval Flow) where
     -- the statements of the first entry of which a test is true
     pub execute_first : Tests → Eval Flow → Eval Flow
     execute_first no_tests other = other
-    execute_first (branch tests body more) other = evaluate_tests p go tests >>= (λ b. if b then execute_all body else execute_first more other)
+    execute_first (branch tests body more) other =
+        evaluate_tests p go tests >>= (λ b. if b then execute_all body else execute_first more other)
 
     -- The branch of a typecase has a variable of its own.
     pub execute_case : Value → Option ℕ → Arms → Eval Flow → Eval Flow

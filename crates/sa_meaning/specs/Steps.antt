@@ -1,5 +1,6 @@
 -- The steps of which a run is made.
-use Rattle.std.specs.Prelude.{ℕ, zero, suc, ◌+◌, ◌-◌, ◌*◌, ◌/◌, ℤ, pos, negsuc, Bool, true, false, ◌&&◌, if◌then◌else◌, nat_le, List, [], ◌∷◌, ◌++◌, length, set, Option, Some, None}
+use Rattle.std.specs.Prelude.{ℕ, zero, suc, ◌+◌, ◌-◌, ◌*◌, ◌/◌, ℤ, pos, negsuc, Bool, true, false, ◌&&◌}
+use Rattle.std.specs.Prelude.{if◌then◌else◌, nat_le, List, [], ◌∷◌, ◌++◌, length, set, Option, Some, None}
 use Rattle.sa_tree.specs.declared.fault_kind.FaultKind.{FaultKind}
 use Rattle.sa_tree.specs.declared.fault_kind.FaultKind.TheVariants as fault_kind
 use Rattle.sa_tree.specs.declared.pos.Pos.{Pos}
@@ -88,7 +89,9 @@ raise_new o kind at = do
 abbrev pub fault : {A : Type 0} → Program → FaultKind → Pos → Eval A
 fault p kind at = do
   room ← look (λ s. s.room)
-  if p.faults_raise && can_be_caught kind && nat_le (object_size 2 0) room then raise_new (fault_object p kind at) kind at else stop (Failed kind at)
+  if p.faults_raise && can_be_caught kind && nat_le (object_size 2 0) room
+      then raise_new (fault_object p kind at) kind at
+      else stop (Failed kind at)
 
 -- ---- texts, output and input
 

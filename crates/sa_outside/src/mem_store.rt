@@ -1,6 +1,7 @@
 //! A store of files in memory, whose calls can be made to fail.
 
-ghost use Rattle.std.specs.Prelude.{◌≡◌, ◌≢◌, ◌↔◌, ℕ, ◌<◌, ◌≤◌, ◌⊎◌, length, slice_index_or, Some, None, List, IsTrue, IfSome, IfNone, IsErr, IfOk, OnOk, OnErr, IsErrOf, IsOkUnless, string_bytes};
+ghost use Rattle.std.specs.Prelude.{◌≡◌, ◌≢◌, ◌↔◌, ℕ, ◌<◌, ◌≤◌, ◌⊎◌, length, slice_index_or, Some, None, List, IsTrue};
+ghost use Rattle.std.specs.Prelude.{IfSome, IfNone, IsErr, IfOk, OnOk, OnErr, IsErrOf, IsOkUnless, string_bytes};
 ghost use Rattle.std.specs.Option.{option_copied};
 ghost use Rattle.std.specs.FinMap.{get, insert};
 ghost use Rattle.sa_outside.specs.Calls.{no_calls, is_to_fail, one_call};

@@ -12,7 +12,9 @@ use Rattle.sa_parse_expr.specs.Places.{IsBehind, IsUnexpected}
 pub record NestsBodies (from : ℕ) (pre : Global → Bor Tokens → Word → ℕ → Type 0)
     (post : Global → Bor Tokens → Word → ℕ → Result (List Stmt × ℕ) FrontFault → Type 0) : Type 0 where
   pub callable : (alloc : Global) (tokens : Bor Tokens) (word : Word) (at : ℕ) → from < at → pre alloc tokens word at
-  pub next : (alloc : Global) (tokens : Bor Tokens) (word : Word) (at : ℕ) (r : Result (List Stmt × ℕ) FrontFault) → post alloc tokens word at r
+  pub next : (alloc : Global) (tokens : Bor Tokens) (word : Word) (at : ℕ) (r : Result (List Stmt × ℕ) FrontFault)
+      → post alloc tokens word at r
       → IfOk r (λ read. IsBehind tokens.now.list.now at read.1)
-  pub refused : (alloc : Global) (tokens : Bor Tokens) (word : Word) (at : ℕ) (r : Result (List Stmt × ℕ) FrontFault) → post alloc tokens word at r
+  pub refused : (alloc : Global) (tokens : Bor Tokens) (word : Word) (at : ℕ) (r : Result (List Stmt × ℕ) FrontFault)
+      → post alloc tokens word at r
       → IfErr r (IsUnexpected tokens.now.file)

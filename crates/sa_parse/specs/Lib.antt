@@ -1,6 +1,5 @@
 pub mod Bodies
 pub mod Classes
-pub mod Conditions
 pub mod Features
 pub mod Names
 pub mod Refusals

@@ -16,7 +16,8 @@ IsLower l = l.kind ≡ Lower
 -- {"," LNAME}
 pub data IsMoreNames : List Lexeme → List Local → Type 0 where
   absent : IsMoreNames [] []
-  more : {comma l : Lexeme} {ls : List Lexeme} {names : List Local} → IsSign sign.Comma comma → IsLower l → IsMoreNames ls names → IsMoreNames (comma ∷ l ∷ ls) (name_of l ∷ names)
+  more : {comma l : Lexeme} {ls : List Lexeme} {names : List Local} → IsSign sign.Comma comma → IsLower l → IsMoreNames ls names
+      → IsMoreNames (comma ∷ l ∷ ls) (name_of l ∷ names)
 
 -- LNAME {"," LNAME}
 pub data IsNames : List Lexeme → List Local → Type 0 where

@@ -25,17 +25,23 @@ formal_of mode t name = record { mode = mode; local = name; ty = t }
 
 -- formal = [mode] LNAME {"," LNAME} ":" type: an argument for each name
 pub data IsFormal (callable : CallableKind) : List Lexeme → List Formal → Type 0 where
-  formal : {ls ms rest : List Lexeme} {colon : Lexeme} {mode : Mode} {names : List Local} {t : Ty} → IsMode callable ls mode → IsNames ms names → IsSign sign.Colon colon → IsType rest t → IsFormal callable (ls ++ ms ++ colon ∷ rest) (map (formal_of mode t) names)
+  formal : {ls ms rest : List Lexeme} {colon : Lexeme} {mode : Mode} {names : List Local} {t : Ty}
+      → IsMode callable ls mode → IsNames ms names → IsSign sign.Colon colon → IsType rest t
+      → IsFormal callable (ls ++ ms ++ colon ∷ rest) (map (formal_of mode t) names)
 
 -- formal {"," formal}
 pub data IsFormals (callable : CallableKind) : List Lexeme → List Formal → Type 0 where
   last : {ls : List Lexeme} {formals : List Formal} → IsFormal callable ls formals → IsFormals callable ls formals
-  more : {ls ms : List Lexeme} {comma : Lexeme} {formals others : List Formal} → IsFormal callable ls formals → IsSign sign.Comma comma → IsFormals callable ms others → IsFormals callable (ls ++ comma ∷ ms) (formals ++ others)
+  more : {ls ms : List Lexeme} {comma : Lexeme} {formals others : List Formal}
+      → IsFormal callable ls formals → IsSign sign.Comma comma → IsFormals callable ms others
+      → IsFormals callable (ls ++ comma ∷ ms) (formals ++ others)
 
 -- ["(" formal {"," formal} ")"]
 pub data IsArguments (callable : CallableKind) : List Lexeme → List Formal → Type 0 where
   absent : IsArguments callable [] []
-  given : {opening closing : Lexeme} {ls : List Lexeme} {formals : List Formal} → IsSign sign.LeftParen opening → IsFormals callable ls formals → IsSign sign.RightParen closing → IsArguments callable (opening ∷ ls ++ closing ∷ []) formals
+  given : {opening closing : Lexeme} {ls : List Lexeme} {formals : List Formal}
+      → IsSign sign.LeftParen opening → IsFormals callable ls formals → IsSign sign.RightParen closing
+      → IsArguments callable (opening ∷ ls ++ closing ∷ []) formals
 
 -- [":" type]
 pub data IsWrittenResult : List Lexeme → Option Ty → Type 0 where
@@ -44,4 +50,6 @@ pub data IsWrittenResult : List Lexeme → Option Ty → Type 0 where
 
 -- sig = F ["(" formal {"," formal} ")"] [":" type]. `once` is a mode of the arguments of iters alone
 pub data IsSig : List Lexeme → Signature → Type 0 where
-  sig : {f : Lexeme} {ls ms : List Lexeme} {formals : List Formal} {gives : Option Ty} → IsFeature f → IsArguments (callable_of f.kind) ls formals → IsWrittenResult ms gives → IsSig (f ∷ ls ++ ms) (record { name = name_of f; formals = formals; result = gives })
+  sig : {f : Lexeme} {ls ms : List Lexeme} {formals : List Formal} {gives : Option Ty}
+      → IsFeature f → IsArguments (callable_of f.kind) ls formals → IsWrittenResult ms gives
+      → IsSig (f ∷ ls ++ ms) (record { name = name_of f; formals = formals; result = gives })

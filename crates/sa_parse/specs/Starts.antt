@@ -1,10 +1,9 @@
 -- Which token begins a statement, a member of a class or a class. The end of the file begins nothing.
-use Rattle.std.specs.Prelude.{Bool, true, false, not, ◌&&◌, ◌||◌, Option, Some, is_none}
+use Rattle.std.specs.Prelude.{Bool, true, false, ◌||◌, Option, Some}
 use Rattle.sa_lex.specs.declared.token.TokenKind.{TokenKind}
 use Rattle.sa_lex.specs.declared.token.TokenKind.TheVariants as token
 use Rattle.sa_lex.specs.declared.word.Word.{Word}
 use Rattle.sa_lex.specs.declared.word.Word.TheVariants as word
-use Rattle.sa_tree.specs.declared.contract.Condition.{Condition}
 use Rattle.sa_tree.specs.declared.class.Kind.{Kind}
 use Rattle.sa_tree.specs.declared.class.Kind.TheVariants.{Partial}
 use Rattle.sa_parse_expr.specs.Starts.{begins_expression}
@@ -37,25 +36,23 @@ abbrev pub is_prelude : FileKind → Bool
 is_prelude Prelude = true
 is_prelude _ = false
 
--- stubs stand in partial classes alone, built-in features in the prelude alone, and an invariant in the program alone, where
--- the class has none yet
-abbrev pub word_begins_member : Kind → FileKind → Option Condition → Word → Bool
-word_begins_member kind file_kind invariant word.Attr = true
-word_begins_member kind file_kind invariant word.Const = true
-word_begins_member kind file_kind invariant word.Include = true
-word_begins_member kind file_kind invariant word.Private = true
-word_begins_member kind file_kind invariant word.Readonly = true
-word_begins_member kind file_kind invariant word.Shared = true
-word_begins_member kind file_kind invariant word.Invariant = not (is_prelude file_kind) && is_none invariant
-word_begins_member kind file_kind invariant word.Stub = is_partial kind
-word_begins_member kind file_kind invariant word.Builtin = is_prelude file_kind
-word_begins_member kind file_kind invariant _ = false
+-- stubs stand in partial classes alone, and built-in features in the prelude alone
+abbrev pub word_begins_member : Kind → FileKind → Word → Bool
+word_begins_member kind file_kind word.Attr = true
+word_begins_member kind file_kind word.Const = true
+word_begins_member kind file_kind word.Include = true
+word_begins_member kind file_kind word.Private = true
+word_begins_member kind file_kind word.Readonly = true
+word_begins_member kind file_kind word.Shared = true
+word_begins_member kind file_kind word.Stub = is_partial kind
+word_begins_member kind file_kind word.Builtin = is_prelude file_kind
+word_begins_member kind file_kind _ = false
 
-abbrev pub begins_member : Kind → FileKind → Option Condition → Option TokenKind → Bool
-begins_member kind file_kind invariant (Some (token.Word w)) = word_begins_member kind file_kind invariant w
-begins_member kind file_kind invariant (Some token.Lower) = true
-begins_member kind file_kind invariant (Some token.IterName) = true
-begins_member kind file_kind invariant _ = false
+abbrev pub begins_member : Kind → FileKind → Option TokenKind → Bool
+begins_member kind file_kind (Some (token.Word w)) = word_begins_member kind file_kind w
+begins_member kind file_kind (Some token.Lower) = true
+begins_member kind file_kind (Some token.IterName) = true
+begins_member kind file_kind _ = false
 
 abbrev pub word_begins_class : Word → Bool
 word_begins_class word.Abstract = true

@@ -2,8 +2,7 @@
 //!
 //! ```text
 //! class         = "abstract" "class" abstract_head "is" signatures "end"
-//!               | kind "class" concrete_head "is" members "end"
-//! kind          = ["immutable" | "partial"]
+//!               | ["immutable" | "partial"] "class" concrete_head "is" members "end"
 //! abstract_head = ANAME params subs [">" types]
 //! concrete_head = CNAME params subs
 //! params        = ["{" param_list "}"]
@@ -14,11 +13,9 @@
 //! members       = [member] {";" [member]}
 //! ```
 
-ghost use Rattle.std.specs.Prelude.{◌≡◌, ◌+◌, ◌<◌, ◌≤◌, IfErr, IfOk, OnOk, length};
-ghost use Rattle.sa_parse.specs.Features.{features_in};
+ghost use Rattle.std.specs.Prelude.{◌≤◌, IfErr, IfOk, length};
 ghost use Rattle.sa_parse_expr.specs.Places.{IsBehind, IsFrom, IsUnexpected};
 
-use crate::contract::Clauses;
 use crate::file::FileKind;
 use crate::member::{ClassContext, Declaration, member, of_sig};
 use crate::names::{abstract_name, class_name};
@@ -27,9 +24,7 @@ use crate::signature::sig;
 use crate::starts::begins_member;
 use sa_lex::{Sign, TokenKind, Word};
 use sa_parse_expr::{Tokens, read_type, read_types};
-use sa_tree::{
-    Access, Class, Condition, Contract, Feature, FrontFault, Include, Kind, Local, Param, Part, Ty,
-};
+use sa_tree::{Access, Class, Feature, FrontFault, Include, Kind, Local, Param, Part, Ty};
 use sqlite_items::Items;
 use std::alloc::{AllocError, Global};
 
@@ -50,13 +45,9 @@ struct DeclaredEdges {
 
 /// What stands between the `is` of a class and its `end`.
 #[derive(Drop)]
-pub(crate) struct Inside {
+struct Inside {
     includes: Items<Include>,
     features: Items<Feature>,
-    /// The clauses of the features.
-    clauses: Items<Contract>,
-    /// What holds of the class.
-    pub(crate) invariant: Option<Condition>,
 }
 
 impl Inside {
@@ -64,57 +55,21 @@ impl Inside {
         Inside {
             includes: Items::new(alloc),
             features: Items::new(alloc),
-            clauses: Items::new(alloc),
-            invariant: None,
         }
     }
 
-    /// Puts what a member of the class at this place gives at the end.
-    fn put(&mut self, class: u32, member: Option<Declaration>) -> Result<(), AllocError>
-        requires { length self.old.features < 4294967296 }
-        ensures { OnOk result (length self.new.features ≡ length self.old.features + length (features_in member)) }
-    {
+    /// Puts what a member gives at the end.
+    fn put(&mut self, member: Option<Declaration>) -> Result<(), AllocError> {
         match member {
-            Some(Declaration::Variables(features)) => self.features.append(features),
-            Some(Declaration::Called(feature, clauses)) => self.put_called(class, feature, clauses),
+            Some(Declaration::Features(features)) => self.features.append(features),
             Some(Declaration::Include(include)) => self.includes.push(include),
-            Some(Declaration::Invariant(holds)) => {
-                self.invariant = Some(holds);
-                Ok(())
-            }
             None => Ok(()),
         }
     }
-
-    /// Puts a feature of the class at this place at the end, and its clauses.
-    fn put_called(
-        &mut self,
-        class: u32,
-        feature: Feature,
-        clauses: Clauses,
-    ) -> Result<(), AllocError>
-        requires { length self.old.features < 4294967296 }
-        ensures { OnOk result (length self.new.features ≡ length self.old.features + 1) }
-    {
-        let place = self.features.len() as u32;
-        if let Some(contract) = clauses.of(class, place) {
-            self.clauses.push(contract)?;
-        }
-        self.features.push(feature)
-    }
 }
 
-/// A class with its contracts.
-#[derive(Drop)]
-pub(crate) struct WholeClass {
-    pub(crate) class: Class,
-    /// The clauses of its features.
-    pub(crate) clauses: Items<Contract>,
-    pub(crate) invariant: Option<Condition>,
-}
-
-fn whole_class(kind: Kind, head: Head, inside: Inside) -> WholeClass {
-    let class = Class {
+fn whole_class(kind: Kind, head: Head, inside: Inside) -> Class {
+    Class {
         kind,
         name: head.name,
         params: head.params,
@@ -122,30 +77,29 @@ fn whole_class(kind: Kind, head: Head, inside: Inside) -> WholeClass {
         above: head.edges.above,
         includes: inside.includes,
         features: inside.features,
-    };
-    WholeClass {
-        class,
-        clauses: inside.clauses,
-        invariant: inside.invariant,
     }
 }
 
-/// A class, which has this place among the classes.
+/// A class.
 pub(crate) fn class(
     alloc: Global,
     tokens: &Tokens<'_>,
     file_kind: FileKind,
-    place: u32,
     sharing: &mut Sharing,
     from: u32,
-) -> Result<(WholeClass, u32), FrontFault>
+) -> Result<(Class, u32), FrontFault>
     ensures next { IfOk result (λ read. IsBehind tokens.now.list.now from read.1) }
     ensures refused { IfErr result (IsUnexpected tokens.now.file) }
 {
-    if tokens.is_word(from, Word::Abstract) {
-        return abstract_class(alloc, tokens, sharing, from + 1);
-    }
-    concrete_class(alloc, tokens, file_kind, place, sharing, from)
+    let (kind, next) = match tokens.kind(from) {
+        Some(TokenKind::Word(Word::Abstract)) => {
+            return abstract_class(alloc, tokens, sharing, from + 1);
+        }
+        Some(TokenKind::Word(Word::Immutable)) => (Kind::Immutable, from + 1),
+        Some(TokenKind::Word(Word::Partial)) => (Kind::Partial, from + 1),
+        _ => (Kind::Reference, from),
+    };
+    concrete_class(alloc, tokens, file_kind, sharing, kind, next)
 }
 
 /// `"class" abstract_head "is" signatures "end"`
@@ -154,7 +108,7 @@ fn abstract_class(
     tokens: &Tokens<'_>,
     sharing: &mut Sharing,
     from: u32,
-) -> Result<(WholeClass, u32), FrontFault>
+) -> Result<(Class, u32), FrontFault>
     ensures next { IfOk result (λ read. IsBehind tokens.now.list.now from read.1) }
     ensures refused { IfErr result (IsUnexpected tokens.now.file) }
 {
@@ -205,47 +159,33 @@ fn abstract_inside(
     let (features, next) = signatures(alloc, tokens, sharing, next)?;
     let next = tokens.after_word(next, Word::End)?;
     let inside = Inside {
+        includes: Items::new(alloc),
         features,
-        ..Inside::new(alloc)
     };
     Ok((inside, next))
 }
 
-/// `kind "class" concrete_head "is" members "end"`
+/// `"class" concrete_head "is" members "end"`
 fn concrete_class(
     alloc: Global,
     tokens: &Tokens<'_>,
     file_kind: FileKind,
-    place: u32,
     sharing: &mut Sharing,
+    kind: Kind,
     from: u32,
-) -> Result<(WholeClass, u32), FrontFault>
+) -> Result<(Class, u32), FrontFault>
     ensures next { IfOk result (λ read. IsBehind tokens.now.list.now from read.1) }
     ensures refused { IfErr result (IsUnexpected tokens.now.file) }
 {
-    let (kind, next) = kind(tokens, from);
-    let next = tokens.after_word(next, Word::Class)?;
+    let next = tokens.after_word(from, Word::Class)?;
     let (head, next) = concrete_head(alloc, tokens, next)?;
     let class = ClassContext {
-        place,
         name: &head.name.name,
         kind,
         file_kind,
     };
     let (inside, next) = concrete_inside(alloc, tokens, class, sharing, next)?;
     Ok((whole_class(kind, head, inside), next))
-}
-
-/// `["immutable" | "partial"]`
-fn kind(tokens: &Tokens<'_>, from: u32) -> (Kind, u32)
-    ensures from { from ≤ result.1 }
-    ensures within { from ≤ length tokens.now.list.now → result.1 ≤ length tokens.now.list.now }
-{
-    match tokens.kind(from) {
-        Some(TokenKind::Word(Word::Immutable)) => (Kind::Immutable, from + 1),
-        Some(TokenKind::Word(Word::Partial)) => (Kind::Partial, from + 1),
-        _ => (Kind::Reference, from),
-    }
 }
 
 /// `CNAME params subs`
@@ -404,32 +344,30 @@ fn members(
     ensures next { IfOk result (λ read. IsFrom tokens.now.list.now from read.1) }
     ensures refused { IfErr result (IsUnexpected tokens.now.file) }
 {
+    let (first, mut next) = optional_member(alloc, tokens, class, sharing, from)?;
     let mut inside = Inside::new(alloc);
-    let (first, mut next) = optional_member(alloc, tokens, class, sharing, &inside, from)?;
-    inside.put(class.place, first)?;
+    inside.put(first)?;
     'more: while tokens.is_sign(next, Sign::Semicolon) {
-        let (one, end) = optional_member(alloc, tokens, class, sharing, &inside, next + 1)?;
-        inside.put(class.place, one)?;
+        let (one, end) = optional_member(alloc, tokens, class, sharing, next + 1)?;
+        inside.put(one)?;
         next = end;
     }
     Ok((inside, next))
 }
 
-/// `[member]`, behind other members.
+/// `[member]`
 fn optional_member(
     alloc: Global,
     tokens: &Tokens<'_>,
     class: ClassContext<'_>,
     sharing: &mut Sharing,
-    others: &Inside,
     from: u32,
 ) -> Result<(Option<Declaration>, u32), FrontFault>
     requires { from ≤ length tokens.now.list.now }
-    ensures count { IfOk result (λ read. from + length (features_in read.0) ≤ read.1) }
     ensures next { IfOk result (λ read. IsFrom tokens.now.list.now from read.1) }
     ensures refused { IfErr result (IsUnexpected tokens.now.file) }
 {
-    if !begins_member(tokens.kind(from), class, others) {
+    if !begins_member(tokens.kind(from), class) {
         return Ok((None, from));
     }
     let (member, next) = member(alloc, tokens, class, sharing, from)?;

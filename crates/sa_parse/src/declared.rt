@@ -11,7 +11,7 @@
 //! so that each feature has its own. A constant without a written type has no type in the tree; it is the initialiser
 //! plus the number of names before it.
 
-ghost use Rattle.std.specs.Prelude.{◌+◌, ◌≤◌, IfErr, IfOk, length};
+ghost use Rattle.std.specs.Prelude.{◌≤◌, IfErr, IfOk, length};
 ghost use Rattle.sa_parse_expr.specs.Places.{IsBehind, IsFrom, IsUnexpected};
 
 use crate::names::{lower_name, lower_names};
@@ -59,7 +59,6 @@ pub(crate) fn attr(
     access: Access,
     from: u32,
 ) -> Result<(Items<Feature>, u32), FrontFault>
-    ensures count { IfOk result (λ read. from + length read.0 ≤ read.1) }
     ensures next { IfOk result (λ read. IsBehind tokens.now.list.now from read.1) }
     ensures refused { IfErr result (IsUnexpected tokens.now.file) }
 {
@@ -83,7 +82,6 @@ pub(crate) fn shared(
     access: Access,
     from: u32,
 ) -> Result<(Items<Feature>, u32), FrontFault>
-    ensures count { IfOk result (λ read. from + length read.0 ≤ read.1) }
     ensures next { IfOk result (λ read. IsBehind tokens.now.list.now from read.1) }
     ensures refused { IfErr result (IsUnexpected tokens.now.file) }
 {
@@ -136,7 +134,6 @@ pub(crate) fn constants(
     access: Access,
     from: u32,
 ) -> Result<(Items<Feature>, u32), FrontFault>
-    ensures count { IfOk result (λ read. from + length read.0 ≤ read.1) }
     ensures next { IfOk result (λ read. IsBehind tokens.now.list.now from read.1) }
     ensures refused { IfErr result (IsUnexpected tokens.now.file) }
 {
@@ -156,7 +153,6 @@ fn typed_constant(
     name: Local,
     from: u32,
 ) -> Result<(Items<Feature>, u32), FrontFault>
-    ensures count { IfOk result (λ read. from + length read.0 ≤ read.1) }
     ensures next { IfOk result (λ read. IsBehind tokens.now.list.now from read.1) }
     ensures refused { IfErr result (IsUnexpected tokens.now.file) }
 {
@@ -179,7 +175,6 @@ fn counted_constants(
     from: u32,
 ) -> Result<(Items<Feature>, u32), FrontFault>
     requires { from ≤ length tokens.now.list.now }
-    ensures count { IfOk result (λ read. from + length read.0 ≤ read.1 + 1) }
     ensures next { IfOk result (λ read. IsFrom tokens.now.list.now from read.1) }
     ensures refused { IfErr result (IsUnexpected tokens.now.file) }
 {

@@ -1,23 +1,23 @@
-//! The classes and the contracts of a file.
+//! The classes of a file.
 //!
 //! ```text
 //! file = [class] {";" [class]}
 //! ```
 
-ghost use Rattle.std.specs.Prelude.{◌≡◌, ◌+◌, ◌<◌, ◌≤◌, All, IfErr, IfOk, OnOk, length};
+ghost use Rattle.std.specs.Prelude.{◌<◌, ◌≤◌, All, IfErr, IfOk, OnOk, length};
 ghost use Rattle.sa_lex.specs.Token.{IsWithin};
 ghost use Rattle.sa_parse_expr.specs.Level.{AreTaken};
 ghost use Rattle.sa_parse_expr.specs.Places.{IsFrom, IsUnexpected};
 ghost use Rattle.sa_parse.specs.Refusals.{IsRefusal};
 
-use crate::class::{WholeClass, class};
+use crate::class::class;
 use crate::sharing::Sharing;
 use crate::starts::begins_class;
 use sa_lex::{Sign, Token};
 use sa_parse_expr::{Tokens, scan};
-use sa_tree::{Class, Contract, FrontFault};
+use sa_tree::{Class, FrontFault};
 use sqlite_items::Items;
-use std::alloc::{AllocError, Global};
+use std::alloc::Global;
 
 /// What kind of file the classes are of: the prelude, which alone may have built-in features, or a file of the program.
 #[derive(Clone, Copy, Debug, PartialEq, Eq)]
@@ -26,43 +26,7 @@ pub enum FileKind {
     Program,
 }
 
-/// What files declare: classes, and the contracts of these, by their places among them.
-#[derive(Drop)]
-pub struct Parsed {
-    pub classes: Items<Class>,
-    /// By class: the clauses of its features in their order, and behind them its invariant.
-    pub contracts: Items<Contract>,
-}
-
-impl Parsed {
-    fn new(alloc: Global) -> Parsed
-        ensures { length result.classes ≡ 0 }
-    {
-        Parsed {
-            classes: Items::new(alloc),
-            contracts: Items::new(alloc),
-        }
-    }
-
-    /// Puts the class with this place at the end, and its contracts.
-    fn put(&mut self, place: u32, one: Option<WholeClass>) -> Result<(), AllocError>
-        ensures { OnOk result (length self.new.classes ≤ length self.old.classes + 1) }
-    {
-        let Some(whole) = one else {
-            return Ok(());
-        };
-        self.classes.push(whole.class)?;
-        self.contracts.append(whole.clauses)?;
-        if let Some(holds) = whole.invariant {
-            let class = place;
-            self.contracts.push(Contract::Invariant { class, holds })?;
-        }
-        Ok(())
-    }
-}
-
-/// The classes that the tokens of a text spell, and their contracts. The text is that of file `file`, and the place of its first
-/// class is `first`.
+/// The classes that the tokens of a text spell. The text is that of file `file`.
 ///
 /// `Refused` names the first token that is a word which the profile refuses (E08), or at which the level passes 200
 /// (E07); where there is none, the first token with which the tokens up to it begin no file, or the end of the file
@@ -74,12 +38,10 @@ pub fn parse(
     src: &[u8],
     file: u32,
     file_kind: FileKind,
-    first: u32,
-) -> Result<Parsed, FrontFault>
+) -> Result<Items<Class>, FrontFault>
     requires within { All (IsWithin src.now) tokens.now }
     requires few { length tokens.now < 4294967295 }
     requires short { length src.now < 4294967295 }
-    requires places { first + length tokens.now < 4294967295 }
     ensures taken { OnOk result (AreTaken tokens.now (length tokens.now)) }
     ensures refused { IfErr result (IsRefusal tokens.now file) }
 {
@@ -89,44 +51,44 @@ pub fn parse(
         src,
         file,
     };
-    classes(alloc, &tokens, file_kind, first)
+    classes(alloc, &tokens, file_kind)
 }
 
-/// `[class] {";" [class]}`, and the end of the file. The place of the first class is `first`.
+/// `[class] {";" [class]}`, and the end of the file.
 fn classes(
     alloc: Global,
     tokens: &Tokens<'_>,
     file_kind: FileKind,
-    first: u32,
-) -> Result<Parsed, FrontFault>
-    requires { first + length tokens.now.list.now < 4294967295 }
+) -> Result<Items<Class>, FrontFault>
     ensures { IfErr result (IsUnexpected tokens.now.file) }
 {
     let mut sharing = Sharing::new();
-    let mut parsed = Parsed::new(alloc);
-    let (one, mut next) = optional_class(alloc, tokens, file_kind, first, &mut sharing, 0)?;
-    parsed.put(first, one)?;
+    let (first, mut next) = optional_class(alloc, tokens, file_kind, &mut sharing, 0)?;
+    let mut classes = Items::new(alloc);
+    if let Some(class) = first {
+        classes.push(class)?;
+    }
     'more: while tokens.is_sign(next, Sign::Semicolon) {
-        let place = first + parsed.classes.len() as u32;
-        let (one, end) = optional_class(alloc, tokens, file_kind, place, &mut sharing, next + 1)?;
-        parsed.put(place, one)?;
+        let (one, end) = optional_class(alloc, tokens, file_kind, &mut sharing, next + 1)?;
+        if let Some(class) = one {
+            classes.push(class)?;
+        }
         next = end;
     }
     match tokens.kind(next) {
-        None => Ok(parsed),
+        None => Ok(classes),
         Some(_) => Err(tokens.unexpected(next)),
     }
 }
 
-/// `[class]`, which has this place among the classes.
+/// `[class]`
 fn optional_class(
     alloc: Global,
     tokens: &Tokens<'_>,
     file_kind: FileKind,
-    place: u32,
     sharing: &mut Sharing,
     from: u32,
-) -> Result<(Option<WholeClass>, u32), FrontFault>
+) -> Result<(Option<Class>, u32), FrontFault>
     requires { from ≤ length tokens.now.list.now }
     ensures next { IfOk result (λ read. IsFrom tokens.now.list.now from read.1) }
     ensures refused { IfErr result (IsUnexpected tokens.now.file) }
@@ -134,6 +96,6 @@ fn optional_class(
     if !begins_class(tokens.kind(from)) {
         return Ok((None, from));
     }
-    let (class, next) = class(alloc, tokens, file_kind, place, sharing, from)?;
+    let (class, next) = class(alloc, tokens, file_kind, sharing, from)?;
     Ok((Some(class), next))
 }

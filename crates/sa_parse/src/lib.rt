@@ -1,10 +1,9 @@
-//! The classes and the contracts of a file from its tokens.
+//! The classes of a file from its tokens.
 #![tactic(auto)]
 
 mod blocks;
 mod body;
 mod class;
-mod contract;
 mod declared;
 mod file;
 mod include;
@@ -15,4 +14,4 @@ mod signature;
 mod starts;
 mod statement;
 
-pub use file::{FileKind, Parsed, parse};
+pub use file::{FileKind, parse};

@@ -1,24 +1,20 @@
-//! The members of a class, which are its features, its includes and its invariant: one function for each alternative of their
-//! grammar.
+//! The members of a class, which are its features and includes: one function for each alternative of their grammar.
 //!
 //! ```text
-//! member = ["private"] sig clauses whole_body
+//! member = ["private"] sig whole_body
 //!        | ["private"] "stub" sig                    in partial classes alone
 //!        | ["private"] "builtin" sig                 in the prelude alone
 //!        | ["private" | "readonly"] attr
 //!        | ["private" | "readonly"] shared
 //!        | ["private"] const
 //!        | ["private"] include
-//!        | invariant                                 in the program alone, and once in a class
 //! whole_body = "is" stmts "end"
 //! ```
 
-ghost use Rattle.std.specs.Prelude.{◌+◌, ◌≤◌, IfErr, IfOk, length};
-ghost use Rattle.sa_parse.specs.Features.{features_of};
+ghost use Rattle.std.specs.Prelude.{IfErr, IfOk};
 ghost use Rattle.sa_parse_expr.specs.Places.{IsBehind, IsUnexpected};
 
 use crate::body::read_body;
-use crate::contract::{Clauses, feature_clauses, invariant};
 use crate::declared::{attr, constants, shared};
 use crate::file::FileKind;
 use crate::include::include;
@@ -26,30 +22,23 @@ use crate::sharing::Sharing;
 use crate::signature::{Signature, sig};
 use sa_lex::{TokenKind, Word};
 use sa_parse_expr::Tokens;
-use sa_tree::{Access, Body, Condition, Feature, FrontFault, Include, Kind, Name, Part, Shared};
+use sa_tree::{Access, Body, Feature, FrontFault, Include, Kind, Name, Part, Shared};
 use sqlite_items::Items;
 use std::alloc::Global;
 
 /// The class that members stand in.
 #[derive(Clone, Copy)]
 pub(crate) struct ClassContext<'a> {
-    /// Its place among the classes.
-    pub(crate) place: u32,
     pub(crate) name: &'a Name,
     pub(crate) kind: Kind,
     pub(crate) file_kind: FileKind,
 }
 
-/// What a member of the grammar gives.
+/// What a member of the grammar gives: an include, or a feature of the tree for each of its names.
 #[derive(Drop)]
 pub(crate) enum Declaration {
-    /// A feature of the tree for each of its names.
-    Variables(Items<Feature>),
-    /// A feature with a signature, and its clauses.
-    Called(Feature, Clauses),
+    Features(Items<Feature>),
     Include(Include),
-    /// What holds of the class.
-    Invariant(Condition),
 }
 
 /// The feature of a signature.
@@ -71,7 +60,6 @@ pub(crate) fn member(
     sharing: &mut Sharing,
     from: u32,
 ) -> Result<(Declaration, u32), FrontFault>
-    ensures count { IfOk result (λ read. from + length (features_of read.0) ≤ read.1) }
     ensures next { IfOk result (λ read. IsBehind tokens.now.list.now from read.1) }
     ensures refused { IfErr result (IsUnexpected tokens.now.file) }
 {
@@ -81,11 +69,7 @@ pub(crate) fn member(
         }
         Some(TokenKind::Word(Word::Readonly)) => {
             let (features, next) = variables(alloc, tokens, sharing, Access::ReadOnly, from + 1)?;
-            Ok((Declaration::Variables(features), next))
-        }
-        Some(TokenKind::Word(Word::Invariant)) => {
-            let (holds, next) = invariant(alloc, tokens, from + 1)?;
-            Ok((Declaration::Invariant(holds), next))
+            Ok((Declaration::Features(features), next))
         }
         _ => after_access(alloc, tokens, class, sharing, Access::Public, from),
     }
@@ -100,7 +84,6 @@ fn after_access(
     access: Access,
     from: u32,
 ) -> Result<(Declaration, u32), FrontFault>
-    ensures count { IfOk result (λ read. from + length (features_of read.0) ≤ read.1) }
     ensures next { IfOk result (λ read. IsBehind tokens.now.list.now from read.1) }
     ensures refused { IfErr result (IsUnexpected tokens.now.file) }
 {
@@ -111,13 +94,18 @@ fn after_access(
         }
         Some(TokenKind::Word(Word::Attr | Word::Shared)) => {
             let (features, next) = variables(alloc, tokens, sharing, access, from)?;
-            Ok((Declaration::Variables(features), next))
+            Ok((Declaration::Features(features), next))
         }
         Some(TokenKind::Word(Word::Const)) => {
             let (features, next) = constants(alloc, tokens, sharing, access, from + 1)?;
-            Ok((Declaration::Variables(features), next))
+            Ok((Declaration::Features(features), next))
         }
-        _ => called(alloc, tokens, class, sharing, access, from),
+        _ => {
+            let (feature, next) = called(alloc, tokens, class, sharing, access, from)?;
+            let mut features = Items::new(alloc);
+            features.push(feature)?;
+            Ok((Declaration::Features(features), next))
+        }
     }
 }
 
@@ -129,7 +117,6 @@ fn variables(
     access: Access,
     from: u32,
 ) -> Result<(Items<Feature>, u32), FrontFault>
-    ensures count { IfOk result (λ read. from + length read.0 ≤ read.1) }
     ensures next { IfOk result (λ read. IsBehind tokens.now.list.now from read.1) }
     ensures refused { IfErr result (IsUnexpected tokens.now.file) }
 {
@@ -140,7 +127,7 @@ fn variables(
     }
 }
 
-/// `sig clauses whole_body | "stub" sig | "builtin" sig`
+/// `sig whole_body | "stub" sig | "builtin" sig`
 fn called(
     alloc: Global,
     tokens: &Tokens<'_>,
@@ -148,22 +135,19 @@ fn called(
     sharing: &mut Sharing,
     access: Access,
     from: u32,
-) -> Result<(Declaration, u32), FrontFault>
-    ensures count { IfOk result (λ read. from + length (features_of read.0) ≤ read.1) }
+) -> Result<(Feature, u32), FrontFault>
     ensures next { IfOk result (λ read. IsBehind tokens.now.list.now from read.1) }
     ensures refused { IfErr result (IsUnexpected tokens.now.file) }
 {
     match tokens.kind(from) {
         Some(TokenKind::Word(Word::Stub)) if class.kind == Kind::Partial => {
             let (sig, next) = sig(alloc, tokens, sharing, from + 1)?;
-            let stub = of_sig(sig, access, Part::Stub);
-            Ok((Declaration::Called(stub, Clauses::none()), next))
+            Ok((of_sig(sig, access, Part::Stub), next))
         }
         Some(TokenKind::Word(Word::Builtin)) if class.file_kind == FileKind::Prelude => {
-            let (builtin, next) = builtin(alloc, tokens, class, sharing, access, from + 1)?;
-            Ok((Declaration::Called(builtin, Clauses::none()), next))
+            builtin(alloc, tokens, class, sharing, access, from + 1)
         }
-        _ => routine(alloc, tokens, class, sharing, access, from),
+        _ => routine(alloc, tokens, sharing, access, from),
     }
 }
 
@@ -185,24 +169,20 @@ fn builtin(
     Ok((of_sig(sig, access, Part::Builtin(of, name)), next))
 }
 
-/// `sig clauses whole_body`
+/// `sig whole_body`
 fn routine(
     alloc: Global,
     tokens: &Tokens<'_>,
-    class: ClassContext<'_>,
     sharing: &mut Sharing,
     access: Access,
     from: u32,
-) -> Result<(Declaration, u32), FrontFault>
-    ensures count { IfOk result (λ read. from + length (features_of read.0) ≤ read.1) }
+) -> Result<(Feature, u32), FrontFault>
     ensures next { IfOk result (λ read. IsBehind tokens.now.list.now from read.1) }
     ensures refused { IfErr result (IsUnexpected tokens.now.file) }
 {
     let (sig, next) = sig(alloc, tokens, sharing, from)?;
-    let (clauses, next) = feature_clauses(alloc, tokens, class.file_kind, next)?;
     let (body, next) = whole_body(alloc, tokens, next)?;
-    let routine = of_sig(sig, access, Part::Routine(body));
-    Ok((Declaration::Called(routine, clauses), next))
+    Ok((of_sig(sig, access, Part::Routine(body)), next))
 }
 
 /// `"is" stmts "end"`

@@ -1,6 +1,6 @@
 //! Names where they are declared, changed or tested.
 
-ghost use Rattle.std.specs.Prelude.{◌+◌, ◌≤◌, IfErr, IfOk, vec_len};
+ghost use Rattle.std.specs.Prelude.{IfErr, IfOk};
 ghost use Rattle.sa_parse_expr.specs.Places.{IsBehind, IsUnexpected};
 
 use sa_lex::{Sign, TokenKind};
@@ -76,24 +76,12 @@ pub(crate) fn abstract_name(
     Ok((local(alloc, tokens, from)?, from + 1))
 }
 
-/// The place behind the class name `BOOL`.
-pub(crate) fn after_bool(tokens: &Tokens<'_>, from: u32) -> Result<u32, FrontFault>
-    ensures next { IfOk result (IsBehind tokens.now.list.now from) }
-    ensures refused { IfErr result (IsUnexpected tokens.now.file) }
-{
-    match tokens.kind(from) {
-        Some(TokenKind::ClassName) if tokens.bytes(from) == b"BOOL".as_slice() => Ok(from + 1),
-        _ => Err(tokens.unexpected(from)),
-    }
-}
-
 /// `LNAME {"," LNAME}`
 pub(crate) fn lower_names(
     alloc: Global,
     tokens: &Tokens<'_>,
     from: u32,
 ) -> Result<(Vec<Local>, u32), FrontFault>
-    ensures count { IfOk result (λ read. from + vec_len read.0 ≤ read.1) }
     ensures next { IfOk result (λ read. IsBehind tokens.now.list.now from read.1) }
     ensures refused { IfErr result (IsUnexpected tokens.now.file) }
 {

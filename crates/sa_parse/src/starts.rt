@@ -6,7 +6,6 @@ ghost use Rattle.std.specs.Bool.{OnTrue};
 ghost use Rattle.std.specs.Option.{option_copied};
 ghost use Rattle.sa_parse.specs.Starts.{begins_class, begins_member, begins_statement};
 
-use crate::class::Inside;
 use crate::file::FileKind;
 use crate::member::ClassContext;
 use sa_lex::{TokenKind, Word};
@@ -37,13 +36,9 @@ pub(crate) fn begins_statement(token: Option<&TokenKind>) -> bool
     }
 }
 
-/// Whether the token begins a member of this class behind these others.
-pub(crate) fn begins_member(
-    token: Option<&TokenKind>,
-    class: ClassContext<'_>,
-    others: &Inside,
-) -> bool
-    ensures value { result ≡ begins_member class.entry.kind class.entry.file_kind others.now.invariant (option_copied token.entry) }
+/// Whether the token begins a member of this class.
+pub(crate) fn begins_member(token: Option<&TokenKind>, class: ClassContext<'_>) -> bool
+    ensures value { result ≡ begins_member class.entry.kind class.entry.file_kind (option_copied token.entry) }
     ensures there { OnTrue result (IsSome token.entry) }
 {
     match token {
@@ -57,9 +52,6 @@ pub(crate) fn begins_member(
                 | Word::Shared,
             ),
         ) => true,
-        Some(TokenKind::Word(Word::Invariant)) => {
-            matches!(class.file_kind, FileKind::Program) && others.invariant.is_none()
-        }
         Some(TokenKind::Word(Word::Stub)) => matches!(class.kind, Kind::Partial),
         Some(TokenKind::Word(Word::Builtin)) => matches!(class.file_kind, FileKind::Prelude),
         Some(TokenKind::Lower | TokenKind::IterName) => true,

@@ -66,7 +66,8 @@ pub data IsPrefix : Op → Lexeme → Type 0 where
 -- text {text}: the bytes of all
 pub data IsTexts : List Lexeme → List ℕ → Type 0 where
   last_text : {l : Lexeme} {bytes : List ℕ} → l.kind ≡ token.Text bytes → IsTexts (l ∷ []) bytes
-  more_texts : {l : Lexeme} {ls : List Lexeme} {bytes others : List ℕ} → l.kind ≡ token.Text bytes → IsTexts ls others → IsTexts (l ∷ ls) (bytes ++ others)
+  more_texts : {l : Lexeme} {ls : List Lexeme} {bytes others : List ℕ} → l.kind ≡ token.Text bytes → IsTexts ls others
+      → IsTexts (l ∷ ls) (bytes ++ others)
 
 -- optional_type = [type]
 pub data IsOptionalType : List Lexeme → Option Ty → Type 0 where
@@ -84,7 +85,9 @@ mutual
   -- operation = operand {operator operand}, to the left
   pub data IsOperation : Scope → Precedence → Around → List Lexeme → Expr → Type 0 where
     operand : {s : Scope} {p : Precedence} {x : Around} {ls : List Lexeme} {e : Expr} → IsOperand s p x ls e → IsOperation s p x ls e
-    operation : {s : Scope} {p : Precedence} {x : Around} {ls ms : List Lexeme} {o : Lexeme} {op : Op} {a b : Expr} → IsOperation s p x ls a → IsOperator p op o → IsOperand s p x ms b → IsOperation s p x (ls ++ o ∷ ms) (tree.Binary op a b o.pos)
+    operation : {s : Scope} {p : Precedence} {x : Around} {ls ms : List Lexeme} {o : Lexeme} {op : Op} {a b : Expr}
+        → IsOperation s p x ls a → IsOperator p op o → IsOperand s p x ms b
+        → IsOperation s p x (ls ++ o ∷ ms) (tree.Binary op a b o.pos)
 
   -- an operand of operators of a precedence: an operation of the next stronger ones, or a unary
   pub data IsOperand : Scope → Precedence → Around → List Lexeme → Expr → Type 0 where
@@ -95,54 +98,76 @@ mutual
 
   -- unary = ("-" | "~") unary | power
   pub data IsUnary : Scope → Around → List Lexeme → Expr → Type 0 where
-    prefix : {s : Scope} {x : Around} {ls : List Lexeme} {o : Lexeme} {op : Op} {e : Expr} → IsPrefix op o → IsUnary s x ls e → IsUnary s x (o ∷ ls) (tree.Unary op e o.pos)
+    prefix : {s : Scope} {x : Around} {ls : List Lexeme} {o : Lexeme} {op : Op} {e : Expr} → IsPrefix op o → IsUnary s x ls e
+        → IsUnary s x (o ∷ ls) (tree.Unary op e o.pos)
     power : {s : Scope} {x : Around} {ls : List Lexeme} {e : Expr} → IsPower s x ls e → IsUnary s x ls e
 
   -- power = post ["^" power]
   pub data IsPower : Scope → Around → List Lexeme → Expr → Type 0 where
     post : {s : Scope} {x : Around} {ls : List Lexeme} {e : Expr} → IsPost s x ls e → IsPower s x ls e
-    raised : {s : Scope} {x : Around} {ls ms : List Lexeme} {o : Lexeme} {a b : Expr} → IsPost s x ls a → IsSign sign.Caret o → IsPower s x ms b → IsPower s x (ls ++ o ∷ ms) (tree.Binary Pow a b o.pos)
+    raised : {s : Scope} {x : Around} {ls ms : List Lexeme} {o : Lexeme} {a b : Expr}
+        → IsPost s x ls a → IsSign sign.Caret o → IsPower s x ms b
+        → IsPower s x (ls ++ o ∷ ms) (tree.Binary Pow a b o.pos)
 
   -- post = first {"." F [args] | index}. An index stands at the first token of the whole form
   pub data IsPost : Scope → Around → List Lexeme → Expr → Type 0 where
     first : {s : Scope} {x : Around} {ls : List Lexeme} {e : Expr} → IsFirst s x ls e → IsPost s x ls e
-    call_on : {s : Scope} {x : Around} {ls ms : List Lexeme} {dot : Lexeme} {a e : Expr} → IsPost s x ls a → IsSign sign.Dot dot → IsCall s (Of a) ms e → IsPost s x (ls ++ dot ∷ ms) e
-    index_of : {s : Scope} {x : Around} {l : Lexeme} {ls ms : List Lexeme} {a : Expr} {places : List Expr} → IsPost s x (l ∷ ls) a → IsIndex s ms places → IsPost s x ((l ∷ ls) ++ ms) (tree.Index (Some a) places l.pos)
+    call_on : {s : Scope} {x : Around} {ls ms : List Lexeme} {dot : Lexeme} {a e : Expr}
+        → IsPost s x ls a → IsSign sign.Dot dot → IsCall s (Of a) ms e
+        → IsPost s x (ls ++ dot ∷ ms) e
+    index_of : {s : Scope} {x : Around} {l : Lexeme} {ls ms : List Lexeme} {a : Expr} {places : List Expr}
+        → IsPost s x (l ∷ ls) a → IsIndex s ms places
+        → IsPost s x ((l ∷ ls) ++ ms) (tree.Index (Some a) places l.pos)
 
   -- index = "[" expr {"," expr} "]"
   pub data IsIndex : Scope → List Lexeme → List Expr → Type 0 where
-    places : {s : Scope} {opening closing : Lexeme} {ls : List Lexeme} {places : List Expr} → IsSign sign.LeftBracket opening → IsExprs s around.Open ls places → IsSign sign.RightBracket closing → IsIndex s (opening ∷ ls ++ closing ∷ []) places
+    places : {s : Scope} {opening closing : Lexeme} {ls : List Lexeme} {places : List Expr}
+        → IsSign sign.LeftBracket opening → IsExprs s around.Open ls places → IsSign sign.RightBracket closing
+        → IsIndex s (opening ∷ ls ++ closing ∷ []) places
 
   -- F [args]: the call stands at its name
   pub data IsCall : Scope → Recv → List Lexeme → Expr → Type 0 where
-    named : {s : Scope} {on : Recv} {f : Lexeme} {ls : List Lexeme} {given : List Given} → IsFeature f → IsArgs s ls given → IsCall s on (f ∷ ls) (tree.Call on f.bytes given f.pos)
+    named : {s : Scope} {on : Recv} {f : Lexeme} {ls : List Lexeme} {given : List Given} → IsFeature f → IsArgs s ls given
+        → IsCall s on (f ∷ ls) (tree.Call on f.bytes given f.pos)
 
   -- [args], with args = "(" arg {"," arg} ")"
   pub data IsArgs : Scope → List Lexeme → List Given → Type 0 where
     no_args : {s : Scope} → IsArgs s [] []
-    args : {s : Scope} {opening closing : Lexeme} {ls : List Lexeme} {given : List Given} → IsSign sign.LeftParen opening → IsArgList s ls given → IsSign sign.RightParen closing → IsArgs s (opening ∷ ls ++ closing ∷ []) given
+    args : {s : Scope} {opening closing : Lexeme} {ls : List Lexeme} {given : List Given}
+        → IsSign sign.LeftParen opening → IsArgList s ls given → IsSign sign.RightParen closing
+        → IsArgs s (opening ∷ ls ++ closing ∷ []) given
 
   -- arg {"," arg}
   pub data IsArgList : Scope → List Lexeme → List Given → Type 0 where
     last_arg : {s : Scope} {ls : List Lexeme} {arg : Given} → IsArg s ls arg → IsArgList s ls (arg ∷ [])
-    more_args : {s : Scope} {ls ms : List Lexeme} {comma : Lexeme} {arg : Given} {given : List Given} → IsArg s ls arg → IsSign sign.Comma comma → IsArgList s ms given → IsArgList s (ls ++ comma ∷ ms) (arg ∷ given)
+    more_args : {s : Scope} {ls ms : List Lexeme} {comma : Lexeme} {arg : Given} {given : List Given}
+        → IsArg s ls arg → IsSign sign.Comma comma → IsArgList s ms given
+        → IsArgList s (ls ++ comma ∷ ms) (arg ∷ given)
 
   -- arg = ["out" | "inout"] expr | "_" [":" type]
   pub data IsArg : Scope → List Lexeme → Given → Type 0 where
     in_value : {s : Scope} {ls : List Lexeme} {e : Expr} → IsExpr s around.Open ls e → IsArg s ls (Value In e)
-    out_value : {s : Scope} {w : Lexeme} {ls : List Lexeme} {e : Expr} → IsWord word.Out w → IsExpr s around.Open ls e → IsArg s (w ∷ ls) (Value Out e)
-    inout_value : {s : Scope} {w : Lexeme} {ls : List Lexeme} {e : Expr} → IsWord word.Inout w → IsExpr s around.Open ls e → IsArg s (w ∷ ls) (Value Inout e)
+    out_value : {s : Scope} {w : Lexeme} {ls : List Lexeme} {e : Expr} → IsWord word.Out w → IsExpr s around.Open ls e
+        → IsArg s (w ∷ ls) (Value Out e)
+    inout_value : {s : Scope} {w : Lexeme} {ls : List Lexeme} {e : Expr} → IsWord word.Inout w → IsExpr s around.Open ls e
+        → IsArg s (w ∷ ls) (Value Inout e)
     left : {s : Scope} {l : Lexeme} → IsSign sign.Underscore l → IsArg s (l ∷ []) (Left None l.pos)
-    left_of_type : {s : Scope} {l colon : Lexeme} {ls : List Lexeme} {t : Ty} → IsSign sign.Underscore l → IsSign sign.Colon colon → IsType ls t → IsArg s (l ∷ colon ∷ ls) (Left (Some t) l.pos)
+    left_of_type : {s : Scope} {l colon : Lexeme} {ls : List Lexeme} {t : Ty}
+        → IsSign sign.Underscore l → IsSign sign.Colon colon → IsType ls t
+        → IsArg s (l ∷ colon ∷ ls) (Left (Some t) l.pos)
 
   -- expr {"," expr}
   pub data IsExprs : Scope → Around → List Lexeme → List Expr → Type 0 where
     last_expr : {s : Scope} {x : Around} {ls : List Lexeme} {e : Expr} → IsExpr s x ls e → IsExprs s x ls (e ∷ [])
-    more_exprs : {s : Scope} {x : Around} {ls ms : List Lexeme} {comma : Lexeme} {e : Expr} {es : List Expr} → IsExpr s x ls e → IsSign sign.Comma comma → IsExprs s x ms es → IsExprs s x (ls ++ comma ∷ ms) (e ∷ es)
+    more_exprs : {s : Scope} {x : Around} {ls ms : List Lexeme} {comma : Lexeme} {e : Expr} {es : List Expr}
+        → IsExpr s x ls e → IsSign sign.Comma comma → IsExprs s x ms es
+        → IsExprs s x (ls ++ comma ∷ ms) (e ∷ es)
 
   -- "(" expr ")"
   pub data IsParenthesised : Scope → List Lexeme → Expr → Type 0 where
-    in_parentheses : {s : Scope} {opening closing : Lexeme} {ls : List Lexeme} {e : Expr} → IsSign sign.LeftParen opening → IsExpr s around.Open ls e → IsSign sign.RightParen closing → IsParenthesised s (opening ∷ ls ++ closing ∷ []) e
+    in_parentheses : {s : Scope} {opening closing : Lexeme} {ls : List Lexeme} {e : Expr}
+        → IsSign sign.LeftParen opening → IsExpr s around.Open ls e → IsSign sign.RightParen closing
+        → IsParenthesised s (opening ∷ ls ++ closing ∷ []) e
 
   -- first = number | char | text {text} | "true" | "false" | "self" | "exception" | "(" expr ")"
   --       | "void" ["(" expr ")"] | "new" ["(" expr ")"] | F [args] | type "::" F [args]
@@ -151,21 +176,34 @@ mutual
   pub data IsFirst : Scope → Around → List Lexeme → Expr → Type 0 where
     number : {s : Scope} {x : Around} {l : Lexeme} {value : ℕ} → l.kind ≡ token.Int value → IsFirst s x (l ∷ []) (tree.Int value l.pos)
     character : {s : Scope} {x : Around} {l : Lexeme} {byte : ℕ} → l.kind ≡ token.Char byte → IsFirst s x (l ∷ []) (tree.Char byte l.pos)
-    texts : {s : Scope} {x : Around} {l : Lexeme} {ls : List Lexeme} {bytes : List ℕ} → IsTexts (l ∷ ls) bytes → IsFirst s x (l ∷ ls) (tree.Text bytes l.pos)
+    texts : {s : Scope} {x : Around} {l : Lexeme} {ls : List Lexeme} {bytes : List ℕ} → IsTexts (l ∷ ls) bytes
+        → IsFirst s x (l ∷ ls) (tree.Text bytes l.pos)
     true_word : {s : Scope} {x : Around} {w : Lexeme} → IsWord word.True w → IsFirst s x (w ∷ []) (tree.Bool true w.pos)
     false_word : {s : Scope} {x : Around} {w : Lexeme} → IsWord word.False w → IsFirst s x (w ∷ []) (tree.Bool false w.pos)
     self_word : {s : Scope} {x : Around} {w : Lexeme} → IsWord word.SelfWord w → IsFirst s x (w ∷ []) (tree.Me w.pos)
     exception_word : {s : Scope} {x : Around} {w : Lexeme} → IsWord word.Exception w → IsFirst s x (w ∷ []) (tree.Exception w.pos)
     parenthesised : {s : Scope} {x : Around} {ls : List Lexeme} {e : Expr} → IsParenthesised s ls e → IsFirst s x ls e
     void_word : {s : Scope} {x : Around} {w : Lexeme} → IsWord word.Void w → IsFirst s x (w ∷ []) (tree.Void w.pos)
-    void_of : {s : Scope} {x : Around} {w : Lexeme} {ls : List Lexeme} {e : Expr} → IsWord word.Void w → IsParenthesised s ls e → IsFirst s x (w ∷ ls) (tree.IsVoid e w.pos)
+    void_of : {s : Scope} {x : Around} {w : Lexeme} {ls : List Lexeme} {e : Expr} → IsWord word.Void w → IsParenthesised s ls e
+        → IsFirst s x (w ∷ ls) (tree.IsVoid e w.pos)
     new_word : {s : Scope} {x : Around} {w : Lexeme} → IsWord word.New w → IsFirst s x (w ∷ []) (tree.New None w.pos)
-    new_of : {s : Scope} {x : Around} {w : Lexeme} {ls : List Lexeme} {e : Expr} → IsWord word.New w → IsParenthesised s ls e → IsFirst s x (w ∷ ls) (tree.New (Some e) w.pos)
+    new_of : {s : Scope} {x : Around} {w : Lexeme} {ls : List Lexeme} {e : Expr} → IsWord word.New w → IsParenthesised s ls e
+        → IsFirst s x (w ∷ ls) (tree.New (Some e) w.pos)
     implied_call : {s : Scope} {x : Around} {ls : List Lexeme} {e : Expr} → IsCall s Implied ls e → IsFirst s x ls e
-    class_call : {s : Scope} {x : Around} {ls ms : List Lexeme} {colons : Lexeme} {t : Ty} {e : Expr} → IsType ls t → IsSign sign.DoubleColon colons → IsCall s (OfClass t) ms e → IsFirst s x (ls ++ colons ∷ ms) e
-    create : {s : Scope} {x : Around} {hash : Lexeme} {ls ms : List Lexeme} {of : Option Ty} {given : List Given} → IsSign sign.Hash hash → IsOptionalType ls of → IsArgs s ms given → IsFirst s x (hash ∷ ls ++ ms) (tree.Create of given hash.pos)
-    items : {s : Scope} {opening closing : Lexeme} {ls : List Lexeme} {es : List Expr} → IsSign sign.Bar opening → IsExprs s around.Items ls es → IsSign sign.Bar closing → IsFirst s around.Open (opening ∷ ls ++ closing ∷ []) (tree.Items es opening.pos)
-    bind : {s : Scope} {x : Around} {w opening closing : Lexeme} {ls : List Lexeme} {e : Expr} → IsWord word.Bind w → IsSign sign.LeftParen opening → IsPost s around.Open ls e → IsSign sign.RightParen closing → IsFirst s x (w ∷ opening ∷ ls ++ closing ∷ []) (tree.Bind e w.pos)
-    index_on_self : {s : Scope} {x : Around} {l : Lexeme} {ls : List Lexeme} {places : List Expr} → IsIndex s (l ∷ ls) places → IsFirst s x (l ∷ ls) (tree.Index None places l.pos)
+    class_call : {s : Scope} {x : Around} {ls ms : List Lexeme} {colons : Lexeme} {t : Ty} {e : Expr}
+        → IsType ls t → IsSign sign.DoubleColon colons → IsCall s (OfClass t) ms e
+        → IsFirst s x (ls ++ colons ∷ ms) e
+    create : {s : Scope} {x : Around} {hash : Lexeme} {ls ms : List Lexeme} {of : Option Ty} {given : List Given}
+        → IsSign sign.Hash hash → IsOptionalType ls of → IsArgs s ms given
+        → IsFirst s x (hash ∷ ls ++ ms) (tree.Create of given hash.pos)
+    items : {s : Scope} {opening closing : Lexeme} {ls : List Lexeme} {es : List Expr}
+        → IsSign sign.Bar opening → IsExprs s around.Items ls es → IsSign sign.Bar closing
+        → IsFirst s around.Open (opening ∷ ls ++ closing ∷ []) (tree.Items es opening.pos)
+    bind : {s : Scope} {x : Around} {w opening closing : Lexeme} {ls : List Lexeme} {e : Expr}
+        → IsWord word.Bind w → IsSign sign.LeftParen opening → IsPost s around.Open ls e → IsSign sign.RightParen closing
+        → IsFirst s x (w ∷ opening ∷ ls ++ closing ∷ []) (tree.Bind e w.pos)
+    index_on_self : {s : Scope} {x : Around} {l : Lexeme} {ls : List Lexeme} {places : List Expr} → IsIndex s (l ∷ ls) places
+        → IsFirst s x (l ∷ ls) (tree.Index None places l.pos)
     result_word : {x : Around} {w : Lexeme} → IsWord word.Result w → IsFirst PostClause x (w ∷ []) (tree.Call Implied w.bytes [] w.pos)
-    initial_of : {x : Around} {w : Lexeme} {ls : List Lexeme} {e : Expr} → IsWord word.Initial w → IsParenthesised Plain ls e → IsFirst PostClause x (w ∷ ls) (tree.Call Implied w.bytes (Value In e ∷ []) w.pos)
+    initial_of : {x : Around} {w : Lexeme} {ls : List Lexeme} {e : Expr} → IsWord word.Initial w → IsParenthesised Plain ls e
+        → IsFirst PostClause x (w ∷ ls) (tree.Call Implied w.bytes (Value In e ∷ []) w.pos)

@@ -1,5 +1,6 @@
 -- The levels of nesting of a file's tokens.
-use Rattle.std.specs.Prelude.{◌≡◌, ◌⊎◌, ℕ, ◌+◌, ◌<◌, ◌≤◌, Bool, true, false, List, [], ◌∷◌, ◌++◌, take, drop, fold, sum_by, slice_get, Some, if◌then◌else◌, All, ⊤}
+use Rattle.std.specs.Prelude.{◌≡◌, ◌⊎◌, ℕ, ◌+◌, ◌<◌, ◌≤◌, Bool, true, false, List, [], ◌∷◌, ◌++◌}
+use Rattle.std.specs.Prelude.{take, drop, fold, sum_by, slice_get, Some, if◌then◌else◌, All, ⊤}
 use Rattle.sa_lex.specs.declared.token.Token.{Token}
 use Rattle.sa_lex.specs.declared.token.TokenKind.{TokenKind}
 use Rattle.sa_lex.specs.declared.token.TokenKind.TheVariants as token

@@ -16,7 +16,13 @@ pub record Lexeme : Type 0 where
 -- the tokens of a file's text as lexemes
 abbrev pub lexemes_of : ℕ → List ℕ → List Token → List Lexeme
 lexemes_of file text tokens =
-    map (λ (token : Token). record { kind = token.kind; bytes = slice_range text token.start token.end; pos = record { file = file; at = token.start } }) tokens
+    map
+    (λ (token : Token). record {
+      kind = token.kind;
+      bytes = slice_range text token.start token.end;
+      pos = record { file = file; at = token.start };
+    })
+    tokens
 
 -- this word
 pub record IsWord (word : Word) (l : Lexeme) : Type 0 where

@@ -13,7 +13,9 @@ use Rattle.sa_parse_expr.specs.Places.{IsBehind, IsUnexpected}
 pub record Nests (from : ℕ) (pre : Global → Bor Tokens → Scope → Form → ℕ → Type 0)
     (post : Global → Bor Tokens → Scope → Form → ℕ → Result (Expr × ℕ) FrontFault → Type 0) : Type 0 where
   pub callable : (alloc : Global) (tokens : Bor Tokens) (scope : Scope) (form : Form) (at : ℕ) → from < at → pre alloc tokens scope form at
-  pub next : (alloc : Global) (tokens : Bor Tokens) (scope : Scope) (form : Form) (at : ℕ) (r : Result (Expr × ℕ) FrontFault) → post alloc tokens scope form at r
+  pub next : (alloc : Global) (tokens : Bor Tokens) (scope : Scope) (form : Form) (at : ℕ) (r : Result (Expr × ℕ) FrontFault)
+      → post alloc tokens scope form at r
       → IfOk r (λ read. IsBehind tokens.now.list.now at read.1)
-  pub refused : (alloc : Global) (tokens : Bor Tokens) (scope : Scope) (form : Form) (at : ℕ) (r : Result (Expr × ℕ) FrontFault) → post alloc tokens scope form at r
+  pub refused : (alloc : Global) (tokens : Bor Tokens) (scope : Scope) (form : Form) (at : ℕ) (r : Result (Expr × ℕ) FrontFault)
+      → post alloc tokens scope form at r
       → IfErr r (IsUnexpected tokens.now.file)

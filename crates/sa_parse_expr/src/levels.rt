@@ -4,7 +4,8 @@
 //! and with it the recursion of all that reads or walks a tree.
 
 ghost use Rattle.std.specs.Prelude.{◌≡◌, ◌+◌, ◌≤◌, [], ◌∷◌, IfErr, IfNone, IfSome, OnOk, drop, length, reverse};
-ghost use Rattle.sa_parse_expr.specs.Level.{AreTaken, RefusesTokens, added, after, at_bar, is_refused, level_of, opened, set_to_one, step_of, step_of_sign, step_of_word};
+ghost use Rattle.sa_parse_expr.specs.Level.{AreTaken, RefusesTokens, added, after, at_bar, is_refused};
+ghost use Rattle.sa_parse_expr.specs.Level.{level_of, opened, set_to_one, step_of, step_of_sign, step_of_word};
 
 use sa_lex::{Sign, Token, TokenKind, Word};
 use sa_tree::{FrontFault, Pos, Rule};

@@ -7,7 +7,8 @@
 //!       | "result" | "initial" "(" expr ")"         in a `post` alone, and not inside an `initial`
 //! ```
 //!
-//! `result` and `initial(e)` are calls of these names. A call stands at its name, and every other form at its first token. Parentheses leave no trace in the tree.
+//! `result` and `initial(e)` are calls of these names.
+//! A call stands at its name, and every other form at its first token. Parentheses leave no trace in the tree.
 
 ghost use Rattle.std.specs.Prelude.{◌<◌, ◌≤◌, IfErr, IfOk, length};
 ghost use Rattle.sa_parse_expr.specs.Nests.{Nests};

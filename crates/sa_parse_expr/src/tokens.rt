@@ -104,7 +104,10 @@ impl Tokens<'_> {
 
     /// E06 at the token, or at the end of the file.
     pub fn unexpected(&self, at: u32) -> FrontFault
-        ensures value { result ≡ Refused (record { rule = UnexpectedToken; pos = record { file = self.now.file; at = start_at self.now.src.now self.now.list.now at } }) }
+        ensures value { result ≡ Refused (record {
+          rule = UnexpectedToken;
+          pos = record { file = self.now.file; at = start_at self.now.src.now self.now.list.now at };
+        }) }
         ensures unexpected { IsUnexpected self.now.file result }
     {
         FrontFault::Refused(Rule::UnexpectedToken.at(self.pos(at)))

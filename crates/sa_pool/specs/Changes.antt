@@ -12,4 +12,5 @@ pub record GoesLive (before after : Slots) (slot : ℕ) : Type 0 where
 pub record KeepsLive (before after : Slots) : Type 0 where
   pub len : length after.words ≡ length before.words
   pub slot_words : after.slot_words ≡ before.slot_words
-  pub words : (slot at : ℕ) → Contains before.live slot → Contains after.live slot → at < before.slot_words → slice_index after.words (slot * before.slot_words + 1 + at) ≡ slice_index before.words (slot * before.slot_words + 1 + at)
+  pub words : (slot at : ℕ) → Contains before.live slot → Contains after.live slot → at < before.slot_words
+      → slice_index after.words (slot * before.slot_words + 1 + at) ≡ slice_index before.words (slot * before.slot_words + 1 + at)

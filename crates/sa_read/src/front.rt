@@ -1,26 +1,22 @@
-//! The classes and the contracts of a program.
+//! The classes of a program.
 
-ghost use Rattle.std.specs.Prelude.{◌≡◌, ◌+◌, ◌<◌, [], length, slice_index_or, All, IfOk, IfErr};
+ghost use Rattle.std.specs.Prelude.{◌<◌, [], length, slice_index_or, All, IfOk, IfErr};
 ghost use Rattle.sa_parse.specs.Refusals.{IsRefusal};
 ghost use Rattle.sa_read.specs.Front.{AreTokensOfTexts, IsTakenUpTo, RefusesProgram};
 
 use crate::tokens::{lex_all, scan_all};
 use sa_lex::Token;
-use sa_parse::{FileKind, Parsed, parse};
-use sa_tree::{FrontFault, NoMemory};
+use sa_parse::{FileKind, parse};
+use sa_tree::{Class, FrontFault};
 use sqlite_items::Items;
 use std::alloc::Global;
 
-/// The places of classes are below this.
-const MOST_PLACES: usize = u32::MAX as usize;
-
-/// The classes of a program's texts, in order, and the contracts of these. The first text is the prelude's.
+/// The classes of a program's texts, in order. The first text is the prelude's.
 ///
 /// # Errors
 ///
-/// The first refusal, by the tokens of all texts, then by their words and levels, then by the grammar; or `NoMemory`, also
-/// where the classes can't be numbered.
-pub fn parse_program(alloc: Global, texts: &[Items<u8>]) -> Result<Parsed, FrontFault>
+/// The first refusal, by the tokens of all texts, then by their words and levels, then by the grammar; or `NoMemory`.
+pub fn classes(alloc: Global, texts: &[Items<u8>]) -> Result<Items<Class>, FrontFault>
     requires short { All (λ text. length text < 4294967295) texts.now }
     requires few { length texts.now < 4294967295 }
     ensures taken { IfOk result (λ _. IsTakenUpTo texts.now (length texts.now)) }
@@ -31,12 +27,12 @@ pub fn parse_program(alloc: Global, texts: &[Items<u8>]) -> Result<Parsed, Front
     parse_all(alloc, texts, lists.as_slice())
 }
 
-/// What the tokens of each text spell.
+/// The classes that the tokens of each text spell.
 fn parse_all(
     alloc: Global,
     texts: &[Items<u8>],
     lists: &[Items<Token>],
-) -> Result<Parsed, FrontFault>
+) -> Result<Items<Class>, FrontFault>
     requires short { All (λ text. length text < 4294967295) texts.now }
     requires few { length texts.now < 4294967295 }
     requires tokens { AreTokensOfTexts texts.now lists.now (length texts.now) }
@@ -44,39 +40,23 @@ fn parse_all(
     ensures refused { IfErr result (RefusesProgram texts.now) }
 {
     let mut classes = Items::new(alloc);
-    let mut contracts = Items::new(alloc);
     for number in 0..texts.len() {
-        let first = first_place(classes.len(), lists[number].len())?;
-        let file = parse_text(alloc, texts, lists, number, first)?;
-        classes.append(file.classes)?;
-        contracts.append(file.contracts)?;
+        classes.append(parse_text(alloc, texts, lists, number)?)?;
     }
-    Ok(Parsed { classes, contracts })
+    Ok(classes)
 }
 
-/// The place of the class behind so many, where those of so many tokens can be numbered from there.
-fn first_place(classes: usize, tokens: usize) -> Result<u32, NoMemory>
-    ensures { IfOk result (λ first. (first ≡ classes) × (classes + tokens < 4294967295)) }
-{
-    if tokens >= MOST_PLACES || classes >= MOST_PLACES - tokens {
-        return Err(NoMemory);
-    }
-    Ok(classes as u32)
-}
-
-/// What the text with this number spells, whose first class has the place `first`. The first text alone is the prelude's.
+/// The classes of the text with this number. The first text alone is the prelude's.
 fn parse_text(
     alloc: Global,
     texts: &[Items<u8>],
     lists: &[Items<Token>],
     number: usize,
-    first: u32,
-) -> Result<Parsed, FrontFault>
+) -> Result<Items<Class>, FrontFault>
     requires short { All (λ text. length text < 4294967295) texts.now }
     requires few { length texts.now < 4294967295 }
     requires tokens { AreTokensOfTexts texts.now lists.now (length texts.now) }
     requires there { number < length texts.now }
-    requires places { first + length (slice_index_or lists.now number []) < 4294967295 }
     ensures refused { IfErr result (IsRefusal (slice_index_or lists.now number []) number) }
 {
     let tokens = lists[number].as_slice();
@@ -86,5 +66,5 @@ fn parse_text(
     } else {
         FileKind::Program
     };
-    parse(alloc, tokens, text, number as u32, file_kind, first)
+    parse(alloc, tokens, text, number as u32, file_kind)
 }

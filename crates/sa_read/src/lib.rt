@@ -7,7 +7,6 @@ mod program;
 mod read;
 mod tokens;
 
-pub use front::parse_program;
+pub use front::classes;
 pub use program::{MOST_BYTES, Program, prelude, read_program};
 pub use read::{Read, ReadFault, read_file};
-pub use sa_parse::Parsed;

@@ -38,7 +38,8 @@ pub fn read_program<S: ReadFiles>(
     ensures read { IfOk result (IsReadFrom (S.files store.old) (map (λ name. name.now) names.now)) }
     ensures short { IfOk result (λ program. All (λ text. length text < 4294967295) program.sources.texts) }
     ensures few { IfOk result (λ program. length program.sources.texts ≤ 65536) }
-    ensures failed { IsErrOf result ReadFault.Failed → Rose (S.faults store.old) (S.faults store.new) ⊎ LacksOneOf (S.files store.old) (map (λ name. name.now) names.now) }
+    ensures failed { IsErrOf result ReadFault.Failed
+        → Rose (S.faults store.old) (S.faults store.new) ⊎ LacksOneOf (S.files store.old) (map (λ name. name.now) names.now) }
     ensures files { S.files store.new ≡ S.files store.old }
     ensures count { S.faults store.old ≤ S.faults store.new }
 {

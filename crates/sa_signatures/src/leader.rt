@@ -67,7 +67,8 @@ fn objector(call: &Candidates, k: usize, asked_first: Option<usize>) -> Option<u
 fn objector_in(call: &Candidates, k: usize, from: usize, to: usize) -> Option<usize>
     requires apart { (j : ℕ) → from ≤ j → j < to → j ≢ k }
     ensures found { IfSome result (λ j. Objects (call_in call.now) k j) }
-    ensures none { IsNone result → (j : ℕ) → from ≤ j → j < to → IsTrue (fits_at (call_in call.now) j) → IsTrue (is_before (call_in call.now) k j) }
+    ensures none { IsNone result → (j : ℕ) → from ≤ j → j < to → IsTrue (fits_at (call_in call.now) j)
+        → IsTrue (is_before (call_in call.now) k j) }
 {
     for j in from..to {
         if call.fits(j) && !call.is_before(k, j) {

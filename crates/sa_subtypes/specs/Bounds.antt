@@ -31,7 +31,8 @@ module _ (tops : BareTy → Bool) (climbs : BareTy → BareTy → Bool) (immutab
 
     pub args_hold : BareArgs → BareArgs → Bool → Bool
     args_hold no_args no_args turned = true
-    args_hold (arg m s xs) (arg n t ys) turned = same_mode m n && stands_as s t (goes_by m (same_type s t) (holds s t turned) (holds s t (not turned))) && args_hold xs ys turned
+    args_hold (arg m s xs) (arg n t ys) turned =
+        same_mode m n && stands_as s t (goes_by m (same_type s t) (holds s t turned) (holds s t (not turned))) && args_hold xs ys turned
     args_hold _ _ turned = false
 
     pub result_holds : BareResult → BareResult → Bool → Bool
@@ -41,4 +42,5 @@ module _ (tops : BareTy → Bool) (climbs : BareTy → BareTy → Bool) (immutab
 
   -- the same of one argument
   unfoldable pub arg_holds : Mode × BareTy → Mode × BareTy → Bool → Bool
-  arg_holds a b turned = same_mode a.0 b.0 && stands_as a.1 b.1 (goes_by a.0 (same_type a.1 b.1) (holds a.1 b.1 turned) (holds a.1 b.1 (not turned)))
+  arg_holds a b turned =
+      same_mode a.0 b.0 && stands_as a.1 b.1 (goes_by a.0 (same_type a.1 b.1) (holds a.1 b.1 turned) (holds a.1 b.1 (not turned)))

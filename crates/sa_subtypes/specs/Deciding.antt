@@ -18,11 +18,18 @@ some_place test from (suc n) = test from || some_place test (suc from) n
 module _ (w : Tables) where
   -- whether a class is above another in its tree, at the same arguments
   unfoldable pub in_tree : ℕ → List BareTy → ℕ → List BareTy → Bool
-  in_tree lower args upper above = not (nat_eq lower upper) && nat_eq (length args) (w.arity lower) && same_types (bare_tys args) (bare_tys above) && in_line w.links lower upper
+  in_tree lower args upper above =
+      not (nat_eq lower upper)
+      && nat_eq (length args) (w.arity lower)
+      && same_types (bare_tys args) (bare_tys above)
+      && in_line w.links lower upper
 
   -- whether a pair leads from a class with these arguments to a class, or to one below it in its tree
   unfoldable pub is_by : Above → List BareTy → ℕ → List BareTy → Bool
-  is_by entry args upper above = (nat_eq entry.upper upper || nat_eq (length above) (w.arity upper)) && in_line w.links entry.upper upper && pair_fits args above (w.nodes entry.pair)
+  is_by entry args upper above =
+      (nat_eq entry.upper upper || nat_eq (length above) (w.arity upper))
+      && in_line w.links entry.upper upper
+      && pair_fits args above (w.nodes entry.pair)
 
   abbrev pub entry_by : ℕ → List BareTy → ℕ → List BareTy → Option Above → Bool
   entry_by root args upper above None = false
@@ -43,7 +50,8 @@ module _ (w : Tables) where
   -- whether a pair of the list of the class's root does, where the class is the root or has as many arguments as parameters
   abbrev pub link_by : ℕ → List BareTy → ℕ → List BareTy → Option Link → Bool
   link_by lower args upper above None = false
-  link_by lower args upper above (Some link) = (nat_eq link.root lower || nat_eq (length args) (w.arity lower)) && list_by link.root args upper above
+  link_by lower args upper above (Some link) =
+      (nat_eq link.root lower || nat_eq (length args) (w.arity lower)) && list_by link.root args upper above
 
   unfoldable pub in_list : ℕ → List BareTy → ℕ → List BareTy → Bool
   in_list lower args upper above = link_by lower args upper above (slice_get w.links lower)

@@ -1,10 +1,13 @@
--- How the nodes of a pair are compared with the arguments of two types: what stands for a variable, and whether each node is that of the types.
-use Rattle.std.specs.Prelude.{◌≡◌, ℕ, zero, suc, ◌+◌, Bool, true, false, cond, ◌&&◌, nat_eq, List, [], ◌∷◌, ◌++◌, length, map, drop, slice_get, Option, Some, None}
+-- How the nodes of a pair are compared with the arguments of two types:
+-- what stands for a variable, and whether each node is that of the types.
+use Rattle.std.specs.Prelude.{◌≡◌, ℕ, zero, suc, ◌+◌, Bool, true, false, cond, ◌&&◌, nat_eq, List}
+use Rattle.std.specs.Prelude.{[], ◌∷◌, ◌++◌, length, map, drop, slice_get, Option, Some, None}
 use Rattle.std.specs.Option.{option_map, option_or}
 use Rattle.std.specs.Cmp.Lexicographic.{pointwise}
 use Rattle.sa_tree.specs.declared.ty.Mode.{Mode}
 use Rattle.sa_tree.specs.TypeEquality.{same_mode, same_type}
-use Rattle.sa_tree.specs.Types.{BareTy, Named, Same, Rout, Iter, BareTys, no_types, type, BareArgs, no_args, arg, BareResult, no_result, gives, bare, bare_tys}
+use Rattle.sa_tree.specs.Types.{BareTy, Named, Same, Rout, Iter, BareTys, no_types, type, BareArgs}
+use Rattle.sa_tree.specs.Types.{no_args, arg, BareResult, no_result, gives, bare, bare_tys}
 use Rattle.sa_subtypes_pairs.specs.declared.pattern.Node.{Node}
 use Rattle.sa_subtypes_pairs.specs.declared.pattern.Node.TheVariants as node
 use Rattle.sa_subtypes.specs.declared.beside.Beside.{Beside}
@@ -14,7 +17,8 @@ use Rattle.sa_subtypes.specs.declared.seek.Found.TheVariants as finding
 use Rattle.sa_subtypes.specs.declared.part.Part.{Part}
 use Rattle.sa_subtypes.specs.declared.part.Part.TheVariants as part
 use Rattle.sa_subtypes.specs.declared.question.Question.{Question}
-use Rattle.sa_subtypes_pairs.specs.Spelled.{count_types, count_args, count_result, written_args, written_result, nowhere, same_nodes, spelled, spelled_all, Item, a_type, a_mode}
+use Rattle.sa_subtypes_pairs.specs.Spelled.{count_types, count_args, count_result, written_args, written_result}
+use Rattle.sa_subtypes_pairs.specs.Spelled.{nowhere, same_nodes, spelled, spelled_all, Item, a_type, a_mode}
 use Rattle.sa_subtypes_pairs.specs.Terms.{Values, AreTerms, substitute}
 
 -- ---- the terms of types
@@ -34,7 +38,12 @@ term_of (a_mode m) = node.Passed m ∷ []
 
 -- the nodes are those of a pair with as many arguments as the types have, and these are the types' with terms for the variables
 abbrev pub IsPairFor : List Node → BareTys → BareTys → Type 0
-IsPairFor nodes lower upper = (name : List ℕ) × (below : List Node) × (above : List Node) × (values : Values) × (nodes ≡ node.List (count_types lower) ∷ below ++ node.Class name (count_types upper) ∷ above) × AreTerms values × (substitute values below ≡ spelled_all lower) × (substitute values above ≡ spelled_all upper)
+IsPairFor nodes lower upper =
+    (name : List ℕ) × (below : List Node) × (above : List Node) × (values : Values)
+    × (nodes ≡ node.List (count_types lower) ∷ below ++ node.Class name (count_types upper) ∷ above)
+    × AreTerms values
+    × (substitute values below ≡ spelled_all lower)
+    × (substitute values above ≡ spelled_all upper)
 
 -- ---- one node
 
@@ -123,11 +132,14 @@ module _ (visit : ℕ → Item → List Node → Seen) where
 
     pub walk_all : BareTys → List Node → Seen
     walk_all no_types nodes = past nodes
-    walk_all (type t more) nodes = seen_then (met_then (a_type t) (λ rest. walk_inside t rest) (meets (a_type t) nodes)) (λ rest. walk_all more rest)
+    walk_all (type t more) nodes =
+        seen_then (met_then (a_type t) (λ rest. walk_inside t rest) (meets (a_type t) nodes)) (λ rest. walk_all more rest)
 
     pub walk_args : BareArgs → List Node → Seen
     walk_args no_args nodes = past nodes
-    walk_args (arg m t more) nodes = seen_then (seen_then (walk_mode m nodes) (λ next. met_then (a_type t) (λ rest. walk_inside t rest) (meets (a_type t) next))) (λ rest. walk_args more rest)
+    walk_args (arg m t more) nodes =
+        seen_then (seen_then (walk_mode m nodes) (λ next. met_then (a_type t) (λ rest. walk_inside t rest) (meets (a_type t) next)))
+        (λ rest. walk_args more rest)
 
     pub walk_result : BareResult → List Node → Seen
     walk_result no_result nodes = past nodes
@@ -215,10 +227,12 @@ is_end unlike = false
 
 -- the arguments of both types
 unfoldable pub both_fit : (ℕ → Option Item) → List BareTy → List BareTy → List Node → List Node → Bool
-both_fit value lower upper nodes above = is_past (walk_all (comparing value) (bare_tys lower) nodes) && is_end (walk_all (comparing value) (bare_tys upper) above)
+both_fit value lower upper nodes above =
+    is_past (walk_all (comparing value) (bare_tys lower) nodes) && is_end (walk_all (comparing value) (bare_tys upper) above)
 
 abbrev pub class_fits : List BareTy → List BareTy → List Node → List Node → Node → Bool
-class_fits lower upper nodes above (node.Class name count) = nat_eq count (length upper) && both_fit (value_from (counts_up 0 (length lower) nodes) lower upper nodes above) lower upper nodes above
+class_fits lower upper nodes above (node.Class name count) =
+    nat_eq count (length upper) && both_fit (value_from (counts_up 0 (length lower) nodes) lower upper nodes above) lower upper nodes above
 class_fits lower upper nodes above _ = false
 
 -- the nodes behind the arguments of the lower type are an upper type that fits
@@ -229,7 +243,8 @@ upper_fits lower upper nodes (found i) = false
 upper_fits lower upper nodes unlike = false
 
 abbrev pub first_fits : List BareTy → List BareTy → List Node → Node → Bool
-first_fits lower upper nodes (node.List count) = nat_eq count (length lower) && upper_fits lower upper nodes (walk_all (seeking None) (bare_tys lower) nodes)
+first_fits lower upper nodes (node.List count) =
+    nat_eq count (length lower) && upper_fits lower upper nodes (walk_all (seeking None) (bare_tys lower) nodes)
 first_fits lower upper nodes _ = false
 
 unfoldable pub pair_fits : List BareTy → List BareTy → List Node → Bool

@@ -1,4 +1,5 @@
--- The subtypes of a program: the least relation that is reflexive and transitive, holds each declared edge at each instance, holds every type with `$OB`, and holds bound types by the rule of their arguments and results. Types are compared without their positions.
+-- The subtypes of a program: the least relation that is reflexive and transitive, holds each declared edge at each instance, holds
+-- every type with `$OB`, and holds bound types by the rule of their arguments and results. Types are compared without their positions.
 use Rattle.std.specs.Prelude.{◌≡◌, ℕ, Bool, true, false, cond, List, [], ◌∷◌, length, Option, Some, None, ◌⊎◌, Contains, nat_eq}
 use Rattle.std.specs.Option.{option_map_or}
 use Rattle.std.specs.Cmp.Lexicographic.{pointwise}
@@ -32,11 +33,23 @@ IsClassIn flat c _ = ⊥
 
 -- `class C < $A` declares C below $A, at each instance of C
 abbrev pub DeclaresBelow : Flat → Class → BareTy → BareTy → Type 0
-DeclaresBelow flat c s t = (given : List Ty) × (u : Ty) × (length given ≡ length c.params) × Contains c.below u × IsClassIn flat c (bare u) × (s ≡ bare (own_type c given)) × (t ≡ bare (at_instance c given u))
+DeclaresBelow flat c s t =
+    (given : List Ty) × (u : Ty)
+    × (length given ≡ length c.params)
+    × Contains c.below u
+    × IsClassIn flat c (bare u)
+    × (s ≡ bare (own_type c given))
+    × (t ≡ bare (at_instance c given u))
 
 -- `abstract class $A > C` declares C below $A, at each instance of $A
 abbrev pub DeclaresAbove : Flat → Class → BareTy → BareTy → Type 0
-DeclaresAbove flat c s t = (given : List Ty) × (u : Ty) × (length given ≡ length c.params) × Contains c.above u × IsClassIn flat c (bare u) × (s ≡ bare (at_instance c given u)) × (t ≡ bare (own_type c given))
+DeclaresAbove flat c s t =
+    (given : List Ty) × (u : Ty)
+    × (length given ≡ length c.params)
+    × Contains c.above u
+    × IsClassIn flat c (bare u)
+    × (s ≡ bare (at_instance c given u))
+    × (t ≡ bare (own_type c given))
 
 abbrev pub IsEdge : Flat → BareTy → BareTy → Type 0
 IsEdge flat s t = (c : Class) × IsClass flat c × (DeclaresBelow flat c s t ⊎ DeclaresAbove flat c s t)
@@ -70,16 +83,24 @@ mutual
     over : {s t u : BareTy} → Sub Edge immutable s t → Sub Edge immutable t u → Sub Edge immutable s u
     edge : {s t : BareTy} → Edge s t → Sub Edge immutable s t
     below_top : {s : BareTy} → Sub Edge immutable s top
-    routine : {args others : BareArgs} {of other : BareResult} → SubArgs Edge immutable args others → SubResult Edge immutable of other → Sub Edge immutable (Rout args of) (Rout others other)
-    iter : {args others : BareArgs} {of other : BareResult} → SubArgs Edge immutable args others → SubResult Edge immutable of other → Sub Edge immutable (Iter args of) (Iter others other)
+    routine : {args others : BareArgs} {of other : BareResult} → SubArgs Edge immutable args others → SubResult Edge immutable of other
+        → Sub Edge immutable (Rout args of) (Rout others other)
+    iter : {args others : BareArgs} {of other : BareResult} → SubArgs Edge immutable args others → SubResult Edge immutable of other
+        → Sub Edge immutable (Iter args of) (Iter others other)
 
   -- the arguments of a bound type and of one above it: equally many, with equal modes; `in` and `once` go the other way round
   pub data SubArgs (Edge : BareTy → BareTy → Type 0) (immutable : BareTy → Bool) : BareArgs → BareArgs → Type 0 where
     none : SubArgs Edge immutable no_args no_args
-    goes_in : {s t : BareTy} {args others : BareArgs} → MayStand immutable s t → Sub Edge immutable t s → SubArgs Edge immutable args others → SubArgs Edge immutable (arg In s args) (arg In t others)
-    goes_once : {s t : BareTy} {args others : BareArgs} → MayStand immutable s t → Sub Edge immutable t s → SubArgs Edge immutable args others → SubArgs Edge immutable (arg Once s args) (arg Once t others)
-    goes_both : {t : BareTy} {args others : BareArgs} → SubArgs Edge immutable args others → SubArgs Edge immutable (arg Inout t args) (arg Inout t others)
-    goes_out : {s t : BareTy} {args others : BareArgs} → MayStand immutable s t → Sub Edge immutable s t → SubArgs Edge immutable args others → SubArgs Edge immutable (arg Out s args) (arg Out t others)
+    goes_in : {s t : BareTy} {args others : BareArgs} → MayStand immutable s t → Sub Edge immutable t s → SubArgs Edge immutable args others
+        → SubArgs Edge immutable (arg In s args) (arg In t others)
+    goes_once : {s t : BareTy} {args others : BareArgs}
+        → MayStand immutable s t → Sub Edge immutable t s → SubArgs Edge immutable args others
+        → SubArgs Edge immutable (arg Once s args) (arg Once t others)
+    goes_both : {t : BareTy} {args others : BareArgs} → SubArgs Edge immutable args others
+        → SubArgs Edge immutable (arg Inout t args) (arg Inout t others)
+    goes_out : {s t : BareTy} {args others : BareArgs}
+        → MayStand immutable s t → Sub Edge immutable s t → SubArgs Edge immutable args others
+        → SubArgs Edge immutable (arg Out s args) (arg Out t others)
 
   -- their results: both have one or neither has
   pub data SubResult (Edge : BareTy → BareTy → Type 0) (immutable : BareTy → Bool) : BareResult → BareResult → Type 0 where

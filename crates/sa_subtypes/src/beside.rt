@@ -1,7 +1,8 @@
 //! A node beside a type or a mode: whether it is a variable, or the node with which the type begins.
 
 ghost use Rattle.std.specs.Prelude.{◌≡◌, ◌+◌, ◌*◌, ◌<◌, drop, nat_eq};
-ghost use Rattle.sa_subtypes.specs.Questions.{is_class, is_head, is_iter, is_list, is_passed, is_routine, is_type_head, item_of, meets, met};
+ghost use Rattle.sa_subtypes.specs.Questions.{is_class, is_head, is_iter, is_list, is_passed};
+ghost use Rattle.sa_subtypes.specs.Questions.{is_routine, is_type_head, item_of, meets, met};
 ghost use Rattle.sa_subtypes_pairs.specs.Spelled.{count_args, count_result};
 ghost use Rattle.sa_tree.specs.Types.{all_bare_args, bare, option_bare};
 

@@ -51,7 +51,8 @@ impl Edges {
     #[tactic(auto, using(crate::proofs::Bounding::arguments))]
     #[cycle(holds)]
     fn args_hold(&self, list: &[ModeTy], others: &[ModeTy], turned: bool) -> bool
-        ensures { result ≡ args_hold (tops_in self.now) (climbs_in self.now) (immutable_in self.now) (all_bare_args list.now) (all_bare_args others.now) turned }
+        ensures { result ≡ args_hold (tops_in self.now) (climbs_in self.now)
+            (immutable_in self.now) (all_bare_args list.now) (all_bare_args others.now) turned }
     {
         if list.len() != others.len() {
             return false;
@@ -69,7 +70,8 @@ impl Edges {
     #[tactic(auto, using(crate::proofs::Bounding::argument))]
     #[cycle(holds)]
     fn arg_holds(&self, arg: &ModeTy, other: &ModeTy, turned: bool) -> bool
-        ensures { result ≡ arg_holds (tops_in self.now) (climbs_in self.now) (immutable_in self.now) (bare_arg arg.now) (bare_arg other.now) turned }
+        ensures { result ≡ arg_holds (tops_in self.now) (climbs_in self.now)
+            (immutable_in self.now) (bare_arg arg.now) (bare_arg other.now) turned }
     {
         if !is_same_mode(arg.mode, other.mode) {
             return false;
@@ -83,7 +85,9 @@ impl Edges {
     /// `in` and `once` go the other way round, `inout` types are equal, and `out` goes the same way.
     #[cycle(holds)]
     fn goes_by(&self, mode: Mode, one: &Ty, other: &Ty, turned: bool) -> bool
-        ensures { result ≡ goes_by mode (same_type (bare one.now) (bare other.now)) (holds (tops_in self.now) (climbs_in self.now) (immutable_in self.now) (bare one.now) (bare other.now) turned) (holds (tops_in self.now) (climbs_in self.now) (immutable_in self.now) (bare one.now) (bare other.now) (not turned)) }
+        ensures { result ≡ goes_by mode (same_type (bare one.now) (bare other.now))
+            (holds (tops_in self.now) (climbs_in self.now) (immutable_in self.now) (bare one.now) (bare other.now) turned)
+            (holds (tops_in self.now) (climbs_in self.now) (immutable_in self.now) (bare one.now) (bare other.now) (not turned)) }
     {
         match mode {
             Mode::In => self.holds(one, other, !turned),
@@ -98,7 +102,8 @@ impl Edges {
     #[tactic(auto, using(crate::proofs::Bounding::results))]
     #[cycle(holds)]
     fn result_holds(&self, of: &Option<Boxed<Ty>>, other: &Option<Boxed<Ty>>, turned: bool) -> bool
-        ensures { result ≡ result_holds (tops_in self.now) (climbs_in self.now) (immutable_in self.now) (option_bare of.now) (option_bare other.now) turned }
+        ensures { result ≡ result_holds (tops_in self.now) (climbs_in self.now)
+            (immutable_in self.now) (option_bare of.now) (option_bare other.now) turned }
     {
         match of {
             None => other.is_none(),

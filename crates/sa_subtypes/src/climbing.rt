@@ -50,7 +50,8 @@ impl Edges {
     /// The same of two classes.
     #[tactic(auto, using(crate::proofs::Asking::betweens))]
     fn leads_between(&self, name: &Name, args: &[Ty], other: &Name, above: &[Ty]) -> bool
-        ensures { result ≡ found_between (tables_in self.now) (class_in self.now name.now) (map bare args.now) (class_in self.now other.now) (map bare above.now) }
+        ensures { result ≡ found_between (tables_in self.now) (class_in self.now name.now)
+            (map bare args.now) (class_in self.now other.now) (map bare above.now) }
     {
         let Some(lower) = self.lineage.names.number(name) else {
             return false;
@@ -87,7 +88,8 @@ impl Edges {
     /// Whether edges lead from `$OB` to a class.
     #[tactic(auto, using(crate::proofs::Asking::betweens))]
     fn is_above_top(&self, name: &Name, args: &[Ty]) -> bool
-        ensures { result ≡ found_between (tables_in self.now) (class_in self.now top_name) [] (class_in self.now name.now) (map bare args.now) }
+        ensures { result ≡ found_between (tables_in self.now) (class_in self.now top_name)
+            [] (class_in self.now name.now) (map bare args.now) }
     {
         let Some(lower) = self.top else {
             return false;

@@ -110,7 +110,8 @@ impl Edges {
         upper: u32,
         above: &[Ty],
     ) -> bool
-        ensures { result ≡ some_place (place_by (tables_in self.now) root (map bare args.now) upper (map bare above.now)) first (end - first) }
+        ensures { result ≡ some_place (place_by (tables_in self.now) root (map bare args.now) upper (map bare above.now))
+            first (end - first) }
     {
         for place in first..end {
             if self.is_at(root, place, args, upper, above) {

@@ -6,7 +6,9 @@
 
 ghost use Rattle.std.specs.Prelude.{◌≡◌, drop, length, map, slice_get};
 ghost use Rattle.std.specs.Option.{option_map};
-ghost use Rattle.sa_subtypes.specs.Questions.{both_fit, class_fits, comparing, counts_up, first_fits, is_end, is_number, item_of, pair_fits, past, reached, seeking, stands, upper_fits, value_below, value_from, value_in, walk, walk_all, walk_arg, walk_args, walk_inside, walk_mode, walk_result};
+ghost use Rattle.sa_subtypes.specs.Questions.{both_fit, class_fits, comparing, counts_up, first_fits, is_end, is_number, item_of};
+ghost use Rattle.sa_subtypes.specs.Questions.{pair_fits, past, reached, seeking, stands, upper_fits, value_below, value_from};
+ghost use Rattle.sa_subtypes.specs.Questions.{value_in, walk, walk_all, walk_arg, walk_args, walk_inside, walk_mode, walk_result};
 ghost use Rattle.sa_subtypes_pairs.specs.Spelled.{a_type};
 ghost use Rattle.sa_tree.specs.Types.{all_bare, all_bare_args, bare, bare_arg, option_bare};
 
@@ -58,7 +60,8 @@ fn first_fits(first: &Node, nodes: &[Node], lower: &[Ty], upper: &[Ty]) -> bool
 /// Whether the nodes are the arguments of the lower type and then the upper type.
 #[tactic(auto, using(crate::proofs::Comparing::pair_steps))]
 fn arguments_fit(nodes: &[Node], lower: &[Ty], upper: &[Ty]) -> bool
-    ensures { result ≡ upper_fits (map bare lower.now) (map bare upper.now) nodes.now (walk_all (seeking None) (all_bare lower.now) nodes.now) }
+    ensures { result ≡ upper_fits (map bare lower.now) (map bare upper.now)
+        nodes.now (walk_all (seeking None) (all_bare lower.now) nodes.now) }
 {
     match search_types(nodes, 0, None, lower) {
         Found::Behind(end) => upper_fits(nodes, end, lower, upper),
@@ -95,7 +98,9 @@ fn class_fits(node: &Node, nodes: &[Node], above: &[Node], lower: &[Ty], upper: 
 
 #[tactic(auto, using(crate::proofs::Comparing::counts))]
 fn both_fit(nodes: &[Node], above: &[Node], lower: &[Ty], upper: &[Ty]) -> bool
-    ensures { result ≡ both_fit (value_from (counts_up 0 (length (map bare lower.now)) nodes.now) (map bare lower.now) (map bare upper.now) nodes.now above.now) (map bare lower.now) (map bare upper.now) nodes.now above.now }
+    ensures { result ≡ both_fit
+        (value_from (counts_up 0 (length (map bare lower.now)) nodes.now) (map bare lower.now) (map bare upper.now) nodes.now above.now)
+        (map bare lower.now) (map bare upper.now) nodes.now above.now }
 {
     let plain = counts_up(nodes, lower.len());
     let question = Question {
@@ -137,7 +142,8 @@ impl<'a> Question<'a> {
     /// Whether all nodes are those of the types, with what stands for the variables.
     #[tactic(auto, using(crate::proofs::Comparing::ends))]
     fn holds(&self) -> bool
-        ensures { result ≡ both_fit (value_in self.now) (map bare self.now.lower.now) (map bare self.now.upper.now) self.now.nodes.now self.now.above.now }
+        ensures { result ≡ both_fit (value_in self.now) (map bare self.now.lower.now)
+            (map bare self.now.upper.now) self.now.nodes.now self.now.above.now }
     {
         match self.types_fit(self.nodes, 0, self.lower) {
             Some(_) => self.upper_holds(),

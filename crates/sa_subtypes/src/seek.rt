@@ -2,7 +2,8 @@
 
 ghost use Rattle.std.specs.Prelude.{◌≡◌, drop};
 ghost use Rattle.std.specs.Option.{option_map};
-ghost use Rattle.sa_subtypes.specs.Questions.{first_in, is_wanted, item_of, seeking, seen, walk, walk_all, walk_arg, walk_args, walk_inside, walk_mode, walk_result};
+ghost use Rattle.sa_subtypes.specs.Questions.{first_in, is_wanted, item_of, seeking, seen, walk, walk_all};
+ghost use Rattle.sa_subtypes.specs.Questions.{walk_arg, walk_args, walk_inside, walk_mode, walk_result};
 ghost use Rattle.sa_tree.specs.Types.{all_bare, all_bare_args, bare, bare_arg, option_bare};
 
 use crate::beside::{Beside, beside_at};

@@ -1,4 +1,5 @@
--- What declared edges lead to, and the tables in which it is kept: the trees of classes, and the lists of pairs at their roots. Types are lists of nodes here.
+-- What declared edges lead to, and the tables in which it is kept:
+-- the trees of classes, and the lists of pairs at their roots. Types are lists of nodes here.
 use Rattle.std.specs.Prelude.{◌≡◌, ◌⊎◌, ℕ, zero, suc, ◌+◌, ◌<◌, ◌≤◌, List, [], ◌∷◌, ◌++◌, Some, None, slice_get}
 use Rattle.sa_subtypes_pairs.specs.declared.pattern.Node.{Node}
 use Rattle.sa_subtypes_pairs.specs.declared.pattern.Node.TheVariants as node
@@ -13,7 +14,8 @@ use Rattle.sa_subtypes_pairs.specs.Terms.{behind, IsInstance, SameInstances, IsC
 
 -- ---- what declared edges lead to
 
--- all that the tables hold: the edges by their numbers, the place of each class in its tree, the pairs of the lists, where the list of each root begins and ends, the nodes of a pair, and the name of a class and how many parameters it has
+-- all that the tables hold: the edges by their numbers, the place of each class in its tree, the pairs of the lists,
+-- where the list of each root begins and ends, the nodes of a pair, and the name of a class and how many parameters it has
 pub record Tables : Type 0 where
   pub edges : List Edge
   pub links : List Link
@@ -61,7 +63,8 @@ pub data Leads (w : Tables) : At → At → Type 0 where
 -- the class is the other or below it in its tree
 pub data Line (links : List Link) : ℕ → ℕ → Type 0 where
   here : {c : ℕ} → Line links c c
-  up : {c u : ℕ} (link : Link) (number : ℕ) → slice_get links c ≡ Some link → link.edge ≡ Some number → Line links link.parent u → Line links c u
+  up : {c u : ℕ} (link : Link) (number : ℕ) → slice_get links c ≡ Some link
+      → link.edge ≡ Some number → Line links link.parent u → Line links c u
 
 -- a class that stands below its parent
 pub record IsBelow (links : List Link) (link : Link) : Type 0 where
@@ -157,7 +160,8 @@ pub record BeginsBare (nodes : List Node) : Type 0 where
   pub rest : List Node
   pub is : nodes ≡ node.List 0 ∷ rest
 
--- an edge goes on with each type that its upper class has at its own arguments: with each where it is a root, and else with those that have as many arguments as it has parameters
+-- an edge goes on with each type that its upper class has at its own arguments:
+-- with each where it is a root, and else with those that have as many arguments as it has parameters
 abbrev pub GoesOn : Tables → Edge → ℕ → ℕ → Type 0
 GoesOn w edge root count = (root ≡ edge.upper) ⊎ (count ≡ w.arity edge.upper)
 
@@ -179,7 +183,8 @@ pub record IsGivenIn (w : Tables) (root upper : ℕ) (nodes : List Node) : Type 
 
 -- an edge and the pair at a place give nothing, or a pair of the lower class's list
 pub record IsCoveredAt (w : Tables) (edge : Edge) (place : ℕ) : Type 0 where
-  pub each : (entry : Above) → slice_get w.above place ≡ Some entry → IsComposed (w.nodes edge.pair) (w.nodes entry.pair) None ⊎ IsCovered w edge entry
+  pub each : (entry : Above) → slice_get w.above place ≡ Some entry
+      → IsComposed (w.nodes edge.pair) (w.nodes entry.pair) None ⊎ IsCovered w edge entry
 
 -- the same for each place from one on up to another
 pub record AreCovered (w : Tables) (edge : Edge) (first end : ℕ) : Type 0 where
@@ -189,7 +194,8 @@ pub record AreCovered (w : Tables) (edge : Edge) (first end : ℕ) : Type 0 wher
 pub record IsCovering (w : Tables) (edge : Edge) (above : ℕ) : Type 0 where
   pub link : Link
   pub is : slice_get w.links edge.upper ≡ Some link
-  pub covers : (place : ℕ) (entry : Above) → InList w link.root place entry → GoesOn w edge link.root above → IsComposed (w.nodes edge.pair) (w.nodes entry.pair) None ⊎ IsCovered w edge entry
+  pub covers : (place : ℕ) (entry : Above) → InList w link.root place entry → GoesOn w edge link.root above
+      → IsComposed (w.nodes edge.pair) (w.nodes entry.pair) None ⊎ IsCovered w edge entry
 
 -- the pair of an edge is in the list of the lower class
 pub record IsListed (w : Tables) (edge : Edge) : Type 0 where

@@ -12,7 +12,8 @@ parent_of (Some link) = option_map (λ (number : ℕ). link.parent) link.edge
 -- whether the second class is the first or above it in its tree, at most so many classes up
 unfoldable pub line_in : List Link → ℕ → ℕ → ℕ → Bool
 line_in links zero lower upper = nat_eq lower upper
-line_in links (suc n) lower upper = nat_eq lower upper || option_map_or (λ parent. line_in links n parent upper) (parent_of (slice_get links lower)) false
+line_in links (suc n) lower upper =
+    nat_eq lower upper || option_map_or (λ parent. line_in links n parent upper) (parent_of (slice_get links lower)) false
 
 abbrev pub in_line : List Link → ℕ → ℕ → Bool
 in_line links lower upper = line_in links (depth_at links lower) lower upper

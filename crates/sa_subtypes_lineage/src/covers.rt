@@ -164,7 +164,8 @@ impl Lineage {
         second: u32,
         both: u32,
     ) -> Result<(), NoMemory>
-        ensures { IfOk result (λ _. GivesPair (nodes_of self.now.pairs first) (nodes_of self.now.pairs second) (nodes_of self.now.pairs both)) }
+        ensures { IfOk result
+            (λ _. GivesPair (nodes_of self.now.pairs first) (nodes_of self.now.pairs second) (nodes_of self.now.pairs both)) }
     {
         let lower = self.pairs.nodes(first);
         let upper = self.pairs.nodes(second);

@@ -2,7 +2,8 @@
 //! Were a place wrong, want of memory would be answered.
 
 ghost use Rattle.std.specs.Prelude.{◌≡◌, IfOk, None, Some};
-ghost use Rattle.sa_subtypes_lineage.specs.Lineages.{AreTried, AreTriedEdges, AreTriedLinks, AreTriedLists, GoesOnWith, HasOwn, IsKeptEdge, IsListed, IsOwn, IsSound, IsTriedLink, KeepsArgs, tables};
+ghost use Rattle.sa_subtypes_lineage.specs.Lineages.{AreTried, AreTriedEdges, AreTriedLinks, AreTriedLists, GoesOnWith, HasOwn};
+ghost use Rattle.sa_subtypes_lineage.specs.Lineages.{IsKeptEdge, IsListed, IsOwn, IsSound, IsTriedLink, KeepsArgs, tables};
 
 use crate::entries::{Places, edge_at, entry_at};
 use crate::forms::{kept_nodes, try_form};

@@ -64,7 +64,8 @@ where_own (Some own) place edges = cond (nat_eq own place) edges []
 
 abbrev pub edges_at : (List ℕ → Option ℕ) → ℕ → Option Class → List EdgeNodes
 edges_at number k None = []
-edges_at number k (Some c) = where_own (number c.name.name) k (edges_in number (place_of c.params 0) k c.name.name (length c.params) c.below c.above)
+edges_at number k (Some c) =
+    where_own (number c.name.name) k (edges_in number (place_of c.params 0) k c.name.name (length c.params) c.below c.above)
 
 abbrev pub edges_upto : (List ℕ → Option ℕ) → List Class → ℕ → List EdgeNodes
 edges_upto number classes zero = []

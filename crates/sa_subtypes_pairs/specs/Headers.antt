@@ -47,4 +47,9 @@ count_of (Some t) = 1
 
 -- the header is that of a class with this number
 abbrev pub IsHeaderOf : Names → ℕ → Class → Header → Type 0
-IsHeaderOf names own c header = HasPlaces header.params c.params 0 × (header.name.now ≡ c.name.name) × (header.arity ≡ length c.params) × (header.class ≡ own) × (header.names.now ≡ names)
+IsHeaderOf names own c header =
+    HasPlaces header.params c.params 0
+    × (header.name.now ≡ c.name.name)
+    × (header.arity ≡ length c.params)
+    × (header.class ≡ own)
+    × (header.names.now ≡ names)

@@ -29,7 +29,8 @@ row_of c = record { kind = c.kind; arity = length c.params }
 
 -- the names of these classes, with what is known of each class
 abbrev pub AreNamesOf : List Class → Names → Type 0
-AreNamesOf classes names = HasNumbers names.places classes 0 × (names.names.items ≡ map (λ c. c.name.name) classes) × (names.rows.items ≡ map row_of classes)
+AreNamesOf classes names =
+    HasNumbers names.places classes 0 × (names.names.items ≡ map (λ c. c.name.name) classes) × (names.rows.items ≡ map row_of classes)
 
 -- the kind of the class of a name, and of the class that a type is
 abbrev pub kind_of_name : Names → List ℕ → Option Kind

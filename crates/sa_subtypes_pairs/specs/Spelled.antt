@@ -1,8 +1,10 @@
--- Types as terms: how a type is spelled as nodes, how a type of a class's header is, the type that such a type is at an instance, and the type that is read from nodes.
+-- Types as terms: how a type is spelled as nodes, how a type of a class's header is,
+-- the type that such a type is at an instance, and the type that is read from nodes.
 use Rattle.std.specs.Prelude.{ℕ, zero, suc, ◌+◌, List, [], ◌∷◌, ◌++◌, Option, None, Some, take, drop}
 use Rattle.sa_tree.specs.declared.ty.Mode.{Mode}
 use Rattle.sa_tree.specs.declared.ty.Mode.TheVariants.{In}
-use Rattle.sa_tree.specs.Types.{BareTy, Named, Same, Rout, Iter, BareTys, no_types, type, BareArgs, no_args, arg, BareResult, no_result, gives}
+use Rattle.sa_tree.specs.Types.{BareTy, Named, Same, Rout, Iter, BareTys, no_types, type}
+use Rattle.sa_tree.specs.Types.{BareArgs, no_args, arg, BareResult, no_result, gives}
 use Rattle.sa_subtypes_pairs.specs.declared.pattern.Node.{Node}
 use Rattle.sa_subtypes_pairs.specs.declared.pattern.Node.TheVariants as node
 use Rattle.sa_subtypes_pairs.specs.Terms.{held}

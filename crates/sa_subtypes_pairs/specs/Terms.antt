@@ -1,5 +1,6 @@
 -- Types with variables as lists of nodes, in which a node comes before those that it holds, and types substituted for the variables.
-use Rattle.std.specs.Prelude.{◌≡◌, ◌↔◌, ℕ, zero, suc, ◌+◌, max, ◌||◌, Bool, true, false, cond, nat_eq, List, [], ◌∷◌, ◌++◌, get_or, Option, Some, None, flat_map}
+use Rattle.std.specs.Prelude.{◌≡◌, ◌↔◌, ℕ, zero, suc, ◌+◌, max, ◌||◌, Bool, true, false, cond}
+use Rattle.std.specs.Prelude.{nat_eq, List, [], ◌∷◌, ◌++◌, get_or, Option, Some, None, flat_map}
 use Rattle.sa_subtypes_pairs.specs.declared.pattern.Node.{Node}
 use Rattle.sa_subtypes_pairs.specs.declared.pattern.Node.TheVariants as node
 use Rattle.sa_subtypes_pairs.specs.declared.unification.Step.{Step}
@@ -97,23 +98,30 @@ pub record NeverEqual (one other : List Node) : Type 0 where
 abbrev pub IsStep : List Node → List Node → Step → Type 0
 IsStep one other step.Equal = one ≡ other
 IsStep one other step.Never = NeverEqual one other
-IsStep one other (step.Bind number term) = IsTerm term.items × ((values : Values) → AreTerms values → substitute values one ≡ substitute values other → values number ≡ substitute values term.items)
+IsStep one other (step.Bind number term) =
+    IsTerm term.items
+    × ((values : Values) → AreTerms values → substitute values one ≡ substitute values other → values number ≡ substitute values term.items)
 
 -- the variable is bound to the term at the head of the nodes, if that doesn't hold it
 abbrev pub IsBound : ℕ → List Node → Step → Type 0
 IsBound number nodes step.Equal = ⊥
-IsBound number nodes step.Never = (term : List Node) × (rest : List Node) × (nodes ≡ term ++ rest) × IsTerm term × (comes number term ≡ true)
+IsBound number nodes step.Never =
+    (term : List Node) × (rest : List Node) × (nodes ≡ term ++ rest) × IsTerm term × (comes number term ≡ true)
 IsBound number nodes (step.Bind other term) = (rest : List Node) × (nodes ≡ term.items ++ rest) × IsTerm term.items × (other ≡ number)
 
 -- each instance of the answer is what `kept` is under a unifier of the two lists
 abbrev pub IsByUnifiers : (kept one other unified : List Node) → Type 0
 IsByUnifiers kept one other unified =
-    (values : Values) → AreTerms values → (unifier : Values) × AreTerms unifier × (substitute unifier one ≡ substitute unifier other) × (substitute values unified ≡ substitute unifier kept)
+    (values : Values) → AreTerms values
+    → (unifier : Values) × AreTerms unifier
+    × (substitute unifier one ≡ substitute unifier other)
+    × (substitute values unified ≡ substitute unifier kept)
 
 -- under each unifier the answer is what `kept` is
 abbrev pub IsUnderUnifiers : (kept one other unified : List Node) → Type 0
 IsUnderUnifiers kept one other unified =
-    (unifier : Values) → AreTerms unifier → substitute unifier one ≡ substitute unifier other → substitute unifier unified ≡ substitute unifier kept
+    (unifier : Values) → AreTerms unifier → substitute unifier one ≡ substitute unifier other
+    → substitute unifier unified ≡ substitute unifier kept
 
 -- what the nodes `kept` become under a most general unifier of the two lists, where they have a unifier
 abbrev pub IsUnified : List Node → List Node → List Node → Option (List Node) → Type 0
@@ -122,18 +130,26 @@ IsUnified kept one other (Some unified) = IsByUnifiers kept one other unified ×
 
 -- ---- the nodes of a pair that two pairs give
 
--- each instance of the answer is the beginning of the first pair and the end of the second, each with terms that make the end of the first equal to the beginning of the second
+-- each instance of the answer is the beginning of the first pair and the end of the second,
+-- each with terms that make the end of the first equal to the beginning of the second
 abbrev pub IsOfJoints : (below ends begins above joined : List Node) → Type 0
 IsOfJoints below ends begins above joined =
-    (values : Values) → AreTerms values → (lower : Values) × (upper : Values) × AreTerms lower × AreTerms upper × (substitute lower ends ≡ substitute upper begins) × (substitute values joined ≡ substitute lower below ++ substitute upper above)
+    (values : Values) → AreTerms values
+    → (lower : Values) × (upper : Values)
+    × AreTerms lower
+    × AreTerms upper
+    × (substitute lower ends ≡ substitute upper begins)
+    × (substitute values joined ≡ substitute lower below ++ substitute upper above)
 
 -- all such terms give an instance of the answer
 abbrev pub HasJoints : (below ends begins above joined : List Node) → Type 0
 HasJoints below ends begins above joined =
-    (lower upper : Values) → AreTerms lower → AreTerms upper → substitute lower ends ≡ substitute upper begins → (values : Values) × AreTerms values × (substitute values joined ≡ substitute lower below ++ substitute upper above)
+    (lower upper : Values) → AreTerms lower → AreTerms upper → substitute lower ends ≡ substitute upper begins
+    → (values : Values) × AreTerms values × (substitute values joined ≡ substitute lower below ++ substitute upper above)
 
 abbrev pub IsJoined : (below ends begins above : List Node) → Option (List Node) → Type 0
-IsJoined below ends begins above None = (lower upper : Values) → AreTerms lower → AreTerms upper → substitute lower ends ≡ substitute upper begins → ⊥
+IsJoined below ends begins above None =
+    (lower upper : Values) → AreTerms lower → AreTerms upper → substitute lower ends ≡ substitute upper begins → ⊥
 IsJoined below ends begins above (Some joined) = IsOfJoints below ends begins above joined × HasJoints below ends begins above joined
 
 -- ---- the instances of a pair

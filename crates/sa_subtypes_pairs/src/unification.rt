@@ -1,7 +1,8 @@
 //! Unification: lists of nodes that are made equal by terms for their variables.
 
 ghost use Rattle.std.specs.Prelude.{◌≡◌, ◌↔◌, IsTrue, ◌≤◌, ◌∷◌, ◌++◌, [], IfOk, IfSome, Some, drop, length, max, option_map, take};
-ghost use Rattle.sa_subtypes_pairs.specs.Terms.{Differ, IsBound, IsStep, IsUnified, after, behind, comes, free, is_variable, later, only, substitute, value_of, variable_in};
+ghost use Rattle.sa_subtypes_pairs.specs.Terms.{Differ, IsBound, IsStep, IsUnified, after, behind, comes, free};
+ghost use Rattle.sa_subtypes_pairs.specs.Terms.{is_variable, later, only, substitute, value_of, variable_in};
 
 use crate::pattern::Node;
 use crate::work::Work;

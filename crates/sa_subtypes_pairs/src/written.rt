@@ -5,7 +5,8 @@
 ghost use Rattle.std.specs.Prelude.{◌≡◌, ◌++◌, IfOk, Some, flat_map};
 ghost use Rattle.sa_subtypes_pairs.specs.Headers.{IsHeaderOf, place_in};
 ghost use Rattle.sa_subtypes_pairs.specs.Numbers.{number_in};
-ghost use Rattle.sa_subtypes_pairs.specs.Edges.{above_edge, above_in, below_edge, below_in, class_number_in, declared_edges, edges_at, header_edges, lower_in, number_alone, number_named, seen};
+ghost use Rattle.sa_subtypes_pairs.specs.Edges.{above_edge, above_in, below_edge, below_in, class_number_in, declared_edges};
+ghost use Rattle.sa_subtypes_pairs.specs.Edges.{edges_at, header_edges, lower_in, number_alone, number_named, seen};
 
 use crate::header::{Header, param_places};
 use crate::names::Names;

@@ -1,5 +1,6 @@
 -- Which command a line of words is.
-use Rattle.std.specs.Prelude.{◌^◌, ◌-◌, ◌&&◌, ℕ, Bool, false, List, [], Option, None, Some, codes, length, map, if◌then◌else◌, nat_le, option_map, option_and_then, unwrap_or}
+use Rattle.std.specs.Prelude.{◌^◌, ◌-◌, ◌&&◌, ℕ, Bool, false, List, [], Option, None, Some, codes}
+use Rattle.std.specs.Prelude.{length, map, if◌then◌else◌, nat_le, option_map, option_and_then, unwrap_or}
 use Rattle.std.specs.Option.{option_map_or}
 use Rattle.std.specs.Str.{bytes_eq}
 use Rattle.clap.specs.Words.{Row, Text, all_of, first_of, subcommand_of}

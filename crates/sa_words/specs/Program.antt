@@ -28,7 +28,9 @@ abbrev pub classes : Rule
 classes = record (new_rule (codes "classes")) { required = true }
 
 abbrev pub run : App
-run = with_rule (with_rule (with_rule (with_rule (new_app (codes "run")) (option (codes "fuel"))) (option (codes "room"))) (flag (codes "stats"))) files
+run =
+    with_rule
+    (with_rule (with_rule (with_rule (new_app (codes "run")) (option (codes "fuel"))) (option (codes "room"))) (flag (codes "stats"))) files
 
 abbrev pub build : App
 build = with_rule (with_rule (with_rule (new_app (codes "build")) (option (codes "room"))) out) files

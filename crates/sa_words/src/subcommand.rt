@@ -2,7 +2,8 @@
 
 ghost use Rattle.std.specs.Prelude.{◌≡◌, IfOk, map, option_map};
 ghost use Rattle.clap.specs.Words.{all_of, first_of, found_of, rows_of};
-ghost use Rattle.sa_words.specs.Line.{build_in, classes_in, exec_in, files_in, fuel_in, line_of, named_line, room_in, run_in, stats_in, Gen, Selftest};
+ghost use Rattle.sa_words.specs.Line.{build_in, classes_in, exec_in, files_in, fuel_in, line_of};
+ghost use Rattle.sa_words.specs.Line.{named_line, room_in, run_in, stats_in, Gen, Selftest};
 
 use crate::command::{Build, Check, Command, Exec, Run};
 use crate::number::{number_in, number_or};

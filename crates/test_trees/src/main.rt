@@ -1,21 +1,17 @@
-//! Shows what small sources are read to: an expression or a condition as a tree, a file as what its classes hold and its
-//! contracts. Each line of `expressions.txt`, `conditions.txt` and `files.txt` is a source. What is printed is compared with
-//! what the grammar says.
+//! Shows what small sources are read to: an expression as a tree, a file as what its classes hold. Each line of
+//! `expressions.txt` and of `files.txt` is a source. What is printed is compared with what the grammar says.
 #![tactic(auto)]
 
-ghost use Rattle.std.specs.Prelude.{◌<◌, All, IfOk, length, vec_len};
-ghost use Rattle.sa_lex.specs.Token.{IsWithin};
+ghost use Rattle.std.specs.Prelude.{◌<◌, length};
 
 mod class;
-mod contract;
 mod expr;
 
 use crate::expr::Printer;
 use anyhow::{Context, Result};
-use sa_lex::{Token, lex};
-use sa_parse::{FileKind, parse};
-use sa_parse_expr::{Scope, condition, scan};
-use sa_tree::{Expr, FrontFault};
+use sa_lex::lex;
+use sa_parse::FileKind;
+use sa_tree::FrontFault;
 use std::alloc::{AllocError, Global};
 use std::fmt::Write;
 use std::fs::{self, Files};
@@ -30,11 +26,6 @@ fn main(rt: HostRuntime) -> Result<()> {
     )?;
     for line in expressions.lines() {
         let shown = answer(alloc, shown_expression(alloc, line.as_bytes()))?;
-        println!(rt; "{line} =>{shown}")?;
-    }
-    let conditions = fs::read_to_string(&rt, "conditions.txt").context("reading the conditions")?;
-    for line in conditions.lines() {
-        let shown = answer(alloc, shown_condition(alloc, line.as_bytes()))?;
         println!(rt; "{line} =>{shown}")?;
     }
     let files = fs::read_to_string(&rt, "files.txt").context("reading the files")?;
@@ -58,13 +49,9 @@ fn answer(alloc: Global, shown: Result<String, FrontFault>) -> Result<String, Al
     }
 }
 
-/// The tokens of a source, which a parser may go over.
+/// A source's first expression, and the number of its tokens.
 #[tactic(auto, using(sa_lex::proofs::TokenLists::within))]
-fn tokens_of(alloc: Global, src: &[u8]) -> Result<Vec<Token>, FrontFault>
-    ensures within { IfOk result (λ tokens. All (IsWithin src.now) tokens.items) }
-    ensures few { IfOk result (λ tokens. vec_len tokens < LONGEST) }
-    ensures short { IfOk result (λ _. length src.now < LONGEST) }
-{
+fn shown_expression(alloc: Global, src: &[u8]) -> Result<String, FrontFault> {
     if src.len() >= LONGEST {
         return Err(FrontFault::NoMemory);
     }
@@ -72,48 +59,32 @@ fn tokens_of(alloc: Global, src: &[u8]) -> Result<Vec<Token>, FrontFault>
     if tokens.len() >= LONGEST {
         return Err(FrontFault::NoMemory);
     }
-    scan(alloc, tokens.as_slice(), 1)?;
-    Ok(tokens)
-}
-
-/// A source's first expression, and the number of its tokens.
-fn shown_expression(alloc: Global, src: &[u8]) -> Result<String, FrontFault> {
-    let tokens = tokens_of(alloc, src)?;
+    sa_parse_expr::scan(alloc, tokens.as_slice(), 1)?;
     let (e, next) = sa_parse_expr::expr(alloc, tokens.as_slice(), src, 1, 0)?;
-    Ok(tree(alloc, &e, next)?)
-}
-
-/// A source's first condition of a `post`, and the number of its tokens.
-fn shown_condition(alloc: Global, src: &[u8]) -> Result<String, FrontFault> {
-    let tokens = tokens_of(alloc, src)?;
-    let (e, next) = condition(alloc, tokens.as_slice(), src, 1, Scope::PostClause, 0)?;
-    Ok(tree(alloc, &e, next)?)
-}
-
-fn tree(alloc: Global, e: &Expr, next: u32) -> Result<String, AllocError> {
     let mut printer = Printer {
         text: String::new(alloc),
     };
     printer.text.push(' ')?;
-    printer.expr(e)?;
+    printer.expr(&e)?;
     write!(printer.text, " / {next}")?;
     let Printer { text } = printer;
     Ok(text)
 }
 
-/// The classes of a source, each with its features, and their contracts.
+/// The classes of a source, each with its features.
+#[tactic(auto, using(sa_lex::proofs::TokenLists::within))]
 fn shown_file(alloc: Global, src: &[u8]) -> Result<String, FrontFault> {
-    let tokens = tokens_of(alloc, src)?;
-    let parsed = parse(alloc, tokens.as_slice(), src, 1, FileKind::Program, 0)?;
-    let mut printer = Printer {
-        text: String::new(alloc),
-    };
-    for one in parsed.classes.as_slice() {
-        class::class(&mut printer.text, one)?;
+    if src.len() >= LONGEST {
+        return Err(FrontFault::NoMemory);
     }
-    for one in parsed.contracts.as_slice() {
-        printer.contract(one)?;
+    let tokens = lex(alloc, src, 1)?;
+    if tokens.len() >= LONGEST {
+        return Err(FrontFault::NoMemory);
     }
-    let Printer { text } = printer;
-    Ok(text)
+    let classes = sa_parse::parse(alloc, tokens.as_slice(), src, 1, FileKind::Program)?;
+    let mut out = String::new(alloc);
+    for one in classes.as_slice() {
+        class::class(&mut out, one)?;
+    }
+    Ok(out)
 }

@@ -13,7 +13,7 @@ use crate::writer::Writer;
 use anyhow::{Result, anyhow};
 use sa_check::check;
 use sa_outside::FileStore;
-use sa_read::{Program, parse_program, read_program};
+use sa_read::{Program, classes, read_program};
 use sa_tree::{FrontFault, Refusal};
 use std::alloc::{AllocError, Global};
 use std::env;
@@ -58,8 +58,8 @@ fn add_tree(alloc: Global, writer: &mut Writer, program: &Program) -> Result<(),
         return Err(FrontFault::Refused(refusal));
     }
     let texts = program.sources.texts.as_slice();
-    let parsed = parse_program(alloc, texts)?;
-    let core = check(alloc, parsed.classes.as_slice(), texts)?;
+    let classes = classes(alloc, texts)?;
+    let core = check(alloc, classes.as_slice(), texts)?;
     writer.program(&core)?;
     Ok(())
 }

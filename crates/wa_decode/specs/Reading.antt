@@ -36,7 +36,8 @@ pub record Reads {V : Type 0} (B : V → Format) (bytes : List ℕ) (at : ℕ) (
   -- what was read is spelled there
   pub found : IfOk result (λ read. Spelled (B read.0) bytes at read.1)
   -- what is spelled there was read, unless memory ran out: so any other failure says that nothing is spelled there
-  pub complete : (v : V) (end : ℕ) → Spelled (B v) bytes at end → MatchResult result (λ read. (read.0 ≡ v) × (read.1 ≡ end)) (λ fault. fault ≡ NoMemory)
+  pub complete : (v : V) (end : ℕ) → Spelled (B v) bytes at end
+      → MatchResult result (λ read. (read.0 ≡ v) × (read.1 ≡ end)) (λ fault. fault ≡ NoMemory)
 
 -- the same where what is spelled is known, and only the place behind it was found
 pub record Passes (A : Format) (bytes : List ℕ) (at : ℕ) (result : Result ℕ DecodeFault) : Type 0 where
@@ -50,4 +51,5 @@ Stops bytes at = (slice_get bytes at ≡ Some 0x0b) ⊎ (slice_get bytes at ≡ 
 -- a call read values at a place, one after another, up to an `end` or an `else`
 pub record ReadsUpTo {V : Type 0} (B : V → Format) (bytes : List ℕ) (at : ℕ) (result : Result (List V × ℕ) DecodeFault) : Type 0 where
   pub found : IfOk result (λ read. Spelled (each B read.0) bytes at read.1 × Stops bytes read.1)
-  pub complete : (all : List V) (end : ℕ) → Spelled (each B all) bytes at end → Stops bytes end → MatchResult result (λ read. (read.0 ≡ all) × (read.1 ≡ end)) (λ fault. fault ≡ NoMemory)
+  pub complete : (all : List V) (end : ℕ) → Spelled (each B all) bytes at end → Stops bytes end
+      → MatchResult result (λ read. (read.0 ≡ all) × (read.1 ≡ end)) (λ fault. fault ≡ NoMemory)

@@ -1,4 +1,5 @@
--- Sections (5.5.2), and the module that they make, by the places where they begin. Those that mean nothing are passed over as far as they go.
+-- Sections (5.5.2), and the module that they make, by the places where they begin.
+-- Those that mean nothing are passed over as far as they go.
 use Rattle.std.specs.Prelude.{◌≡◌, ◌≢◌, ℕ, List, map, slice_get, Some, Result, IfOk, MatchResult}
 use Rattle.wa_syntax.specs.declared.module.Module.{Module}
 use Rattle.wa_syntax.specs.Binary.{functype, tabletype, memtype, vecsec, customs, import, global, export, startsec, elem, code, segment}

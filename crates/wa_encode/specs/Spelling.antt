@@ -38,7 +38,8 @@ abbrev pub IsSection : ℕ → List ℕ → List ℕ → Type 0
 IsSection id bytes content = (rest : List ℕ) × IsCounted rest content × (bytes ≡ id ∷ rest)
 
 -- a call that succeeds, at the bytes before and at v, leaves the bytes after
-pub record Leaves {V : Type 0} (post : MutBor (Vec ℕ) → Bor V → Result (Unit {0}) NoMemory → MutBor (Vec ℕ) → Type 0) (before : List ℕ) (v : V) (after : List ℕ) : Type 0 where
+pub record Leaves {V : Type 0} (post : MutBor (Vec ℕ) → Bor V → Result (Unit {0}) NoMemory → MutBor (Vec ℕ) → Type 0)
+    (before : List ℕ) (v : V) (after : List ℕ) : Type 0 where
   pub old : MutBor (Vec ℕ)
   pub shown : Bor V
   pub new : MutBor (Vec ℕ)

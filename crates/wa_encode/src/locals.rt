@@ -50,7 +50,8 @@ fn longest_runs(alloc: Global, runs: &[Run]) -> Result<Vec<Run>, NoMemory>
 /// Adds a run behind the last one, which isn't in the list yet, and gives the one that is then the last.
 #[tactic(auto, using(crate::proofs::Joining::joining))]
 fn with_run(longest: &mut Vec<Run>, last: Run, run: Run) -> Result<Run, NoMemory>
-    ensures same { IfOk result (λ longer. types_of_runs (longest.new.items ++ longer ∷ []) ≡ types_of_runs (longest.old.items ++ last ∷ []) ++ types_of_runs (run ∷ [])) }
+    ensures same { IfOk result (λ longer. types_of_runs (longest.new.items ++ longer ∷ [])
+        ≡ types_of_runs (longest.old.items ++ last ∷ []) ++ types_of_runs (run ∷ [])) }
     ensures longest { AreLongestTo longest.old.items last → IfOk result (λ longer. AreLongestTo longest.new.items longer) }
 {
     match joined(last, run) {

@@ -1,6 +1,7 @@
 //! The open activations (section 4.2.10.2 of the WebAssembly Core Specification 1.0): their words, and where each caller goes on.
 
-ghost use Rattle.std.specs.Prelude.{◌≡◌, ◌==◌, ◌+◌, ◌-◌, ◌<◌, ◌≤◌, ◌^◌, ◌↔◌, ℕ, List, [], ◌∷◌, ◌++◌, drop, length, max, nat_le, replicate, reverse, slice_index, OnOk, IfErr, IsErrOf, vec_len};
+ghost use Rattle.std.specs.Prelude.{◌≡◌, ◌==◌, ◌+◌, ◌-◌, ◌<◌, ◌≤◌, ◌^◌, ◌↔◌, ℕ, List, [], ◌∷◌, ◌++◌, drop, length};
+ghost use Rattle.std.specs.Prelude.{max, nat_le, replicate, reverse, slice_index, OnOk, IfErr, IsErrOf, vec_len};
 ghost use Rattle.wa_region.specs.Frames.{top, with_word};
 ghost use Rattle.wa_exec.specs.Beginning.{AreNone};
 ghost use Rattle.wa_exec.specs.Activations.{OnTop, HasEntered, HasLeft};
@@ -59,7 +60,9 @@ fn open_frame(region: &mut Region, from: usize, params: u32, len: u32) -> Result
     ensures inside { IfErr result IsInside }
     ensures memory { IfErr result (λ halt. halt ≡ Halt.NoMemory) }
     ensures first { region.old ≡ [] → OnOk result (region.new ≡ replicate (max len params) 0 ∷ []) }
-    ensures opens { (arguments stack : List ℕ) (below : List (List ℕ)) → OnTop region.old (from + params) (arguments ++ stack) below → length arguments ≡ params → OnOk result (region.new ≡ (reverse arguments ++ replicate (max len params - params) 0) ∷ region.old) }
+    ensures opens { (arguments stack : List ℕ) (below : List (List ℕ))
+        → OnTop region.old (from + params) (arguments ++ stack) below → length arguments ≡ params
+        → OnOk result (region.new ≡ (reverse arguments ++ replicate (max len params - params) 0) ∷ region.old) }
 {
     let len = len.max(params);
     if has_words(region, from, params) {
@@ -156,7 +159,8 @@ impl Calls {
     fn close(&mut self)
         ensures count { vec_len self.new.callers ≡ vec_len self.old.callers - 1 }
         ensures region { self.new.region ≡ drop 1 self.old.region }
-        ensures caller { (callers : List Caller) (caller : Caller) → self.old.callers.items ≡ callers ++ caller ∷ [] → (self.new.callers.items ≡ callers) × (self.new.at ≡ caller.at) × (self.new.height ≡ caller.height) }
+        ensures caller { (callers : List Caller) (caller : Caller) → self.old.callers.items ≡ callers ++ caller ∷ []
+            → (self.new.callers.items ≡ callers) × (self.new.at ≡ caller.at) × (self.new.height ≡ caller.height) }
     {
         close_frame(&mut self.region);
         let Some(caller) = self.callers.pop() else {
@@ -186,7 +190,9 @@ impl Calls {
         ensures at { self.new.at ≡ self.old.at }
         ensures depth { length self.new.region ≡ length self.old.region }
         ensures long { length (top self.new.region) ≡ length (top self.old.region) }
-        ensures gives { (stack : List ℕ) (below : List (List ℕ)) → OnTop self.old.region self.old.height stack below → self.old.height < length (top self.old.region) → OnTop self.new.region self.new.height (word ∷ stack) below }
+        ensures gives { (stack : List ℕ) (below : List (List ℕ))
+            → OnTop self.old.region self.old.height stack below → self.old.height < length (top self.old.region)
+            → OnTop self.new.region self.new.height (word ∷ stack) below }
     {
         set_top(&mut self.region, self.height, word);
         self.height = self.height.wrapping_add(1);
@@ -196,7 +202,8 @@ impl Calls {
     #[inline]
     pub(crate) fn take(&mut self) -> u64
         ensures rest { self.new ≡ record self.old { height = self.new.height } }
-        ensures takes { (word : ℕ) (stack : List ℕ) (below : List (List ℕ)) → OnTop self.old.region self.old.height (word ∷ stack) below → (result ≡ word) × (self.new.height ≡ self.old.height - 1) × OnTop self.new.region self.new.height stack below }
+        ensures takes { (word : ℕ) (stack : List ℕ) (below : List (List ℕ)) → OnTop self.old.region self.old.height (word ∷ stack) below
+            → (result ≡ word) × (self.new.height ≡ self.old.height - 1) × OnTop self.new.region self.new.height stack below }
     {
         self.height = self.height.wrapping_sub(1);
         top_word(&self.region, self.height)

@@ -19,7 +19,8 @@ fn hand_on<O: Sink>(host: &mut Host, out: &mut O) -> Result<(), Halt>
     ensures ok { OnOk result (HandsOn (O.output out.old) (O.output out.new) host.old host.new) }
     ensures hands { HasHandedOn result (O.output out.old) (O.output out.new) host.old host.new }
     ensures none { OnOk result (host.new ≡ []) }
-    ensures tells { IfErr result (λ h. (i steps fuel : ℕ) → Tells h (faults_of i (O.faults out.old)) (faults_of i (O.faults out.new)) steps fuel) }
+    ensures tells { IfErr result (λ h. (i steps fuel : ℕ)
+        → Tells h (faults_of i (O.faults out.old)) (faults_of i (O.faults out.new)) steps fuel) }
     ensures count { O.faults out.old ≤ O.faults out.new }
     ensures output { Grew (O.output out.old) (O.output out.new) }
 {
@@ -34,7 +35,8 @@ fn hand_on<O: Sink>(host: &mut Host, out: &mut O) -> Result<(), Halt>
 fn put<O: Sink>(word: u64, host: &mut Host, out: &mut O) -> Result<(), Halt>
     ensures ok { OnOk result (HandsOn (O.output out.old) (O.output out.new) (host.old ++ word % 2 ^ 8 ∷ []) host.new) }
     ensures hands { HasHandedOn result (O.output out.old) (O.output out.new) (host.old ++ word % 2 ^ 8 ∷ []) host.new }
-    ensures tells { IfErr result (λ h. (i steps fuel : ℕ) → Tells h (faults_of i (O.faults out.old)) (faults_of i (O.faults out.new)) steps fuel) }
+    ensures tells { IfErr result (λ h. (i steps fuel : ℕ)
+        → Tells h (faults_of i (O.faults out.old)) (faults_of i (O.faults out.new)) steps fuel) }
     ensures count { O.faults out.old ≤ O.faults out.new }
     ensures output { Grew (O.output out.old) (O.output out.new) }
 {
@@ -50,9 +52,12 @@ fn put<O: Sink>(word: u64, host: &mut Host, out: &mut O) -> Result<(), Halt>
 
 /// `env.get`: the next byte of the input, or -1 at its end. The output is handed on before.
 fn get<I: Source, O: Sink>(host: &mut Host, input: &mut I, out: &mut O) -> Result<u64, Halt>
-    ensures ok { IfOk result (λ word. Takes (I.input input.old) (I.input input.new) word × HandsOn (O.output out.old) (O.output out.new) host.old host.new) }
-    ensures fails { IfErr result (λ h. HasNotGot h (sides (I.input input.old) (O.output out.old)) (sides (I.input input.new) (O.output out.new)) host.old host.new) }
-    ensures tells { IfErr result (λ h. (steps fuel : ℕ) → Tells h (faults_of (I.faults input.old) (O.faults out.old)) (faults_of (I.faults input.new) (O.faults out.new)) steps fuel) }
+    ensures ok { IfOk result (λ word. Takes (I.input input.old) (I.input input.new) word
+        × HandsOn (O.output out.old) (O.output out.new) host.old host.new) }
+    ensures fails { IfErr result
+        (λ h. HasNotGot h (sides (I.input input.old) (O.output out.old)) (sides (I.input input.new) (O.output out.new)) host.old host.new) }
+    ensures tells { IfErr result (λ h. (steps fuel : ℕ)
+        → Tells h (faults_of (I.faults input.old) (O.faults out.old)) (faults_of (I.faults input.new) (O.faults out.new)) steps fuel) }
     ensures source { I.faults input.old ≤ I.faults input.new }
     ensures sink { O.faults out.old ≤ O.faults out.new }
     ensures output { Grew (O.output out.old) (O.output out.new) }
@@ -73,12 +78,14 @@ pub(crate) fn call_host<I: Source, O: Sink>(
     input: &mut I,
     out: &mut O,
 ) -> Result<(), Halt>
-    ensures tells { IfErr result (λ h. (steps fuel : ℕ) → Tells h (faults_of (I.faults input.old) (O.faults out.old)) (faults_of (I.faults input.new) (O.faults out.new)) steps fuel) }
+    ensures tells { IfErr result (λ h. (steps fuel : ℕ)
+        → Tells h (faults_of (I.faults input.old) (O.faults out.old)) (faults_of (I.faults input.new) (O.faults out.new)) steps fuel) }
     ensures source { I.faults input.old ≤ I.faults input.new }
     ensures sink { O.faults out.old ≤ O.faults out.new }
     ensures output { Grew (O.output out.old) (O.output out.new) }
     ensures calls { vec_len calls.new.callers ≡ vec_len calls.old.callers }
-    ensures does { HasCalled calls.old calls.new (sides (I.input input.old) (O.output out.old)) (sides (I.input input.new) (O.output out.new)) host.old host.new call result }
+    ensures does { HasCalled calls.old calls.new (sides (I.input input.old) (O.output out.old))
+        (sides (I.input input.new) (O.output out.new)) host.old host.new call result }
 {
     match call {
         HostCall::Put => {

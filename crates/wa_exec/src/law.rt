@@ -25,7 +25,9 @@ pub fn called<I: Source, O: Sink>(
     input: &mut I,
     out: &mut O,
 ) -> Halt
-    ensures { (m : Module) → (machine.old.halt ≡ None → Runs m machine.old) → Called m fuel (between machine.old host.old (sides (I.input input.old) (O.output out.old))) (between machine.new host.new (sides (I.input input.new) (O.output out.new))) result }
+    ensures { (m : Module) → (machine.old.halt ≡ None → Runs m machine.old)
+        → Called m fuel (between machine.old host.old (sides (I.input input.old) (O.output out.old)))
+        (between machine.new host.new (sides (I.input input.new) (O.output out.new))) result }
 {
     machine.step_until(fuel, host, input, out)
 }

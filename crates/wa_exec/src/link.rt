@@ -1,7 +1,8 @@
 //! What a module is linked to (section 4.5.4 of the WebAssembly Core Specification 1.0): the functions of the host, and its
 //! `main`.
 
-ghost use Rattle.std.specs.Prelude.{◌≡◌, ◌≤◌, ◌++◌, ◌||◌, [], ◌∷◌, if◌then◌else◌, bytes_eq, codes, slice_get, IfOk, IfErr, IfSome, IsNone, Some, None, length, map, option_map};
+ghost use Rattle.std.specs.Prelude.{◌≡◌, ◌≤◌, ◌++◌, ◌||◌, [], ◌∷◌, if◌then◌else◌, bytes_eq, codes, slice_get};
+ghost use Rattle.std.specs.Prelude.{IfOk, IfErr, IfSome, IsNone, Some, None, length, map, option_map};
 ghost use Rattle.wa_code.specs.Codes.{are_same};
 ghost use Rattle.wa_exec.specs.Links.{Names, function_of, host_called};
 ghost use Rattle.wa_syntax.specs.declared.module.ValTy.TheVariants.{I32};
@@ -110,7 +111,8 @@ fn host_call(m: &Module, import: &Import) -> Option<HostCall>
 
 /// The function of the host that an import of a function of this type asks for.
 fn host_function(m: &Module, import: &Import, ty: u32) -> Option<HostCall>
-    ensures { option_map function_of result ≡ (if bytes_eq import.now.module (codes "env") then host_named import.now.name (slice_get m.now.types ty) else None) }
+    ensures { option_map function_of result
+        ≡ (if bytes_eq import.now.module (codes "env") then host_named import.now.name (slice_get m.now.types ty) else None) }
 {
     if import.module.as_slice() != b"env".as_slice() {
         return None;

@@ -56,7 +56,8 @@ impl Machine {
     pub fn new(alloc: Global, v: &Valid) -> Result<Machine, StartFault>
         ensures first { IfOk result (λ machine. (machine.steps ≡ 0) × (machine.halt ≡ None)) }
         ensures runs { IfOk result (λ machine. Runs v.now machine) }
-        ensures begins { IfOk result (λ machine. (input : Input) → Stands v.now (row_of machine.linked.code) (flat_of machine.state) (first v.now input)) }
+        ensures begins { IfOk result (λ machine. (input : Input)
+            → Stands v.now (row_of machine.linked.code) (flat_of machine.state) (first v.now input)) }
         ensures linked { OnOk result (IsLinked v.now) }
         ensures fit { OnOk result (SegmentsFit v.now) }
         ensures refused { IfErr result (IsUnstartable v.now) }
@@ -95,16 +96,22 @@ impl Machine {
         out: &mut O,
     ) -> Halt
         ensures stays { Stays result self.old self.new }
-        ensures untouched { (halt : Halt) → self.old.halt ≡ Some halt → (host.new ≡ host.old) × (input.new ≡ input.old) × (out.new ≡ out.old) }
+        ensures untouched { (halt : Halt) → self.old.halt ≡ Some halt
+            → (host.new ≡ host.old) × (input.new ≡ input.old) × (out.new ≡ out.old) }
         ensures short { fuel < self.old.steps → self.new ≡ self.old }
-        ensures spent { self.old.halt ≡ None → fuel < self.old.steps → (result ≡ Halt.Spent) × (host.new ≡ host.old) × (input.new ≡ input.old) × (out.new ≡ out.old) }
+        ensures spent { self.old.halt ≡ None → fuel < self.old.steps
+            → (result ≡ Halt.Spent) × (host.new ≡ host.old) × (input.new ≡ input.old) × (out.new ≡ out.old) }
         ensures linked { self.new.linked ≡ self.old.linked }
         ensures halted { self.old.halt ≡ None → self.new.halt ≡ halted result }
         ensures runs { (m : Module) → Runs m self.old → result ≢ Halt.NoMemory → Runs m self.new }
-        ensures makes { (m : Module) → Runs m self.old → self.old.halt ≡ None → self.old.steps ≤ fuel → Makes m (row_of self.old.linked.code) (flat_of self.old.state) (flat_of self.new.state) self.old.steps self.new.steps (Some result) (sides (I.input input.old) (O.output out.old)) (sides (I.input input.new) (O.output out.new)) host.old host.new }
+        ensures makes { (m : Module) → Runs m self.old → self.old.halt ≡ None → self.old.steps ≤ fuel
+            → Makes m (row_of self.old.linked.code) (flat_of self.old.state) (flat_of self.new.state) self.old.steps self.new.steps
+            (Some result) (sides (I.input input.old) (O.output out.old)) (sides (I.input input.new) (O.output out.new)) host.old host.new }
         ensures steps { self.old.steps ≤ self.new.steps }
         ensures within { self.new.steps ≤ max self.old.steps fuel }
-        ensures tells { self.old.halt ≡ None → Tells result (faults_of (I.faults input.old) (O.faults out.old)) (faults_of (I.faults input.new) (O.faults out.new)) self.new.steps fuel }
+        ensures tells { self.old.halt ≡ None
+            → Tells result (faults_of (I.faults input.old) (O.faults out.old))
+            (faults_of (I.faults input.new) (O.faults out.new)) self.new.steps fuel }
         ensures source { I.faults input.old ≤ I.faults input.new }
         ensures sink { O.faults out.old ≤ O.faults out.new }
 

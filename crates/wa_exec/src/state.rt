@@ -40,7 +40,9 @@ impl State {
         ensures steps { before ≤ result.steps }
         ensures within { result.steps ≤ max before fuel }
         ensures paid { IsPaid result.pause before result.steps fuel }
-        ensures run { (m : Module) (frame : List ℕ) (frames : List (List ℕ)) (s : Standing) → Stands m (row_of code.now) (flat_of self.old) s → Safe m s → self.old.calls.region ≡ frame ∷ frames → HasRun m (row_of code.now) self.old self.new frame frames s before fuel result.steps result.pause }
+        ensures run { (m : Module) (frame : List ℕ) (frames : List (List ℕ)) (s : Standing)
+            → Stands m (row_of code.now) (flat_of self.old) s → Safe m s → self.old.calls.region ≡ frame ∷ frames
+            → HasRun m (row_of code.now) self.old self.new frame frames s before fuel result.steps result.pause }
         ensures others { KeepsOthers self.old self.new }
         ensures calls { vec_len self.new.calls.callers ≡ vec_len self.old.calls.callers }
         ensures waiting { vec_len self.new.waiting ≡ vec_len self.old.waiting }
@@ -74,7 +76,9 @@ impl State {
     /// The function that an indirect call through the table calls, whose number is the top operand.
     pub(crate) fn callee(&mut self, linked: &Linked, ty: u32) -> Result<u32, TrapKind>
         ensures rest { self.new ≡ record self.old { calls = self.new.calls } }
-        ensures looks_up { (place : ℕ) (stack : List ℕ) (below : List (List ℕ)) → OnTop self.old.calls.region self.old.calls.height (place ∷ stack) below → HasLookedUp linked.now ty self.old self.new result place }
+        ensures looks_up { (place : ℕ) (stack : List ℕ) (below : List (List ℕ))
+            → OnTop self.old.calls.region self.old.calls.height (place ∷ stack) below
+            → HasLookedUp linked.now ty self.old self.new result place }
         ensures calls { vec_len self.new.calls.callers ≡ vec_len self.old.calls.callers }
         ensures waiting { vec_len self.new.waiting ≡ vec_len self.old.waiting }
     {
@@ -98,8 +102,12 @@ impl State {
     /// Where there is no memory for the pages.
     pub(crate) fn grow(&mut self) -> bool
         ensures rest { self.new ≡ record self.old { calls = self.new.calls; bytes = self.new.bytes } }
-        ensures whole { (pages : ℕ) → length self.old.bytes.items ≡ pages * page → self.old.most_pages ≤ 65536 → result ≡ true → (size : ℕ) × (length self.new.bytes.items ≡ size * page) }
-        ensures grows { (pages word : ℕ) (stack : List ℕ) (below : List (List ℕ)) → OnTop self.old.calls.region self.old.calls.height (word ∷ stack) below → length self.old.bytes.items ≡ pages * page → self.old.most_pages ≤ 65536 → result ≡ true → HasGrown self.old self.new pages (word % 2 ^ 32) stack below }
+        ensures whole { (pages : ℕ) → length self.old.bytes.items ≡ pages * page → self.old.most_pages ≤ 65536 → result ≡ true
+            → (size : ℕ) × (length self.new.bytes.items ≡ size * page) }
+        ensures grows { (pages word : ℕ) (stack : List ℕ) (below : List (List ℕ))
+            → OnTop self.old.calls.region self.old.calls.height (word ∷ stack) below
+            → length self.old.bytes.items ≡ pages * page → self.old.most_pages ≤ 65536 → result ≡ true
+            → HasGrown self.old self.new pages (word % 2 ^ 32) stack below }
         ensures calls { vec_len self.new.calls.callers ≡ vec_len self.old.calls.callers }
         ensures waiting { vec_len self.new.waiting ≡ vec_len self.old.waiting }
     {

@@ -2,7 +2,9 @@
 
 ghost use Rattle.std.specs.Prelude.{◌≡◌};
 ghost use Rattle.std.specs.Int.{w32, w64};
-ghost use Rattle.wa_syntax.specs.Numeric.{ieqz, ieq, ine, ilt_s, ilt_u, igt_s, igt_u, ile_s, ile_u, ige_s, ige_u, iclz, ictz, ipopcnt, iadd, isub, imul, idiv_s, idiv_u, irem_s, irem_u, iand, ior, ixor, ishl, ishr_s, ishr_u, irotl, irotr, wrap, extend_s, extend_u, IsI64Operator, i64_result};
+ghost use Rattle.wa_syntax.specs.Numeric.{ieqz, ieq, ine, ilt_s, ilt_u, igt_s, igt_u, ile_s, ile_u, ige_s, ige_u, iclz, ictz};
+ghost use Rattle.wa_syntax.specs.Numeric.{ipopcnt, iadd, isub, imul, idiv_s, idiv_u, irem_s, irem_u, iand, ior, ixor, ishl};
+ghost use Rattle.wa_syntax.specs.Numeric.{ishr_s, ishr_u, irotl, irotr, wrap, extend_s, extend_u, IsI64Operator, i64_result};
 
 use wa_syntax::{TrapKind, opcode};
 

@@ -19,12 +19,14 @@ module _ (m : Module) (answers : List Take) (handed : List ℕ) where
   -- output
   abbrev pub IsRun : (fuel : ℕ) → Halt → (steps : ℕ) → (Comes : Input → Type 0) → Type 0
   IsRun fuel halt steps Comes =
-      (input rest : Input) → Reads input answers rest → Comes rest → machine_run m input fuel ≡ record { halt = halt; steps = steps; output = handed }
+      (input rest : Input) → Reads input answers rest → Comes rest
+      → machine_run m input fuel ≡ record { halt = halt; steps = steps; output = handed }
 
   -- whatever input gives these answers, the output of a run of so many instructions or more begins with what was handed on
   abbrev pub IsFront : (steps : ℕ) → Type 0
   IsFront steps =
-      (input rest : Input) (most : ℕ) → Reads input answers rest → steps ≤ most → (more : List ℕ) × ((machine_run m input most).output ≡ handed ++ more)
+      (input rest : Input) (most : ℕ) → Reads input answers rest → steps ≤ most
+      → (more : List ℕ) × ((machine_run m input most).output ≡ handed ++ more)
 
   -- nothing is read and nothing handed on
   abbrev pub IsNothing : Type 0

@@ -53,9 +53,11 @@ pub fn run_bytes<I: Source, O: Sink>(
     ensures source { I.faults input.old ≤ I.faults input.new }
     ensures sink { O.faults out.old ≤ O.faults out.new }
     // What the run of the module was, whatever the source and the sink do.
-    ensures ran { HasRun bytes.now fuel result (sides (I.input input.old) (O.output out.old)) (sides (I.input input.new) (O.output out.new)) }
+    ensures ran { HasRun bytes.now fuel result (sides (I.input input.old) (O.output out.old))
+        (sides (I.input input.new) (O.output out.new)) }
     // Over a source that says what it has left, the run is the standard's over these bytes.
-    ensures whole { Told bytes.now fuel result (sides (I.input input.old) (O.output out.old)) (sides (I.input input.new) (O.output out.new)) }
+    ensures whole { Told bytes.now fuel result (sides (I.input input.old) (O.output out.old))
+        (sides (I.input input.new) (O.output out.new)) }
 {
     match load(alloc, bytes) {
         Ok(valid) => run_module(alloc, &valid, fuel, input, out),
@@ -80,8 +82,10 @@ pub fn run_module<I: Source, O: Sink>(
     ensures untouched { IsBeforeRun result.answer → (out.new ≡ out.old) × (input.new ≡ input.old) }
     ensures source { I.faults input.old ≤ I.faults input.new }
     ensures sink { O.faults out.old ≤ O.faults out.new }
-    ensures ran { HasRunModule valid.now fuel result (sides (I.input input.old) (O.output out.old)) (sides (I.input input.new) (O.output out.new)) }
-    ensures whole { ToldModule valid.now fuel result (sides (I.input input.old) (O.output out.old)) (sides (I.input input.new) (O.output out.new)) }
+    ensures ran { HasRunModule valid.now fuel result (sides (I.input input.old) (O.output out.old))
+        (sides (I.input input.new) (O.output out.new)) }
+    ensures whole { ToldModule valid.now fuel result (sides (I.input input.old) (O.output out.old))
+        (sides (I.input input.new) (O.output out.new)) }
     // A module that is linked and whose segments fit is run.
     ensures starts { IsLinked valid.now → SegmentsFit valid.now → IsBeforeRun result.answer → ⊥ }
 {
@@ -120,7 +124,10 @@ fn run_machine<I: Source, O: Sink>(
     ensures output { Grew (O.output out.old) (O.output out.new) }
     ensures source { I.faults input.old ≤ I.faults input.new }
     ensures sink { O.faults out.old ≤ O.faults out.new }
-    ensures ran { (m : Module) → IsValid m → IsLinked m → Runs m machine → ((input : Input) → Stands m (row_of machine.linked.code) (flat_of machine.state) (first m input)) → host.old ≡ [] → HasRunModule m fuel result (sides (I.input input.old) (O.output out.old)) (sides (I.input input.new) (O.output out.new)) }
+    ensures ran { (m : Module)
+        → IsValid m → IsLinked m → Runs m machine
+        → ((input : Input) → Stands m (row_of machine.linked.code) (flat_of machine.state) (first m input)) → host.old ≡ []
+        → HasRunModule m fuel result (sides (I.input input.old) (O.output out.old)) (sides (I.input input.new) (O.output out.new)) }
 {
     let halt = machine.step_until(fuel, host, input, out);
     Run {

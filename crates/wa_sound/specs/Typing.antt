@@ -72,7 +72,8 @@ IsTypedTarget r p wanted left (Some body) = (wanted ≡ []) × IsCode r p body [
 
 -- From operands of these types the rest of a block at place p leads to its end. Behind it stand the instructions that are outside
 -- its label.
-pub record IsTypedInBlock (r : Setting) (p : Place) (code : Sequence) (types : List ValTy) (kept : ℕ) (again : Option Sequence) (below : List ℕ) (Outside : Place → List ValTy → Type 0) : Type 0 where
+pub record IsTypedInBlock (r : Setting) (p : Place) (code : Sequence) (types : List ValTy)
+    (kept : ℕ) (again : Option Sequence) (below : List ℕ) (Outside : Place → List ValTy → Type 0) : Type 0 where
   pub wanted : List ValTy
   pub labels : List (List ValTy)
   pub left : List ValTy
@@ -85,7 +86,8 @@ pub record IsTypedInBlock (r : Setting) (p : Place) (code : Sequence) (types : L
   pub outside : Outside (record p { labels = labels }) (left ++ types_below)
 
 -- From operands of these types the rest of a function's body leads to its end. Behind it stands the caller.
-pub record IsTypedInFunction (r : Setting) (p : Place) (code : Sequence) (types : List ValTy) (kept : ℕ) (below locals : List ℕ) (Outside : Place → List ValTy → Type 0) : Type 0 where
+pub record IsTypedInFunction (r : Setting) (p : Place) (code : Sequence) (types : List ValTy)
+    (kept : ℕ) (below locals : List ℕ) (Outside : Place → List ValTy → Type 0) : Type 0 where
   pub caller : Place
   pub types_below : List ValTy
   pub label : p.labels ≡ p.results ∷ []

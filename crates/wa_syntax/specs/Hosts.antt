@@ -1,5 +1,6 @@
 -- The functions of the host that a module may import: `env.put`, `env.get` and `env.stop`.
-use Rattle.std.specs.Prelude.{ℕ, zero, suc, ◌-◌, ◌%◌, ◌^◌, Bool, true, false, ◌&&◌, nat_lt, if◌then◌else◌, List, [], ◌∷◌, ◌++◌, length, slice_get, Option, Some, None, codes, bytes_eq}
+use Rattle.std.specs.Prelude.{ℕ, zero, suc, ◌-◌, ◌%◌, ◌^◌, Bool, true, false, ◌&&◌, nat_lt, if◌then◌else◌}
+use Rattle.std.specs.Prelude.{List, [], ◌∷◌, ◌++◌, length, slice_get, Option, Some, None, codes, bytes_eq}
 use Rattle.wa_syntax.specs.declared.module.ValTy.{ValTy}
 use Rattle.wa_syntax.specs.declared.module.ValTy.TheVariants.{I32, I64}
 use Rattle.wa_syntax.specs.declared.module.FuncTy.{FuncTy}
@@ -60,7 +61,8 @@ host_of m import = of import.kind
 
 -- the type of the function of this number, where all imports are functions
 abbrev pub type_of : Module → ℕ → Option FuncTy
-type_of m func = if nat_lt func (length m.imports) then imported (slice_get m.imports func) else own (slice_get m.funcs (func - length m.imports))
+type_of m func =
+    if nat_lt func (length m.imports) then imported (slice_get m.imports func) else own (slice_get m.funcs (func - length m.imports))
   where
     of_kind : ImportKind → Option FuncTy
     of_kind (ImportKind.Func ty) = slice_get m.types ty

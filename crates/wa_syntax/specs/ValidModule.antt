@@ -1,5 +1,6 @@
 -- Which modules are valid (sections 3.2 and 3.4 of the WebAssembly Core Specification 1.0, in its integer part).
-use Rattle.std.specs.Prelude.{ℕ, ◌<◌, ◌≤◌, ◌^◌, ◌-◌, ◌+◌, ◌≡◌, ◌≢◌, IsFalse, List, [], ◌++◌, length, map, filter_map, slice_get, All, AllPairs, Option, Some, None, IfSome}
+use Rattle.std.specs.Prelude.{ℕ, ◌<◌, ◌≤◌, ◌^◌, ◌-◌, ◌+◌, ◌≡◌, ◌≢◌, IsFalse, List, [], ◌++◌, length}
+use Rattle.std.specs.Prelude.{map, filter_map, slice_get, All, AllPairs, Option, Some, None, IfSome}
 use Rattle.wa_syntax.specs.declared.module.ValTy.{ValTy}
 use Rattle.wa_syntax.specs.declared.module.ValTy.TheVariants.{I32, I64}
 use Rattle.wa_syntax.specs.declared.module.Limits.{Limits}

@@ -6,7 +6,10 @@ use Rattle.wa_syntax.specs.declared.module.ValTy.TheVariants.{I32, I64}
 use Rattle.wa_syntax.specs.declared.module.FuncTy.{FuncTy}
 use Rattle.wa_syntax.specs.declared.module.GlobalTy.{GlobalTy}
 use Rattle.wa_syntax.specs.declared.module.Func.{Func}
-use Rattle.wa_syntax.specs.Instructions.{Instruction, Unreachable, Nop, Return, Drop, Select, MemorySize, MemoryGrow, Block, Loop, If, Br, BrIf, BrTable, Call, CallIndirect, LocalGet, LocalSet, LocalTee, GlobalGet, GlobalSet, I32Const, I64Const, Numeric, Memory, Sequence, nothing, ◌then◌, sequence, Access, load_of, store_of, numeric_type}
+use Rattle.wa_syntax.specs.Instructions.{Instruction, Unreachable, Nop, Return, Drop, Select, MemorySize, MemoryGrow}
+use Rattle.wa_syntax.specs.Instructions.{Block, Loop, If, Br, BrIf, BrTable, Call, CallIndirect, LocalGet, LocalSet}
+use Rattle.wa_syntax.specs.Instructions.{LocalTee, GlobalGet, GlobalSet, I32Const, I64Const, Numeric, Memory}
+use Rattle.wa_syntax.specs.Instructions.{Sequence, nothing, ◌then◌, sequence, Access, load_of, store_of, numeric_type}
 
 -- what the parts of a module may name by number, the imported things first (3.1.1): a function stands there as the number of
 -- its type, and a label, the innermost first, and the end of the function as the types that a branch there wants

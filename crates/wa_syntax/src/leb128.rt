@@ -4,7 +4,8 @@
 //! last. Longer spellings than needed are read too, up to five bytes for 32 bits and ten for 64. The last of so many
 //! bytes has bits that the number has no room for: they are zero or, in a number with a sign, copies of the sign.
 
-ghost use Rattle.std.specs.Prelude.{◌≡◌, ℕ, ◌+◌, ◌-◌, ◌^◌, ◌<◌, ◌≤◌, ℤ, pos, neg_ℤ, ◌+ℤ◌, ◌*ℤ◌, ◌≤ℤ◌, ◌<ℤ◌, List, ◌++◌, length, take, IfSome, OnOk, OnErr};
+ghost use Rattle.std.specs.Prelude.{◌≡◌, ℕ, ◌+◌, ◌-◌, ◌^◌, ◌<◌, ◌≤◌, ℤ, pos, neg_ℤ, ◌+ℤ◌, ◌*ℤ◌};
+ghost use Rattle.std.specs.Prelude.{◌≤ℤ◌, ◌<ℤ◌, List, ◌++◌, length, take, IfSome, OnOk, OnErr};
 ghost use Rattle.wa_syntax.specs.Leb128.{IsUnsigned, IsLastSigned, IsSigned, Spells, IsShortest, Appends};
 
 use crate::no_memory::NoMemory;

@@ -2,7 +2,8 @@
 use Rattle.std.specs.Prelude.{◌≡◌, ℕ, [], ◌∷◌, Option, None, if◌then◌else◌, ◌==◌, option_to_list}
 use Rattle.wa_syntax.specs.declared.module.FuncTy.{FuncTy}
 use Rattle.wa_syntax.specs.declared.module.ValTy.TheVariants.{I32, I64}
-use Rattle.wa_syntax.specs.declared.opcode.TheConstants.{I32_CLZ, I32_POPCNT, I32_ADD, I32_ROTR, I64_CLZ, I64_POPCNT, I64_ADD, I64_ROTR, I32_WRAP_I64, I64_EXTEND_I32_S, I64_EXTEND_I32_U}
+use Rattle.wa_syntax.specs.declared.opcode.TheConstants.{I32_CLZ, I32_POPCNT, I32_ADD, I32_ROTR, I64_CLZ, I64_POPCNT}
+use Rattle.wa_syntax.specs.declared.opcode.TheConstants.{I64_ADD, I64_ROTR, I32_WRAP_I64, I64_EXTEND_I32_S, I64_EXTEND_I32_U}
 use Rattle.wa_syntax.specs.Instructions as instructions
 use Rattle.wa_syntax.specs.Instructions.{takes_gives, is_from_to}
 use Rattle.wa_valid.specs.declared.memory.Access.{Access}

@@ -85,7 +85,8 @@ fn together(imported: usize, own: usize) -> Result<usize, Fault>
 
 /// The types of the functions, the imported ones first.
 fn functions(alloc: Global, imports: &[Import], own: &[Func]) -> Result<Items<u32>, Fault>
-    ensures ok { IfOk result (λ found. found ≡ filter_map (λ import. imported_function import.kind) imports.now ++ map (λ func. func.ty) own.now) }
+    ensures ok { IfOk result (λ found. found
+        ≡ filter_map (λ import. imported_function import.kind) imports.now ++ map (λ func. func.ty) own.now) }
     ensures err { IfErr result (λ fault. fault ≡ Fault.NoMemory) }
 {
     let mut found = imported_functions(alloc, imports)?;
@@ -97,7 +98,8 @@ fn functions(alloc: Global, imports: &[Import], own: &[Func]) -> Result<Items<u3
 
 /// The types of the globals, the imported ones first.
 fn globals(alloc: Global, imports: &[Import], own: &[GlobalDef]) -> Result<Items<GlobalTy>, Fault>
-    ensures ok { IfOk result (λ found. found ≡ filter_map (λ import. imported_global import.kind) imports.now ++ map (λ global. global.ty) own.now) }
+    ensures ok { IfOk result (λ found. found
+        ≡ filter_map (λ import. imported_global import.kind) imports.now ++ map (λ global. global.ty) own.now) }
     ensures err { IfErr result (λ fault. fault ≡ Fault.NoMemory) }
 {
     let mut found = imported_globals(alloc, imports)?;

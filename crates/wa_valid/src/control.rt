@@ -28,7 +28,8 @@ fn label_type(labels: &[Option<ValTy>], label: u32) -> Result<Option<ValTy>, Fau
 
 /// `br`: [t1* t?] → [t2*].
 pub fn br(labels: &[Option<ValTy>], operands: &mut Operands, label: u32) -> Rule
-    ensures { (c : validity.Context) → c.labels ≡ map option_to_list (reverse labels.now) → Answers (IsTyped c (Br label)) (stack operands.old) (stack operands.new) result }
+    ensures { (c : validity.Context) → c.labels ≡ map option_to_list (reverse labels.now)
+        → Answers (IsTyped c (Br label)) (stack operands.old) (stack operands.new) result }
 {
     let wanted = label_type(labels, label)?;
     operands.pop_result(wanted)?;
@@ -38,7 +39,8 @@ pub fn br(labels: &[Option<ValTy>], operands: &mut Operands, label: u32) -> Rule
 
 /// `br_if`: [t? i32] → [t?].
 pub fn br_if(labels: &[Option<ValTy>], operands: &mut Operands, label: u32) -> Rule
-    ensures { (c : validity.Context) → c.labels ≡ map option_to_list (reverse labels.now) → Answers (IsTyped c (BrIf label)) (stack operands.old) (stack operands.new) result }
+    ensures { (c : validity.Context) → c.labels ≡ map option_to_list (reverse labels.now)
+        → Answers (IsTyped c (BrIf label)) (stack operands.old) (stack operands.new) result }
 {
     let wanted = label_type(labels, label)?;
     operands.apply(wanted, Some(ValTy::I32), wanted)
@@ -51,7 +53,8 @@ pub fn br_table(
     table: &[u32],
     default: u32,
 ) -> Rule
-    ensures { (c : validity.Context) → c.labels ≡ map option_to_list (reverse labels.now) → Answers (IsTyped c (BrTable table.now default)) (stack operands.old) (stack operands.new) result }
+    ensures { (c : validity.Context) → c.labels ≡ map option_to_list (reverse labels.now)
+        → Answers (IsTyped c (BrTable table.now default)) (stack operands.old) (stack operands.new) result }
 {
     let wanted = label_type(labels, default)?;
     all_want(labels, table, wanted)?;
@@ -80,7 +83,8 @@ fn wants(labels: &[Option<ValTy>], label: u32, wanted: Option<ValTy>) -> Rule
 
 /// `return`: [t1* t?] → [t2*], where the function gives t?.
 pub fn return_(operands: &mut Operands, func: &FuncTy) -> Rule
-    ensures { (c : validity.Context) → c.results ≡ func.now.results → Answers (IsTyped c Return) (stack operands.old) (stack operands.new) result }
+    ensures { (c : validity.Context) → c.results ≡ func.now.results
+        → Answers (IsTyped c Return) (stack operands.old) (stack operands.new) result }
 {
     operands.pop_all(func.results.as_slice())?;
     operands.set_unreachable();
@@ -97,7 +101,8 @@ fn call_of(operands: &mut Operands, func: &FuncTy) -> Rule
 
 /// `call`, by the type of the function.
 pub fn call(context: &Context, operands: &mut Operands, func: u32) -> Rule
-    ensures { (c : validity.Context) → c.funcs ≡ context.now.funcs → c.types ≡ context.now.types.now → Answers (IsTyped c (Call func)) (stack operands.old) (stack operands.new) result }
+    ensures { (c : validity.Context) → c.funcs ≡ context.now.funcs → c.types ≡ context.now.types.now
+        → Answers (IsTyped c (Call func)) (stack operands.old) (stack operands.new) result }
 {
     let number = context.func_type_number(func)?;
     let ty = context.type_at(number)?;
@@ -106,7 +111,8 @@ pub fn call(context: &Context, operands: &mut Operands, func: u32) -> Rule
 
 /// `call_indirect`, of a function in the table with the type of a number: as a call, with the place in the table on top.
 pub fn call_indirect(context: &Context, operands: &mut Operands, number: u32) -> Rule
-    ensures { (c : validity.Context) → c.tables ≡ context.now.tables → c.types ≡ context.now.types.now → Answers (IsTyped c (CallIndirect number)) (stack operands.old) (stack operands.new) result }
+    ensures { (c : validity.Context) → c.tables ≡ context.now.tables → c.types ≡ context.now.types.now
+        → Answers (IsTyped c (CallIndirect number)) (stack operands.old) (stack operands.new) result }
 {
     require(0 < context.tables)?;
     let ty = context.type_at(number)?;

@@ -61,7 +61,8 @@ fn block(
     ty: Option<ValTy>,
     body: &[Instr],
 ) -> Rule
-    ensures says { Says (AreTyped (with_label (option_to_list label) (names_in scope.now labels.old)) (sequence body.now) [] (option_to_list ty)) result }
+    ensures says { Says
+        (AreTyped (with_label (option_to_list label) (names_in scope.now labels.old)) (sequence body.now) [] (option_to_list ty)) result }
     ensures labels { OnOk result (labels.new ≡ labels.old) }
 {
     labels.push(label)?;
@@ -74,7 +75,8 @@ fn block(
 /// Instructions one after another (3.3.6).
 #[cycle(instructions)]
 fn sequence(scope: &Scope, labels: &mut Labels, operands: &mut Operands, instrs: &[Instr]) -> Rule
-    ensures answers { Answers (AreTyped (names_in scope.now labels.old) (sequence instrs.now)) (stack operands.old) (stack operands.new) result }
+    ensures answers { Answers (AreTyped (names_in scope.now labels.old) (sequence instrs.now))
+        (stack operands.old) (stack operands.new) result }
     ensures labels { OnOk result (labels.new ≡ labels.old) }
 {
     for instr in instrs {
@@ -86,7 +88,8 @@ fn sequence(scope: &Scope, labels: &mut Labels, operands: &mut Operands, instrs:
 /// An instruction (3.3).
 #[cycle(instructions)]
 fn instruction(scope: &Scope, labels: &mut Labels, operands: &mut Operands, instr: &Instr) -> Rule
-    ensures answers { Answers (IsTyped (names_in scope.now labels.old) (instruction instr.now)) (stack operands.old) (stack operands.new) result }
+    ensures answers { Answers (IsTyped (names_in scope.now labels.old) (instruction instr.now))
+        (stack operands.old) (stack operands.new) result }
     ensures labels { OnOk result (labels.new ≡ labels.old) }
 {
     match instr {
@@ -134,7 +137,8 @@ fn simple(scope: &Scope, labels: &[Option<ValTy>], operands: &mut Operands, inst
 
 /// An instruction that is its opcode alone.
 fn plain(scope: &Scope, operands: &mut Operands, opcode: u8) -> Rule
-    ensures { (labels : List (Option ValTy)) → Answers (IsTyped (names_in scope.now labels) (plain opcode)) (stack operands.old) (stack operands.new) result }
+    ensures { (labels : List (Option ValTy))
+        → Answers (IsTyped (names_in scope.now labels) (plain opcode)) (stack operands.old) (stack operands.new) result }
 {
     if opcode == UNREACHABLE {
         operands.set_unreachable();
@@ -163,7 +167,8 @@ fn plain(scope: &Scope, operands: &mut Operands, opcode: u8) -> Rule
 
 /// `local.get`: [] → [t].
 fn local_get(scope: &Scope, operands: &mut Operands, local: u32) -> Rule
-    ensures { (labels : List (Option ValTy)) → Answers (IsTyped (names_in scope.now labels) (LocalGet local)) (stack operands.old) (stack operands.new) result }
+    ensures { (labels : List (Option ValTy))
+        → Answers (IsTyped (names_in scope.now labels) (LocalGet local)) (stack operands.old) (stack operands.new) result }
 {
     let ty = scope.declared.type_at(scope.func, local)?;
     operands.apply(None, None, Some(ty))
@@ -171,7 +176,8 @@ fn local_get(scope: &Scope, operands: &mut Operands, local: u32) -> Rule
 
 /// `local.set`: [t] → [].
 fn local_set(scope: &Scope, operands: &mut Operands, local: u32) -> Rule
-    ensures { (labels : List (Option ValTy)) → Answers (IsTyped (names_in scope.now labels) (LocalSet local)) (stack operands.old) (stack operands.new) result }
+    ensures { (labels : List (Option ValTy))
+        → Answers (IsTyped (names_in scope.now labels) (LocalSet local)) (stack operands.old) (stack operands.new) result }
 {
     let ty = scope.declared.type_at(scope.func, local)?;
     operands.apply(Some(ty), None, None)
@@ -179,7 +185,8 @@ fn local_set(scope: &Scope, operands: &mut Operands, local: u32) -> Rule
 
 /// `local.tee`: [t] → [t].
 fn local_tee(scope: &Scope, operands: &mut Operands, local: u32) -> Rule
-    ensures { (labels : List (Option ValTy)) → Answers (IsTyped (names_in scope.now labels) (LocalTee local)) (stack operands.old) (stack operands.new) result }
+    ensures { (labels : List (Option ValTy))
+        → Answers (IsTyped (names_in scope.now labels) (LocalTee local)) (stack operands.old) (stack operands.new) result }
 {
     let ty = scope.declared.type_at(scope.func, local)?;
     operands.apply(Some(ty), None, Some(ty))

@@ -33,7 +33,8 @@ fn some_access(ty: ValTy, align: u32) -> Option<Access>
 
 /// The load with an opcode, if there is one.
 fn load(opcode: u8) -> Option<Access>
-    ensures load { MatchOption result (load_of opcode ≡ None) (λ held. (a : instructions.Access) × (load_of opcode ≡ Some a) × IsAccess held a) }
+    ensures load { MatchOption result (load_of opcode ≡ None) (λ held. (a : instructions.Access) × (load_of opcode ≡ Some a)
+        × IsAccess held a) }
     ensures apart { MatchOption result (Unit {0}) (λ held. store_of opcode ≡ None) }
 {
     match opcode {
@@ -55,7 +56,8 @@ fn load(opcode: u8) -> Option<Access>
 
 /// The store with an opcode, if there is one.
 fn store(opcode: u8) -> Option<Access>
-    ensures { MatchOption result (store_of opcode ≡ None) (λ held. (a : instructions.Access) × (store_of opcode ≡ Some a) × IsAccess held a) }
+    ensures { MatchOption result (store_of opcode ≡ None) (λ held. (a : instructions.Access) × (store_of opcode ≡ Some a)
+        × IsAccess held a) }
 {
     match opcode {
         I32_STORE => some_access(I32, 2),
@@ -78,7 +80,8 @@ fn aligned(context: &Context, access: Access, align: u32) -> Rule
 
 /// A load, [i32] → [t], or a store, [i32 t] → [].
 pub fn load_or_store(context: &Context, operands: &mut Operands, opcode: u8, align: u32) -> Rule
-    ensures { (c : validity.Context) (offset : ℕ) → c.memories ≡ context.now.memories → Answers (IsTyped c (Memory opcode align offset)) (stack operands.old) (stack operands.new) result }
+    ensures { (c : validity.Context) (offset : ℕ) → c.memories ≡ context.now.memories
+        → Answers (IsTyped c (Memory opcode align offset)) (stack operands.old) (stack operands.new) result }
 {
     if let Some(access) = load(opcode) {
         aligned(context, access, align)?;
@@ -95,7 +98,8 @@ pub fn load_or_store(context: &Context, operands: &mut Operands, opcode: u8, ali
 
 /// `memory.size`: [] → [i32].
 pub fn memory_size(context: &Context, operands: &mut Operands) -> Rule
-    ensures { (c : validity.Context) → c.memories ≡ context.now.memories → Answers (IsTyped c MemorySize) (stack operands.old) (stack operands.new) result }
+    ensures { (c : validity.Context) → c.memories ≡ context.now.memories
+        → Answers (IsTyped c MemorySize) (stack operands.old) (stack operands.new) result }
 {
     require(0 < context.memories)?;
     operands.apply(None, None, Some(I32))
@@ -103,7 +107,8 @@ pub fn memory_size(context: &Context, operands: &mut Operands) -> Rule
 
 /// `memory.grow`: [i32] → [i32].
 pub fn memory_grow(context: &Context, operands: &mut Operands) -> Rule
-    ensures { (c : validity.Context) → c.memories ≡ context.now.memories → Answers (IsTyped c MemoryGrow) (stack operands.old) (stack operands.new) result }
+    ensures { (c : validity.Context) → c.memories ≡ context.now.memories
+        → Answers (IsTyped c MemoryGrow) (stack operands.old) (stack operands.new) result }
 {
     require(0 < context.memories)?;
     operands.apply(Some(I32), None, Some(I32))

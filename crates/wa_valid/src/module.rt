@@ -1,7 +1,8 @@
 //! The parts of a module outside the bodies of functions (section 3.4).
 
 ghost use Rattle.std.specs.Prelude.{◌≤◌, ◌<◌, ◌≢◌, All, AllPairs, IfSome, length, map};
-ghost use Rattle.wa_syntax.specs.ValidModule.{IsValidOutside, IsConstant, IsElem, IsExport, IsImport, IsMemory, IsSegment, IsStart, IsTable, imported, imported_global};
+ghost use Rattle.wa_syntax.specs.ValidModule.{IsValidOutside, IsConstant, IsElem, IsExport, IsImport};
+ghost use Rattle.wa_syntax.specs.ValidModule.{IsMemory, IsSegment, IsStart, IsTable, imported, imported_global};
 ghost use Rattle.wa_valid.specs.Names.{names};
 ghost use Rattle.wa_valid.specs.Rules.{Says};
 

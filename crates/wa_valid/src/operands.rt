@@ -163,7 +163,8 @@ impl Operands {
         second: Option<ValTy>,
         given: Option<ValTy>,
     ) -> Rule
-        ensures { Answers (Gives (option_to_list first ++ option_to_list second) (option_to_list given)) (stack self.old) (stack self.new) result }
+        ensures { Answers (Gives (option_to_list first ++ option_to_list second) (option_to_list given))
+            (stack self.old) (stack self.new) result }
     {
         self.pop_result(second)?;
         self.pop_result(first)?;

@@ -12,7 +12,8 @@ use crate::operands::Operands;
 
 /// `global.get`: [] → [t].
 pub fn global_get(context: &Context, operands: &mut Operands, global: u32) -> Rule
-    ensures { (c : validity.Context) → c.globals ≡ context.now.globals → Answers (IsTyped c (GlobalGet global)) (stack operands.old) (stack operands.new) result }
+    ensures { (c : validity.Context) → c.globals ≡ context.now.globals
+        → Answers (IsTyped c (GlobalGet global)) (stack operands.old) (stack operands.new) result }
 {
     let ty = context.global_type(global)?;
     operands.apply(None, None, Some(ty.val))
@@ -20,7 +21,8 @@ pub fn global_get(context: &Context, operands: &mut Operands, global: u32) -> Ru
 
 /// `global.set`, of a mutable global: [t] → [].
 pub fn global_set(context: &Context, operands: &mut Operands, global: u32) -> Rule
-    ensures { (c : validity.Context) → c.globals ≡ context.now.globals → Answers (IsTyped c (GlobalSet global)) (stack operands.old) (stack operands.new) result }
+    ensures { (c : validity.Context) → c.globals ≡ context.now.globals
+        → Answers (IsTyped c (GlobalSet global)) (stack operands.old) (stack operands.new) result }
 {
     let ty = context.global_type(global)?;
     require(ty.mutable)?;
