@@ -1,6 +1,7 @@
 //! The top call: from the words of a command line to its exit.
 #![tactic(auto)]
 
+mod assemble;
 mod build;
 mod cause;
 mod check;
@@ -8,6 +9,7 @@ mod compile;
 mod exec;
 mod line_numbers;
 mod lines;
+mod listing;
 mod module;
 mod outcome;
 mod print;
