@@ -4,7 +4,7 @@ use crate::limits::{MOST_PAIRS, Size};
 use crate::sigs::sig_pos;
 use indexmap::IndexMap;
 use sa_check_conformance::Signatures;
-use sa_check_constants::ConstTable;
+use sa_check_constants::{ConstTable, Texts};
 use sa_check_expr::{Built, View};
 use sa_check_program::Program;
 use sa_check_stmt::{body, shared_body};
@@ -25,13 +25,14 @@ pub(crate) struct Typing {
 }
 
 impl Typing {
-    fn new(alloc: Global) -> Typing {
+    fn new(alloc: Global, texts: Texts) -> Typing {
         Typing {
             features: Items::new(alloc),
             shareds: Items::new(alloc),
             built: Built {
                 sites: Items::new(alloc),
                 bound: IndexMap::new(alloc),
+                texts,
             },
             size: Size::new(),
             pairs: 0,
@@ -39,7 +40,8 @@ impl Typing {
     }
 }
 
-/// The features and the shareds of a program, typed, where `above` has the abstract types above each needed type.
+/// The features and the shareds of a program, typed, where `above` has the abstract types above each needed type, and `texts`
+/// those of the constants.
 ///
 /// They are refused type by type: by the rules of bodies, then with E55 where the program is too large; an abstract type
 /// with E56 where there are too many dispatch pairs.
@@ -48,10 +50,11 @@ pub(crate) fn typed_bodies<'a>(
     program: &'a Program<'_>,
     signatures: &'a Signatures,
     consts: &'a ConstTable,
+    texts: Texts,
     above: &[Items<u32>],
 ) -> Result<Typing, FrontFault> {
     let below = concrete_below(alloc, program, above)?;
-    let mut typing = Typing::new(alloc);
+    let mut typing = Typing::new(alloc, texts);
     for class in 0..program.count() {
         let view = View {
             alloc,

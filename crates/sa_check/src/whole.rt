@@ -1,11 +1,11 @@
 //! A program from its classes to its typed tree.
 
-use crate::above::class_types_above;
 use crate::sigs::sig_cores;
 use crate::types::type_infos;
 use crate::typing::{Typing, typed_bodies};
+use crate::uppers::class_types_above;
 use sa_check_conformance::{Implementation, Signatures, check_conformance};
-use sa_check_constants::ConstTable;
+use sa_check_constants::{ConstTable, Texts};
 use sa_check_program::Program;
 use sa_core::{Core, SigCore, TypeInfo};
 use sa_include::flatten;
@@ -31,26 +31,29 @@ pub fn check(alloc: Global, classes: &[Class]) -> Result<Core, FrontFault> {
 fn checked_program(alloc: Global, program: &Program<'_>) -> Result<Core, FrontFault> {
     let signatures = Signatures::make(alloc, program)?;
     let implementations = check_conformance(alloc, program, &signatures)?;
-    let consts = ConstTable::make(alloc, program)?;
+    let mut texts = Texts::new(alloc);
+    let consts = ConstTable::make(alloc, program, &mut texts)?;
     typed_program(
         alloc,
         program,
         &signatures,
         &consts,
+        texts,
         implementations.as_slice(),
     )
 }
 
-/// The typed tree of a program whose types, signatures and constants stand.
+/// The typed tree of a program whose types, signatures and constants stand, with the texts of these.
 fn typed_program<'a>(
     alloc: Global,
     program: &'a Program<'_>,
     signatures: &'a Signatures,
     consts: &'a ConstTable,
+    texts: Texts,
     implementations: &[Items<Implementation>],
 ) -> Result<Core, FrontFault> {
     let above = class_types_above(alloc, program)?;
-    let typing = typed_bodies(alloc, program, signatures, consts, above.as_slice())?;
+    let typing = typed_bodies(alloc, program, signatures, consts, texts, above.as_slice())?;
     let types = type_infos(alloc, program, &typing.built.bound, above)?;
     let sigs = sig_cores(alloc, program, signatures, implementations)?;
     Ok(whole(alloc, program, types, sigs, typing))

@@ -11,6 +11,6 @@ pub(crate) fn constant_value(alloc: Global, value: &ConstValue) -> Result<ExprCo
         ConstValue::Int(value) => Ok(ExprCore::Int(*value)),
         ConstValue::Bool(value) => Ok(ExprCore::Bool(*value)),
         ConstValue::Char(byte) => Ok(ExprCore::Char(*byte)),
-        ConstValue::Text(text) => Ok(ExprCore::Text(text.copy(alloc)?)),
+        ConstValue::Text(number, text) => Ok(ExprCore::Text(*number, text.copy(alloc)?)),
     }
 }

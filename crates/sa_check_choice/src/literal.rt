@@ -2,6 +2,7 @@
 
 use crate::typed::Typed;
 use crate::view::{Place, View};
+use sa_check_constants::Texts;
 use sa_check_program::{BOOL, CHAR, INT, STR};
 use sa_core::ExprCore;
 use sa_tree::{FrontFault, Name, NoMemory, Pos, Rule, held};
@@ -32,9 +33,10 @@ pub fn character(value: u8) -> Typed {
     of_type(ExprCore::Char(value), CHAR)
 }
 
-/// A text.
-pub fn text(alloc: Global, text: &Name) -> Result<Typed, NoMemory> {
-    Ok(of_type(ExprCore::Text(text.copy(alloc)?), STR))
+/// A text, which gets a number where it is new.
+pub fn text(alloc: Global, texts: &mut Texts, text: &Name) -> Result<Typed, NoMemory> {
+    let number = texts.number(alloc, text)?;
+    Ok(of_type(ExprCore::Text(number, text.copy(alloc)?), STR))
 }
 
 /// `self`

@@ -1,6 +1,7 @@
 //! What typing an expression makes.
 
 use indexmap::IndexMap;
+use sa_check_constants::Texts;
 use sa_check_program::BOOL;
 use sa_core::{ExprCore, SiteCore};
 use sa_tree::{Expr, FrontFault, Pos, Rule, Ty};
@@ -13,6 +14,8 @@ pub struct Built {
     pub sites: Items<SiteCore>,
     /// The bound types that binds make and that the program writes nowhere.
     pub bound: IndexMap<Ty, ()>,
+    /// The texts of the constants, and those of the bodies.
+    pub texts: Texts,
 }
 
 /// A typed expression.

@@ -2,9 +2,10 @@
 
 use crate::names::{Places, named, part};
 use crate::operators::{binary, unary};
+use crate::texts::Texts;
 use crate::value::ConstValue;
 use sa_check_program::{BOOL, CHAR, INT, Program, STR};
-use sa_tree::{Expr, Name, NoMemory, Part};
+use sa_tree::{Expr, NoMemory, Part, held};
 use std::alloc::Global;
 
 /// Why an expression of the right form has no value.
@@ -16,18 +17,18 @@ pub(crate) enum Lack {
     Unknown,
 }
 
-/// An expression of the right form, by its type. A text is that of the literal.
+/// An expression of the right form, by its type. A text is told by its number.
 #[derive(Clone, Copy)]
-pub(crate) enum Folded<'t> {
+pub(crate) enum Folded {
     Int(Result<i32, Lack>),
     Bool(Result<bool, Lack>),
     Char(Result<u8, Lack>),
-    Text(Result<&'t Name, Lack>),
+    Text(Result<u32, Lack>),
 }
 
-impl Folded<'_> {
+impl Folded {
     /// An expression of the type with this number that names a constant without a value, if constants have the type.
-    fn unknown<'t>(ty: u32) -> Option<Folded<'t>> {
+    fn unknown(ty: u32) -> Option<Folded> {
         match ty {
             INT => Some(Folded::Int(Err(Lack::Unknown))),
             BOOL => Some(Folded::Bool(Err(Lack::Unknown))),
@@ -57,20 +58,27 @@ impl Folded<'_> {
         }
     }
 
-    /// Its value, where it has one.
-    pub(crate) fn value(&self, alloc: Global) -> Result<Option<ConstValue>, NoMemory> {
+    /// Its value, where it has one. A text's number is one of these texts.
+    pub(crate) fn value(
+        &self,
+        alloc: Global,
+        texts: &Texts,
+    ) -> Result<Option<ConstValue>, NoMemory> {
         Ok(match self {
             Folded::Int(Ok(value)) => Some(ConstValue::Int(*value)),
             Folded::Bool(Ok(value)) => Some(ConstValue::Bool(*value)),
             Folded::Char(Ok(byte)) => Some(ConstValue::Char(*byte)),
-            Folded::Text(Ok(text)) => Some(ConstValue::Text(text.copy(alloc)?)),
+            Folded::Text(Ok(number)) => {
+                let text = held(texts.text(*number))?;
+                Some(ConstValue::Text(*number, text.copy(alloc)?))
+            }
             _ => None,
         })
     }
 }
 
 /// Whether the fault of a constant is its own.
-pub(crate) fn is_faulty(folded: Option<Folded<'_>>) -> bool {
+pub(crate) fn is_faulty(folded: Option<Folded>) -> bool {
     match folded {
         None => true,
         Some(folded) => matches!(folded.lack(), Some(Lack::OutOfRange)),
@@ -78,7 +86,7 @@ pub(crate) fn is_faulty(folded: Option<Folded<'_>>) -> bool {
 }
 
 /// A whole number with this many added; another value as it is.
-fn raised(first: Folded<'_>, more: u32) -> Folded<'_> {
+fn raised(first: Folded, more: u32) -> Folded {
     match first {
         Folded::Int(value) => Folded::Int(sum(value, more)),
         other => other,
@@ -91,21 +99,34 @@ fn sum(value: Result<i32, Lack>, more: u32) -> Result<i32, Lack> {
 
 /// What is folded so far.
 #[derive(Clone, Copy)]
-pub(crate) struct Folding<'f, 't, 'p> {
-    pub program: &'t Program<'p>,
+pub(crate) struct Folding<'f, 'p> {
+    pub program: &'f Program<'p>,
     pub places: &'f Places,
+    /// By the places of the constants, the numbers of the texts that they are written as.
+    pub texts: &'f [Option<u32>],
     /// The constants by their places, where they are folded and of the form and the type of a constant.
-    pub folded: &'f [Option<Folded<'t>>],
+    pub folded: &'f [Option<Folded>],
 }
 
-impl<'t> Folding<'_, 't, '_> {
+/// The constant that an expression is, or is a part of: its place, and its class.
+#[derive(Clone, Copy)]
+struct Within {
+    place: usize,
+    class: u32,
+}
+
+impl Folding<'_, '_> {
     /// The constant at a place: its expression and the number that is added to it. `None` where its expression isn't of
     /// the form of a constant, or not of its type.
-    pub(crate) fn constant(&self, place: usize) -> Option<Folded<'t>> {
+    pub(crate) fn constant(&self, place: usize) -> Option<Folded> {
         let ((class, feature), declared) = self.places.get_index(place)?;
+        let within = Within {
+            place,
+            class: *class,
+        };
         let first = match part(self.program, *class, *feature)? {
             Part::Const(None, more) => raised(Folded::Int(Ok(0)), *more),
-            Part::Const(Some(e), more) => raised(self.expr(*class, e)?, *more),
+            Part::Const(Some(e), more) => raised(self.expr(within, e)?, *more),
             _ => return None,
         };
         if *declared != Some(first.ty()) {
@@ -114,26 +135,32 @@ impl<'t> Folding<'_, 't, '_> {
         Some(first)
     }
 
-    /// An expression of a class. `None` where it isn't of the form of a constant.
+    /// An expression. `None` where it isn't of the form of a constant: a text is one by itself alone.
     #[cycle(fold)]
-    fn expr(&self, class: u32, e: &'t Expr) -> Option<Folded<'t>> {
+    fn expr(&self, within: Within, e: &Expr) -> Option<Folded> {
         match e {
             Expr::Int(value, _) => whole(*value),
             Expr::Bool(value, _) => Some(Folded::Bool(Ok(*value))),
             Expr::Char(byte, _) => Some(Folded::Char(Ok(*byte))),
-            Expr::Text(text, _) => Some(Folded::Text(Ok(text))),
+            Expr::Text(_, _) => self.text(within.place),
             Expr::Binary(op, left, right, _) => {
-                let left = self.expr(class, left.get())?;
-                let right = self.expr(class, right.get())?;
+                let left = self.expr(within, left.get())?;
+                let right = self.expr(within, right.get())?;
                 binary(*op, left, right)
             }
-            Expr::Unary(op, of, _) => unary(*op, self.expr(class, of.get())?),
-            _ => self.name(class, e),
+            Expr::Unary(op, of, _) => unary(*op, self.expr(within, of.get())?),
+            _ => self.name(within.class, e),
         }
     }
 
+    /// The text that a constant is written as.
+    fn text(&self, place: usize) -> Option<Folded> {
+        let number = (*self.texts.get(place)?)?;
+        Some(Folded::Text(Ok(number)))
+    }
+
     /// A constant that is named.
-    fn name(&self, class: u32, e: &Expr) -> Option<Folded<'t>> {
+    fn name(&self, class: u32, e: &Expr) -> Option<Folded> {
         let place = self.places.get_index_of(&named(self.program, class, e)?)?;
         if let Some(Some(folded)) = self.folded.get(place)
             && folded.lack().is_none()
@@ -146,7 +173,7 @@ impl<'t> Folding<'_, 't, '_> {
 }
 
 /// A literal of INT.
-fn whole<'t>(value: u32) -> Option<Folded<'t>> {
+fn whole(value: u32) -> Option<Folded> {
     let value = i32::try_from(value).ok()?;
     Some(Folded::Int(Ok(value)))
 }

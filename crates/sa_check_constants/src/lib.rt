@@ -9,7 +9,9 @@ mod links;
 mod names;
 mod operators;
 mod table;
+mod texts;
 mod value;
 
 pub use table::ConstTable;
+pub use texts::Texts;
 pub use value::ConstValue;

@@ -6,7 +6,7 @@ use sa_tree::Op;
 use std::cmp::Ordering;
 
 /// What an operator on two operands gives. `None` where there is no such operator on their types.
-pub(crate) fn binary<'t>(op: Op, left: Folded<'t>, right: Folded<'t>) -> Option<Folded<'t>> {
+pub(crate) fn binary(op: Op, left: Folded, right: Folded) -> Option<Folded> {
     match (left, right) {
         (Folded::Int(left), Folded::Int(right)) => of_ints(op, left, right),
         (Folded::Bool(left), Folded::Bool(right)) => of_bools(op, left, right),
@@ -16,7 +16,7 @@ pub(crate) fn binary<'t>(op: Op, left: Folded<'t>, right: Folded<'t>) -> Option<
 }
 
 /// What an operator on one operand gives.
-pub(crate) fn unary(op: Op, of: Folded<'_>) -> Option<Folded<'_>> {
+pub(crate) fn unary(op: Op, of: Folded) -> Option<Folded> {
     match (op, of) {
         (Op::Negate, Folded::Int(value)) => Some(Folded::Int(negated(value))),
         (Op::Not, Folded::Bool(value)) => Some(Folded::Bool(inverted(value))),
@@ -24,7 +24,7 @@ pub(crate) fn unary(op: Op, of: Folded<'_>) -> Option<Folded<'_>> {
     }
 }
 
-fn of_ints<'t>(op: Op, left: Result<i32, Lack>, right: Result<i32, Lack>) -> Option<Folded<'t>> {
+fn of_ints(op: Op, left: Result<i32, Lack>, right: Result<i32, Lack>) -> Option<Folded> {
     match op {
         Op::Plus | Op::Minus | Op::Times | Op::Div | Op::Mod => {
             Some(Folded::Int(arithmetic(op, left, right)))
@@ -33,7 +33,7 @@ fn of_ints<'t>(op: Op, left: Result<i32, Lack>, right: Result<i32, Lack>) -> Opt
     }
 }
 
-fn of_bools<'t>(op: Op, left: Result<bool, Lack>, right: Result<bool, Lack>) -> Option<Folded<'t>> {
+fn of_bools(op: Op, left: Result<bool, Lack>, right: Result<bool, Lack>) -> Option<Folded> {
     match op {
         Op::And => Some(Folded::Bool(and(left, right))),
         Op::Or => Some(Folded::Bool(or(left, right))),
@@ -91,7 +91,7 @@ fn order<T: Copy + Ord>(left: Result<T, Lack>, right: Result<T, Lack>) -> Result
 }
 
 /// What a comparison of operands that compare so gives. `None` where the operator is none.
-fn compared<'t>(op: Op, order: Result<Ordering, Lack>) -> Option<Folded<'t>> {
+fn compared(op: Op, order: Result<Ordering, Lack>) -> Option<Folded> {
     if !matches!(op, Op::Eq | Op::Neq | Op::Lt | Op::Leq | Op::Gt | Op::Geq) {
         return None;
     }

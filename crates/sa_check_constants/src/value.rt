@@ -8,5 +8,6 @@ pub enum ConstValue {
     Int(i32),
     Bool(bool),
     Char(u8),
-    Text(Name),
+    /// A text, with its number among those of the program.
+    Text(u32, Name),
 }

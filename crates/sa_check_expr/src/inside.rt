@@ -16,7 +16,7 @@ type Inside<T> = Result<T, FrontFault>;
 /// A form that holds no expressions. The others are no such form.
 pub(crate) fn without_inside(
     context: Context<'_>,
-    built: &Built,
+    built: &mut Built,
     e: &Expr,
     expected: Expected,
 ) -> Result<Typed, FrontFault> {
@@ -24,7 +24,7 @@ pub(crate) fn without_inside(
         Expr::Int(value, _) => Ok(int(*value)?),
         Expr::Bool(value, _) => Ok(truth(*value)),
         Expr::Char(value, _) => Ok(character(*value)),
-        Expr::Text(value, _) => Ok(text(context.view.alloc, value)?),
+        Expr::Text(value, _) => Ok(text(context.view.alloc, &mut built.texts, value)?),
         Expr::Me(_) => Ok(me(context.view)),
         Expr::Void(pos) => checked(context.view, built, Synthesised::Void(*pos), expected),
         Expr::Exception(pos) => exception(context.place, *pos),

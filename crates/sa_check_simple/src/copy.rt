@@ -11,7 +11,7 @@ pub(crate) fn copy(alloc: Global, e: &ExprCore) -> Result<ExprCore, AllocError> 
         ExprCore::Int(value) => Ok(ExprCore::Int(*value)),
         ExprCore::Bool(value) => Ok(ExprCore::Bool(*value)),
         ExprCore::Char(value) => Ok(ExprCore::Char(*value)),
-        ExprCore::Text(text) => Ok(ExprCore::Text(text.copy(alloc)?)),
+        ExprCore::Text(number, text) => Ok(ExprCore::Text(*number, text.copy(alloc)?)),
         ExprCore::VoidOf(ty) => Ok(ExprCore::VoidOf(*ty)),
         ExprCore::Me => Ok(ExprCore::Me),
         ExprCore::Var(number) => Ok(ExprCore::Var(*number)),

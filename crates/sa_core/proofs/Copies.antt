@@ -36,10 +36,10 @@ unfolding expr_of arg_of
 expr_of-Char byte =
     ap expr_of (sym (e.rolls-Char byte)) ∙ fold-roll-ExprCore Arg Expr arg_level expr_level (ExprCore-F.Char byte)
 
-pub expr_of-Text : (text : List ℕ) → expr_of (e.Text text) ≡ Text text
+pub expr_of-Text : (number : ℕ) (text : List ℕ) → expr_of (e.Text number text) ≡ Text text
 unfolding expr_of arg_of
-expr_of-Text text =
-    ap expr_of (sym (e.rolls-Text text)) ∙ fold-roll-ExprCore Arg Expr arg_level expr_level (ExprCore-F.Text text)
+expr_of-Text number text =
+    ap expr_of (sym (e.rolls-Text number text)) ∙ fold-roll-ExprCore Arg Expr arg_level expr_level (ExprCore-F.Text number text)
 
 pub expr_of-VoidOf : (ty : ℕ) → expr_of (e.VoidOf ty) ≡ VoidOf ty
 unfolding expr_of arg_of

@@ -29,7 +29,7 @@ abbrev pub expr_level : ExprCore-F Arg Expr → Expr
 expr_level (ExprCore-F.Int value) = Int value
 expr_level (ExprCore-F.Bool value) = Truth value
 expr_level (ExprCore-F.Char byte) = Char byte
-expr_level (ExprCore-F.Text text) = Text text
+expr_level (ExprCore-F.Text number text) = Text text
 expr_level (ExprCore-F.VoidOf ty) = VoidOf ty
 expr_level ExprCore-F.Me = Me
 expr_level (ExprCore-F.Var var) = Var var

@@ -64,7 +64,7 @@ fn count_expr(count: u32, expr: &ExprCore) -> u32
         ExprCore::Int(_)
         | ExprCore::Bool(_)
         | ExprCore::Char(_)
-        | ExprCore::Text(_)
+        | ExprCore::Text(_, _)
         | ExprCore::VoidOf(_)
         | ExprCore::Me
         | ExprCore::Var(_)

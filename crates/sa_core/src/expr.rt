@@ -22,7 +22,8 @@ pub enum ExprCore {
     Int(i32),
     Bool(bool),
     Char(u8),
-    Text(Name),
+    /// A text, with its number: two texts with one number are the same.
+    Text(u32, Name),
     /// The void value of a type.
     VoidOf(u32),
     /// `self`

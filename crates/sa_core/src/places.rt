@@ -86,7 +86,7 @@ fn add_expr(found: &mut Items<Pos>, expr: &ExprCore) -> Result<(), NoMemory>
         ExprCore::Int(_)
         | ExprCore::Bool(_)
         | ExprCore::Char(_)
-        | ExprCore::Text(_)
+        | ExprCore::Text(_, _)
         | ExprCore::VoidOf(_)
         | ExprCore::Me
         | ExprCore::Var(_)

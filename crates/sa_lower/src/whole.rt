@@ -4,7 +4,7 @@ use crate::features::feature_bodies;
 use crate::run::run_body;
 use crate::signatures::type_numbers;
 use crate::targets::targets;
-use indexmap::IndexSet;
+use indexmap::IndexMap;
 use sa_core::{Core, SharedCore, TypeInfo};
 use sa_flat::{FlatProgram, Layout};
 use sa_lower_draft::{Draft, Tables};
@@ -67,10 +67,10 @@ fn empty(alloc: Global, positions: Items<Pos>) -> FlatProgram {
     }
 }
 
-/// The texts of a program, in the order of their numbers.
-fn in_order(alloc: Global, set: IndexSet<Name>) -> Result<Items<Name>, NoMemory> {
+/// The texts of a program, in the order of their places.
+fn in_order(alloc: Global, by_number: IndexMap<u32, Name>) -> Result<Items<Name>, NoMemory> {
     let mut texts = Items::new(alloc);
-    for text in set {
+    for (_, text) in by_number {
         texts.push(text)?;
     }
     Ok(texts)

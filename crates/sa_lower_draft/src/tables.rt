@@ -1,7 +1,7 @@
 //! The tables of the program that all bodies share. Texts and binds are added while bodies are filled, and none is taken away, so
 //! that a number names the same one to the end; positions and types are there from the beginning.
 
-use indexmap::{IndexMap, IndexSet};
+use indexmap::IndexMap;
 use sa_flat::{BindEntry, Fail, Raised};
 use sa_tree::{Name, NoMemory, Pos, Ty, held};
 use sqlite_items::Items;
@@ -17,8 +17,8 @@ struct Spot {
 /// The tables of the program.
 #[derive(Drop)]
 pub struct Tables {
-    /// The different texts so far.
-    pub texts: IndexSet<Name>,
+    /// The different texts so far, by their numbers in the typed program.
+    pub texts: IndexMap<u32, Name>,
     /// What the binds so far make.
     pub binds: Items<BindEntry>,
     /// The first place of each position in the program's positions, with its line.
@@ -36,19 +36,19 @@ impl Tables {
         types: IndexMap<Ty, u32>,
     ) -> Result<Tables, NoMemory> {
         Ok(Tables {
-            texts: IndexSet::new(alloc),
+            texts: IndexMap::new(alloc),
             binds: Items::new(alloc),
             spots: spots(alloc, positions, lines)?,
             types,
         })
     }
 
-    /// The number of a text, which is added where it is new.
-    pub fn text(&mut self, alloc: Global, text: &Name) -> Result<u32, NoMemory> {
-        let at = match self.texts.get_index_of(text) {
+    /// The place of a text, which is added where its number is new.
+    pub fn text(&mut self, alloc: Global, number: u32, text: &Name) -> Result<u32, NoMemory> {
+        let at = match self.texts.get_index_of(&number) {
             Some(at) => at,
             None => {
-                let (at, _) = self.texts.insert_full(text.copy(alloc)?)?;
+                let (at, _) = self.texts.insert_full(number, text.copy(alloc)?)?;
                 at
             }
         };

@@ -19,7 +19,7 @@ pub(crate) fn without_parts(
         ExprCore::Bool(value) => constant(&mut draft.body, FlatConst::Bool(*value)),
         ExprCore::Char(value) => constant(&mut draft.body, FlatConst::Char(*value)),
         ExprCore::VoidOf(ty) => constant(&mut draft.body, FlatConst::Void(*ty)),
-        ExprCore::Text(value) => text(alloc, draft, value),
+        ExprCore::Text(number, value) => text(alloc, draft, *number, value),
         ExprCore::Me => me(around, &mut draft.body),
         ExprCore::Var(var) => variable(around, &mut draft.body, *var),
         ExprCore::Exception => exception(around),
@@ -35,10 +35,10 @@ fn constant(body: &mut OpenBody, value: FlatConst) -> Result<u32, NoMemory> {
     Ok(to)
 }
 
-/// A text.
-fn text(alloc: Global, draft: &mut Draft, text: &Name) -> Result<u32, NoMemory> {
-    let number = draft.tables.text(alloc, text)?;
-    constant(&mut draft.body, FlatConst::Text(number))
+/// A text, with its number in the typed program.
+fn text(alloc: Global, draft: &mut Draft, number: u32, text: &Name) -> Result<u32, NoMemory> {
+    let place = draft.tables.text(alloc, number, text)?;
+    constant(&mut draft.body, FlatConst::Text(place))
 }
 
 /// `self`, which in an initialiser is the void value of the class.

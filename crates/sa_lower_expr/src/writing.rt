@@ -29,7 +29,7 @@ fn writes(e: &ExprCore) -> bool {
         ExprCore::Int(_)
         | ExprCore::Bool(_)
         | ExprCore::Char(_)
-        | ExprCore::Text(_)
+        | ExprCore::Text(_, _)
         | ExprCore::VoidOf(_)
         | ExprCore::Me
         | ExprCore::Var(_)

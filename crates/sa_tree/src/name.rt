@@ -1,4 +1,5 @@
-//! A name or a text of a source: its bytes, which need be no UTF-8. Names are compared and hashed by their bytes.
+//! A name or a text of a source: its bytes, which need be no UTF-8. Names are compared and hashed by their bytes. A name is
+//! copied without them, so that neither a long text nor a long name costs more than once, however often a program uses it.
 
 ghost use Rattle.std.specs.Prelude.{◌≡◌, ◌↔◌, IfOk, IsTrue, Some, nat_eq, refl};
 ghost use Rattle.std.specs.Cmp.Lexicographic.{pointwise, slice_cmp};
@@ -11,11 +12,12 @@ use std::alloc::{AllocError, Global};
 use std::cmp::Ordering;
 use std::hash::{Hash, Hasher};
 use std::marker::Model;
+use std::rc::Rc;
 
-/// A name as its token spells it, `$` and `!` included, or the bytes that a literal stands for.
+/// A name as its token spells it, `$` and `!` included, or the bytes that a literal stands for. Copies share the bytes.
 #[derive(Debug, Drop)]
 pub struct Name {
-    bytes: Vec<u8>,
+    bytes: Rc<Vec<u8>>,
 }
 
 impl Model for Name {
@@ -23,7 +25,7 @@ impl Model for Name {
 
     ghost Value = { List ℕ };
 
-    ghost view = { λ n. n.bytes.items };
+    ghost view = { λ n. n.bytes.value.items };
 }
 
 impl Name {
@@ -32,21 +34,25 @@ impl Name {
         ensures { IfOk result (λ name. name ≡ bytes.now) }
     {
         let bytes = Vec::from_slice(alloc, bytes)?;
-        Ok(Name { bytes })
+        Ok(Name {
+            bytes: Rc::new(alloc, bytes)?,
+        })
     }
 
     /// The bytes of the name.
     pub fn as_slice(&self) -> &[u8]
         ensures { result.now ≡ self.now }
     {
-        self.bytes.as_slice()
+        self.bytes.as_ref().as_slice()
     }
 
-    /// The same name once more. It fails only where memory runs out.
-    pub fn copy(&self, alloc: Global) -> Result<Name, AllocError>
+    /// The same name once more, with the same bytes in memory. It fails where copies can't be counted any more.
+    pub fn copy(&self, _alloc: Global) -> Result<Name, AllocError>
         ensures { IfOk result (λ name. name ≡ self.now) }
     {
-        Name::from_slice(alloc, self.as_slice())
+        Ok(Name {
+            bytes: self.bytes.clone()?,
+        })
     }
 }
 

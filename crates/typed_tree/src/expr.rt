@@ -132,7 +132,7 @@ impl Writer {
                 self.open("Char")?;
                 self.number(u32::from(*byte))?;
             }
-            ExprCore::Text(text) => {
+            ExprCore::Text(_, text) => {
                 self.open("Text")?;
                 self.bytes(text.as_slice())?;
             }
