@@ -1,5 +1,5 @@
 #!/usr/bin/env python3
-"""fuzz.py PROGRAM [SECONDS] [--count N] [--seed N] [--sources | --modules] [--jobs N] [--tree TREE] [--keep FOLDER]
+"""fuzz.py PROGRAM [SECONDS] [--count N] [--seed N] [--sources | --modules] [--every N] [--jobs N] [--tree TREE] [--keep FOLDER]
 fuzz.py PROGRAM --again FILE.. [--tree TREE]
 
 Makes sources and modules without end, for so many seconds or N of them, and judges what PROGRAM answers by what the pages promise
@@ -11,9 +11,10 @@ of every input: verdicts.py has the list.
   PROGRAM builds of the table's programs.
 
 The seed, which is printed at the start, and the number of an input are all that it is made of. What breaks a promise is told, and
-kept in FOLDER, as it was and made smaller (shrinking.py), with what to type to see it again. N jobs work side by side, one a
-processor without --jobs. TREE is the program `typed_tree`; where it is given, programs are run by the written meaning too."""
+kept in FOLDER, as it was and made smaller (shrinking.py), with what to type to see it again. One of N inputs, of 8 without --every,
+is judged in all ways, and the others in those that take few calls. N jobs work side by side, one a processor without --jobs. TREE is the program `typed_tree`; where it is given, programs are run by the written meaning too."""
 import argparse
+import collections
 import concurrent.futures
 import dataclasses
 import functools
@@ -42,7 +43,9 @@ TOP = os.path.join(os.path.dirname(os.path.abspath(__file__)), '..')
 KEPT = os.path.join(TOP, 'out', 'fuzz')
 LONGEST = 4000      # bytes of a source that is changed
 BUILT = 60          # programs of the table whose modules are changed
-BATCH = 20          # inputs that one process of V8 judges
+POOL = 500          # random programs that are changed
+BATCH = 20          # inputs that are judged before they are told
+EVERY = 8           # of so many inputs one is judged in all ways
 SOURCES, MODULES = 'sa', 'wasm'
 
 
@@ -82,13 +85,14 @@ def known_modules(program):
     return made
 
 
-def random_program(rng):
-    return random_programs.program(rng.randrange(1 << 32)).encode()
+@functools.lru_cache(maxsize=POOL)
+def random_program(number):
+    return random_programs.program(number).encode()
 
 
 def a_source(rng):
     """A source that may be changed."""
-    return random_program(rng) if rng.random() < 0.15 else rng.choice(known_sources())
+    return random_program(rng.randrange(POOL)) if rng.random() < 0.15 else rng.choice(known_sources())
 
 
 def a_module(rng, program):
@@ -102,7 +106,7 @@ def make_source(rng, _program):
     if way < 0.2:
         return Input('sentence', SOURCES, sentences.sentence(rng))
     if way < 0.35:
-        return Input('typed', SOURCES, random_program(rng))
+        return Input('typed', SOURCES, random_programs.program(rng.randrange(1 << 32)).encode())
     return Input('changed', SOURCES, mutants.changed_source(rng, a_source(rng), a_source(rng)))
 
 
@@ -121,29 +125,24 @@ def made(program, seed, number, ways):
 
 # ---- judging
 
-def asked(program, tree, one):
-    """What V8 is asked of an input, or what is wrong with it."""
+def judged(host, tree, one):
+    """What is wrong with an input, or None."""
     try:
         if one.ending == SOURCES:
-            return verdicts.of_source(program, tree, one.content, one.kind == 'typed')
-        return verdicts.of_module(program, one.content, one.kind == 'valid')
+            asked = verdicts.of_source(host, tree, one.content, one.kind == 'typed')
+        else:
+            asked = verdicts.of_module(host, one.content, one.kind == 'valid')
     except verdicts.Breach as breach:
         return breach.wrong
     except subprocess.TimeoutExpired as late:
         return Wrong('an answer comes in time', str(late))
+    return asked and verdicts.compared_with_v8(asked)
 
 
-def judged(program, tree, inputs):
-    """What is wrong with each of the inputs, or None."""
-    first = [asked(program, tree, one) for one in inputs]
-    of_v8 = verdicts.compared_with_v8([None if isinstance(one, Wrong) else one for one in first])
-    return [one if isinstance(one, Wrong) else other for one, other in zip(first, of_v8)]
-
-
-def smaller(program, tree, one, wrong):
+def smaller(host, tree, one, wrong):
     """A smaller input that breaks the same promise. What is made to be well typed or valid is small as it is."""
     def shows(content):
-        found = judged(program, tree, [one.with_content(content)])[0]
+        found = judged(host, tree, one.with_content(content))
         return found is not None and found.promise == wrong.promise
 
     if one.kind in ('typed', 'valid') and not shows(one.content):
@@ -161,14 +160,18 @@ class Found:
     wrong: Wrong
 
 
-def batch(program, tree, seed, ways, numbers):
-    """How many inputs of each kind were judged, and those that break a promise."""
-    inputs, counts = [made(program, seed, number, ways) for number in numbers], {}
-    for one in inputs:
-        counts[one.kind, one.ending] = counts.get((one.kind, one.ending), 0) + 1
-    wrongs = judged(program, tree, inputs)
-    return counts, [Found(number, one, smaller(program, tree, dataclasses.replace(one, kind='changed'), wrong), wrong)
-                    for number, one, wrong in zip(numbers, inputs, wrongs) if wrong is not None]
+def batch(program, tree, seed, ways, every, numbers):
+    """How many inputs of each kind were judged, and those that break a promise. One of so many is judged in all ways."""
+    counts, founds = collections.Counter(), []
+    with report.folder_with({}) as folder:
+        for number in numbers:
+            one = made(program, seed, number, ways)
+            host = verdicts.Host(program, folder, number // len(ways) % every == 0)
+            wrong = judged(host, tree, one)
+            counts[one.kind, one.ending] += 1
+            if wrong is not None:
+                founds.append(Found(number, one, smaller(host, tree, dataclasses.replace(one, kind='changed'), wrong), wrong))
+    return counts, founds
 
 
 # ---- telling
@@ -222,9 +225,9 @@ def batches(count, until):
         yield range(first, end)
 
 
-def run_batches(fuzzing, ways, jobs, count, until):
+def run_batches(fuzzing, ways, every, jobs, count, until):
     """Judges batches side by side, and waits for each that was begun."""
-    work = functools.partial(batch, fuzzing.program, fuzzing.tree, fuzzing.seed, ways)
+    work = functools.partial(batch, fuzzing.program, fuzzing.tree, fuzzing.seed, ways, every)
     left = batches(count, until)
     with concurrent.futures.ProcessPoolExecutor(jobs) as pool:
         waiting = {pool.submit(work, numbers) for numbers in itertools.islice(left, jobs)}
@@ -235,13 +238,14 @@ def run_batches(fuzzing, ways, jobs, count, until):
                 fuzzing.take(*future.result())
 
 
-def try_all(program, told, count=None, seconds=None, seed=1, ways=(make_source, make_module), jobs=None, folder=KEPT, tree=None):
-    """Judges so many inputs, or for so many seconds."""
+def try_all(program, told, count=None, seconds=None, seed=1, ways=(make_source, make_module), every=1, jobs=None, folder=KEPT,
+            tree=None):
+    """Judges so many inputs, or for so many seconds, one of so many in all ways."""
     judges.tell_missing(told)
     told.part('sources and modules without end, seed %d' % seed, count or 0)
     fuzzing = Fuzzing(told, program, seed, folder, tree)
     until = None if seconds is None else time.monotonic() + seconds
-    run_batches(fuzzing, ways, jobs or report.processors(), count, until)
+    run_batches(fuzzing, ways, every, jobs or report.processors(), count, until)
     fuzzing.close()
 
 
@@ -249,7 +253,9 @@ def again(program, tree, path):
     """What is wrong with the input in a file, or None."""
     with open(path, 'rb') as file:
         content = file.read()
-    return judged(program, tree, [Input('changed', MODULES if path.endswith('.wasm') else SOURCES, content)])[0]
+    with report.folder_with({}) as folder:
+        one = Input('changed', MODULES if path.endswith('.wasm') else SOURCES, content)
+        return judged(verdicts.Host(program, folder, True), tree, one)
 
 
 def given_words():
@@ -259,6 +265,7 @@ def given_words():
     words.add_argument('--count', type=int)
     words.add_argument('--seed', type=int)
     words.add_argument('--jobs', type=int)
+    words.add_argument('--every', type=int, default=EVERY)
     words.add_argument('--tree')
     words.add_argument('--keep', default=KEPT)
     words.add_argument('--again', nargs='+')
@@ -281,7 +288,7 @@ def main():
     ways = [make_source] * (not given.modules) + [make_module] * (not given.sources)
     seed = random.SystemRandom().randrange(1 << 32) if given.seed is None else given.seed
     told.line('seed %d' % seed)
-    try_all(program, told, given.count, given.seconds, seed, ways, given.jobs, given.keep, tree)
+    try_all(program, told, given.count, given.seconds, seed, ways, given.every, given.jobs, given.keep, tree)
     return told.close()
 
 

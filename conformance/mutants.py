@@ -1,4 +1,6 @@
 """Makes changed sources and changed modules: texts and bytes that differ in a few places from those that they are made of."""
+import functools
+
 import source_reader
 from source_reader import GAP, Refused
 
@@ -13,11 +15,17 @@ while!(true) until!(false) break! 0 1 2147483647 2147483648 'a' "" x f g #OUT'''
 
 def tokens_of(text):
     """The source as tokens, each with the blanks before it. A byte that begins no token is one of its own."""
+    return list(tokens_in(text))
+
+
+@functools.lru_cache(maxsize=10_000)
+def tokens_in(text):
+    """The same, kept for a source that is asked for again."""
     pieces, at, begun = [], 0, 0
     while True:
         at = GAP.match(text, begun).end()
         if at == len(text):
-            return pieces + ([text[begun:]] if begun < at else [])
+            return tuple(pieces + ([text[begun:]] if begun < at else []))
         try:
             end = source_reader.token_at(text, at).end
         except Refused:

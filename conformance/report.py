@@ -5,7 +5,9 @@ import collections
 import concurrent.futures
 import contextlib
 import dataclasses
+import functools
 import os
+import resource
 import subprocess
 import sys
 import tempfile
@@ -32,6 +34,30 @@ def run(words, folder, seconds=SECONDS, **how):
     how.setdefault('stderr', subprocess.PIPE)
     ended = subprocess.run(words, cwd=folder, timeout=seconds, **how)
     return Left(ended.stdout or b'', ended.stderr or b'', ended.returncode)
+
+
+def run_limited(words, folder, limits, given, seconds=SECONDS):
+    """The same with an input, within limits of the system, which are told by their numbers. Where the system allows it they are set
+    from outside: to set them in between costs more than most runs take."""
+    if not hasattr(resource, 'prlimit'):
+        return run(words, folder, seconds, input=given, preexec_fn=functools.partial(limit, 0, limits))
+    with subprocess.Popen(words, cwd=folder, stdin=subprocess.PIPE, stdout=subprocess.PIPE, stderr=subprocess.PIPE) as process:
+        limit(process.pid, limits)
+        try:
+            output, lines = process.communicate(given, seconds)
+        except subprocess.TimeoutExpired:
+            process.kill()
+            raise
+    return Left(output, lines, process.returncode)
+
+
+def limit(process, limits):
+    """Limits a process by its number, or this one by 0."""
+    for which, most in limits.items():
+        if process:
+            resource.prlimit(process, which, most)
+        else:
+            resource.setrlimit(which, most)
 
 
 @contextlib.contextmanager

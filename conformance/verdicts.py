@@ -1,20 +1,22 @@
 """Judges what the program answers for a source or a module that nobody has looked at, by what the pages promise of every one.
 
 Of any input: each call ends by itself within 10 seconds of a processor, in one of the ways of the tables of docs/LANGUAGE.md and
-docs/WEBASSEMBLY.md, and a second call answers alike. The steps are within the fuel; with as many steps as were made the answer is
-the same, and with one less the fuel is spent.
+docs/WEBASSEMBLY.md. The steps are within the fuel.
 
 Of a source: it is refused by E01 to E08 exactly where source_reader.py says so, a line above it moves the line of a refusal by one
-and changes nothing else, `check`, `build` and `run` agree, and the module that was built does in `exec` what `run` does; V8 and
-wabt take it, and V8 runs it alike. Where the program `typed_tree` is given, its tree has the same end by the written meaning.
+and changes nothing else, `check`, `build` and `run` agree, and the module that was built does in `exec` what `run` does; V8 takes
+it and runs it alike. Where the program `typed_tree` is given, its tree has the same end by the written meaning.
 
-Of a module: it is malformed exactly where reader.py says so; a custom section behind it changes nothing; V8 and wabt judge its
-validity alike, and V8 runs it alike."""
+Of a module: it is malformed exactly where reader.py says so; a custom section behind it changes nothing; V8 judges its validity
+alike and runs it alike.
+
+Of an input that is judged in all ways also: a second call answers alike; with as many steps as were made the answer is the same,
+and with one less the fuel is spent; wabt judges the module's validity alike."""
 import dataclasses
 import os
 import re
 import resource
-import subprocess
+import zlib
 
 import binary
 import judges
@@ -30,16 +32,19 @@ from report import Left
 PAGE = os.path.join(os.path.dirname(os.path.abspath(__file__)), '..', 'docs', 'LANGUAGE.md')
 SECONDS = 10                # of a processor
 MEMORY = 2 << 30            # bytes of addresses
+LIMITS = {resource.RLIMIT_CPU: (SECONDS, SECONDS + 2), resource.RLIMIT_AS: (MEMORY, MEMORY)}
 FUEL = 2_000_000
 GIVEN = b'some input\n\0\xff 12'
 OLD = b'what the file held'
-STACK = programs.STACK
+V8 = judges.V8(programs.STACK)  # a process of it for each that judges
 MOST_PAGES = 8192           # a module that may have more memory than this many pages may be answered by want of memory
 ACCEPTED = Left(b'accepted\n')
 REFUSAL = re.compile(rb'(f\.sa|prelude):([1-9][0-9]*): (E[0-9]{2}): ([^\n]*)\n')
 FAULT = re.compile(rb'(f\.sa|prelude):([1-9][0-9]*): fault: ([^\n]*)\n')
 SPENT = b'fuel spent\n'
 NO_MEMORY = (b'out of memory\n', 125)
+BUILDING = ('build', '-o', 'm', '--room', '64', 'f.sa')
+REFUSING = (BUILDING, ('run', '--stats', 'f.sa'))
 READ_FIRST = ('E01', 'E02', 'E03', 'E04', 'E05', 'E06', 'E07', 'E08', 'E50')
 
 
@@ -86,28 +91,23 @@ def texts_of_codes():
 CODES = texts_of_codes()
 
 
-def limited():
-    """Limits the process that is about to run."""
-    resource.setrlimit(resource.RLIMIT_CPU, (SECONDS, SECONDS + 2))
-    resource.setrlimit(resource.RLIMIT_AS, (MEMORY, MEMORY))
-
-
 class Host:
-    """The program, and a folder in which it runs."""
+    """The program, and a folder in which it runs. `is_thorough` says whether an input is judged in all ways, or only in those that
+    take few calls."""
 
-    def __init__(self, program, folder):
-        self.program, self.folder = program, folder
+    def __init__(self, program, folder, is_thorough):
+        self.program, self.folder, self.is_thorough = program, folder, is_thorough
 
     def call(self, *words):
         """What the program left, which has ended by itself."""
-        left = report.run([self.program, *words], self.folder, judges.BUSY * SECONDS, input=GIVEN, preexec_fn=limited)
+        left = report.run_limited([self.program, *words], self.folder, LIMITS, GIVEN, judges.BUSY * SECONDS)
         require(left.status >= 0, 'it ends by itself', 'signal %d at %s' % (-left.status, ' '.join(words)))
         return left
 
     def twice(self, *words):
         """The same, where a second call leaves the same."""
         left = self.call(*words)
-        require(left == self.call(*words), 'a second call answers alike', ' '.join(words))
+        require(not self.is_thorough or left == self.call(*words), 'a second call answers alike', ' '.join(words))
         return left
 
     def put(self, name, content):
@@ -147,15 +147,17 @@ def as_read(text, refused):
     require(own == read, 'tokens, levels and grammar are as the page tells', 'expected %s' % (read,), 'came %s' % (refused,))
 
 
-def with_a_line_above(host, text, refused):
-    """A comment above the text moves what is told of it by a line. A program without MAIN is refused at the start of the file."""
+def with_a_line_above(host, text, refused, *words):
+    """A comment above the text moves what is told of it by a line, by the command of these words too. A program without MAIN is
+    refused at the start of the file."""
     host.put('f.sa', b'-- above\n' + text)
-    moved = refusal_of(b'\n' + text, host.call('check', 'f.sa'))
+    moved = refusal_of(b'\n' + text, host.call(*words))
     host.put('f.sa', text)
     wanted = refused
     if refused and refused[0] == b'f.sa' and not (refused[2] == 'E24' and moved == refused):
         wanted = (refused[0], refused[1] + 1, refused[2])
-    require(moved == wanted, 'a comment above moves a refusal by a line', 'expected %s' % (wanted,), 'came %s' % (moved,))
+    require(moved == wanted, '%s moves a refusal by a line with a comment above' % words[0], 'expected %s' % (wanted,),
+            'came %s' % (moved,))
 
 
 def is_end(text, ran):
@@ -194,16 +196,21 @@ def as_fueled(call, ended, steps):
                 and ended.output.startswith(less.output), 'a step less is too few', steps, less.line, less.stats)
 
 
-def refused_alike(host, checked):
-    """`build` and `run` refuse as `check` does, and the file of `build -o` keeps what it held."""
-    require(host.call('build', '-o', 'm', '--room', '64', 'f.sa') == checked, 'build refuses as check does', checked.lines)
+def refused_alike(host, text, refused, checked):
+    """`build` and `run` refuse as `check` does, and the file of `build -o` keeps what it held. One of the two, where not all is
+    judged, with a comment above the text."""
+    if host.is_thorough:
+        with_a_line_above(host, text, refused, 'check', 'f.sa')
+        for words in REFUSING:
+            require(host.call(*words) == checked, '%s refuses as check does' % words[0], checked.lines)
+    else:
+        with_a_line_above(host, text, refused, *REFUSING[zlib.crc32(text) % len(REFUSING)])
     require(host.content('m') == OLD, 'a refused build leaves the file', host.content('m')[:40])
-    require(host.call('run', '--stats', 'f.sa') == checked, 'run refuses as check does', checked.lines)
 
 
 def compiled(host, text):
     """The module of an accepted source and its run, where the program's ways agree."""
-    built = host.call('build', '-o', 'm', '--room', '64', 'f.sa')
+    built = host.call(*BUILDING)
     require(built == Left(), 'build accepts as check does', built)
     module = host.content('m')
     ran = programs.Ended(host.twice('run', '--stats', '--room', '64', '--fuel', str(FUEL), 'f.sa'))
@@ -212,7 +219,8 @@ def compiled(host, text):
     executed = programs.Ended(host.call('exec', '--stats', '--fuel', str(FUEL), 'm'))
     wrong = programs.difference(ran, executed)
     require(wrong is None, 'exec does what run does', wrong)
-    as_fueled(lambda fuel: programs.Ended(host.call('run', '--stats', '--room', '64', '--fuel', str(fuel), 'f.sa')), ran, steps)
+    if host.is_thorough:
+        as_fueled(lambda fuel: programs.Ended(host.call('run', '--stats', '--room', '64', '--fuel', str(fuel), 'f.sa')), ran, steps)
     return module, ran, executed
 
 
@@ -223,22 +231,24 @@ def as_meant(program, tree, text, ran):
         require(found.wrong is None, 'a run ends as the written meaning has it', found.wrong)
 
 
-def of_source(program, tree, text, must_be_accepted):
+def of_source(host, tree, text, must_be_accepted):
     """What V8 is asked of a source's module, or None where it is refused. What is wrong comes as a Breach."""
-    with report.folder_with({'f.sa': text, 'm': OLD}) as folder:
-        host = Host(program, folder)
-        checked = host.twice('check', 'f.sa')
-        refused = refusal_of(text, checked)
-        require(not (refused and must_be_accepted), 'a program that is well typed is accepted', checked.lines)
+    host.put('f.sa', text)
+    host.put('m', OLD)
+    checked = host.twice('check', 'f.sa')
+    refused = refusal_of(text, checked)
+    require(not (refused and must_be_accepted), 'a program that is well typed is accepted', checked.lines)
+    if host.is_thorough or not must_be_accepted:
         as_read(text, refused)
-        with_a_line_above(host, text, refused)
-        if refused:
-            refused_alike(host, checked)
-            return None
-        module, ran, executed = compiled(host, text)
-        as_meant(program, tree, text, ran)
-        require(not judges.has_wabt() or judges.wabt_accepts(folder), 'wabt takes the module of a program', len(module))
-        return Asked(module, ran.line != SPENT, judges.Run(judges.end_of(executed.line, executed.status), executed.output))
+    if refused:
+        refused_alike(host, text, refused, checked)
+        return None
+    if host.is_thorough:
+        with_a_line_above(host, text, refused, 'check', 'f.sa')
+    module, ran, executed = compiled(host, text)
+    as_meant(host.program, tree, text, ran)
+    require(not is_asked_of_wabt(host) or judges.wabt_accepts(host.folder), 'wabt takes the module of a program', len(module))
+    return Asked(module, ran.line != SPENT, judges.Run(judges.end_of(executed.line, executed.status), executed.output))
 
 
 # ---- modules
@@ -286,31 +296,36 @@ def with_a_section_behind(host, module, ended):
     require(same and steps[0] == steps[1], 'a custom section changes nothing', ended.line, other.line)
 
 
-def wabt_agrees(folder, reading, end):
+def is_asked_of_wabt(host):
+    """Whether wabt is asked of a module."""
+    return host.is_thorough and judges.has_wabt()
+
+
+def wabt_agrees(host, reading, end):
     """wabt judges the validity alike, where it is known to judge by the same rules."""
     unended = reading.malformed in (modules.BODY_WITHOUT_END, modules.INITIAL_WITHOUT_END)
-    if not judges.has_wabt() or unended or reading.notes & modules.WABT_JUDGES_OTHERWISE:
+    if not is_asked_of_wabt(host) or unended or reading.notes & modules.WABT_JUDGES_OTHERWISE:
         return
-    accepted = judges.wabt_accepts(folder)
+    accepted = judges.wabt_accepts(host.folder)
     if reading.malformed and reading.later and accepted:
         return
     require(accepted == (end not in modules.REFUSED), 'wabt judges a module alike', end, 'wabt %s' % modules.verdict(accepted))
 
 
-def of_module(program, module, must_be_valid):
+def of_module(host, module, must_be_valid):
     """What V8 is asked of a module. What is wrong comes as a Breach."""
     reading = Reading(module)
-    with report.folder_with({'m': module}) as folder:
-        host = Host(program, folder)
-        ended, end = ended_of(host.twice('exec', '--stats', '--fuel', str(FUEL), 'm'))
-        end_is_told(module, reading, end)
-        require(not must_be_valid or end not in modules.REFUSED, 'a module that is valid is accepted', end)
-        if ended.stats:
-            steps = steps_of(ended, len(module))
+    host.put('m', module)
+    ended, end = ended_of(host.twice('exec', '--stats', '--fuel', str(FUEL), 'm'))
+    end_is_told(module, reading, end)
+    require(not must_be_valid or end not in modules.REFUSED, 'a module that is valid is accepted', end)
+    if ended.stats:
+        steps = steps_of(ended, len(module))
+        if host.is_thorough:
             as_fueled(lambda fuel: programs.Ended(host.call('exec', '--stats', '--fuel', str(fuel), 'm')), ended, steps)
-        if end not in ('malformed', 'want of memory'):
-            with_a_section_behind(host, module, ended)
-        wabt_agrees(folder, reading, end)
+    if end not in ('malformed', 'want of memory'):
+        with_a_section_behind(host, module, ended)
+    wabt_agrees(host, reading, end)
     return Asked(module, end not in ('spent', 'too deep', 'want of memory'), judges.Run(end, ended.output), reading)
 
 
@@ -335,22 +350,11 @@ def v8_difference(asked, valid, run):
     return None if run == asked.wanted else Wrong('V8 runs a module alike', 'here %s; V8 %s' % (asked.wanted, run))
 
 
-def answers_of_v8(every):
-    """What V8 says of each module, or what is wrong where it doesn't answer."""
-    tasks = [(asked.module, GIVEN, asked.run and asked.wanted.end not in modules.REFUSED) for asked in every]
-    try:
-        return judges.v8(tasks, stack=STACK)
-    except (RuntimeError, subprocess.TimeoutExpired):
-        if len(every) > 1:
-            return [answer for asked in every for answer in answers_of_v8([asked])]
-        return [Wrong('V8 judges a module alike', 'it gives no answer')]
-
-
-def compared_with_v8(every):
-    """What is wrong with each by V8, or None, for a list of what V8 is asked, which may be None."""
-    found = [None] * len(every)
-    places = [place for place, asked in enumerate(every) if asked is not None]
-    if places and judges.has_node():
-        for place, answer in zip(places, answers_of_v8([every[place] for place in places])):
-            found[place] = answer if isinstance(answer, Wrong) else v8_difference(every[place], *answer)
-    return found
+def compared_with_v8(asked):
+    """What is wrong with a module by V8, or None."""
+    if not judges.has_node():
+        return None
+    answer = V8.ask(asked.module, GIVEN, asked.run and asked.wanted.end not in modules.REFUSED)
+    if answer is None:
+        return Wrong('V8 judges a module alike', 'it gives no answer')
+    return v8_difference(asked, *answer)
