@@ -11,13 +11,15 @@ NO_MEMORY = [Left(lines=b'out of memory\n', status=125)]
 @dataclasses.dataclass
 class Blowup:
     """A name, the words of the command, the files, as bytes or by what makes them, and the answers that are right. `is_quick` says
-    whether it is answered at once, and `asks_memory` whether a module itself asks for more memory than the bar."""
+    whether it is answered at once. `seconds` of a processor and `mebibytes` are its bar, which is wider where docs/SANDBOX.md names
+    what a module may ask for; one that asks for memory while it runs has none."""
     name: str
     words: str
     files: dict[str, bytes | typing.Callable[[], bytes]]
     wanted: list[Left]
     is_quick: bool = True
-    asks_memory: bool = False
+    seconds: float = 10
+    mebibytes: float | None = 2048
 
     def contents(self):
         """The files as bytes."""

@@ -1,6 +1,8 @@
 """Modules within the limits of the profile that are built to cost time or memory far beyond their size. What each is answered by
 comes from the standard; want of memory is an answer where the module itself asks for more than there is. Large ones are made when
 they are run."""
+import dataclasses
+
 import binary
 from binary import I32, Module, counted, func_type, i32_const, indexed, limits, section, unsigned, vector
 from blowup import NO_MEMORY, Blowup, ended, one_of, printed
@@ -29,8 +31,18 @@ def slow(name, make, *wanted, words='exec m'):
 
 
 def asking(name, module, *wanted):
-    """A module that asks for memory itself: want of it is an answer."""
-    return Blowup(name, 'exec m', {'m': module}, one_of(*wanted, NO_MEMORY), is_quick=False, asks_memory=True)
+    """A module that asks for memory while it runs: want of it is an answer."""
+    return Blowup(name, 'exec m', {'m': module}, one_of(*wanted, NO_MEMORY), is_quick=False, mebibytes=None)
+
+
+def large(name, make, *wanted):
+    """A module of some 60 million instructions of a byte each, which takes 50 bytes for each of them."""
+    return dataclasses.replace(slow(name, make, *wanted), mebibytes=50 * LARGEST / (1 << 20))
+
+
+def zeroing(name, make, *wanted, words):
+    """A run whose calls set 50,000 million locals to 0, each of which takes half a nanosecond or less."""
+    return dataclasses.replace(slow(name, make, *wanted, words=words), seconds=30)
 
 
 def with_main(before=EXPORT, types=None, functions=1, code=None, after=b''):
@@ -48,7 +60,7 @@ def filled(part, around=200):
 
 def decoding():
     """Many entries, and long ones."""
-    yield slow('a body of 67 million instructions that do nothing', lambda: module_of(NOP * (LARGEST - 100)), DONE)
+    yield large('a body of 67 million instructions that do nothing', lambda: module_of(NOP * (LARGEST - 100)), DONE)
     yield slow('a custom section up to the limit', lambda: with_main() + section(0, b'\1x' + bytes(LARGEST - 100)), DONE)
     yield slow('a byte past the limit', lambda: with_main() + section(0, b'\1x' + bytes(LARGEST)), MALFORMED)
     yield slow('20 million custom sections', lambda: with_main() + b'\0\1\0' * filled(b'\0\1\0'), DONE)
@@ -122,7 +134,7 @@ def bodies():
         (i32_const(1) * 1000 + tower + DROP * 1000) * 5000), DONE)
     yield slow('1,001 blocks behind 60 million instructions', lambda: module_of(
         NOP * 60 * MILLION + BLOCK + EMPTY + tower + END), MALFORMED)
-    yield slow('60 million operators that are not reached', lambda: module_of(UNREACHABLE + ADD * 60 * MILLION + DROP), TRAP)
+    yield large('60 million operators that are not reached', lambda: module_of(UNREACHABLE + ADD * 60 * MILLION + DROP), TRAP)
 
 
 def segments():
@@ -178,8 +190,8 @@ def running():
     yield asking('a memory without a maximum that grows page by page', linked(grow, pages=(0,)), DONE)
     million = [(MILLION, I32)]
     yield slow('1,000 calls of a function of a million locals', lambda: linked((CALL + unsigned(1)) * 1000, million), DONE)
-    yield slow('100,000 steps that call a function of a million locals', lambda: linked(loop_of(CALL + unsigned(1)), million), SPENT,
-               words='exec --fuel 100000 m')
+    yield zeroing('100,000 steps that call a function of a million locals', lambda: linked(loop_of(CALL + unsigned(1)), million), SPENT,
+                  words='exec --fuel 100000 m')
     yield asking('a function of a million locals calls itself', linked(CALL + unsigned(2), million), TOO_DEEP)
     yield asking('a function of 5,000 locals calls itself', linked(CALL + unsigned(2), [(5000, I32)]), TOO_DEEP)
     yield slow('100 million steps of a loop', lambda: linked(loop_of(b'')), SPENT, words='exec --fuel 100000000 m')

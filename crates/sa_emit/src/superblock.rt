@@ -139,7 +139,7 @@ fn add_side(
     let inner = spot.further_in()?;
     let mut side = Items::new(alloc);
     add_superblock(alloc, &mut side, inner, yes, depth - 1)?;
-    code.push(Instr::If(None, side, Items::new(alloc)))?;
+    code.push(Instr::conditional(alloc, None, side, Items::new(alloc))?)?;
     Ok(())
 }
 
@@ -268,7 +268,7 @@ fn add_jump_where(
     let inner = spot.around.further_in()?;
     let mut jump = Items::new(alloc);
     add_jump(&mut jump, &inner, target)?;
-    code.push(Instr::If(None, jump, Items::new(alloc)))?;
+    code.push(Instr::conditional(alloc, None, jump, Items::new(alloc))?)?;
     Ok(())
 }
 

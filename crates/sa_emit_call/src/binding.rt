@@ -246,7 +246,7 @@ pub fn add_widen_for(
     add_marked(alloc, &mut widened, &inner, widening, fail)?;
     let mut same = Items::new(alloc);
     add_move(&mut same, &inner, widening.to, widening.from)?;
-    add_if_else(code, widened, same)
+    add_if_else(alloc, code, widened, same)
 }
 
 /// Adds the tests of the type against spans, each joined with the operand before it.

@@ -59,7 +59,7 @@ pub(crate) fn add_enter(
     let mut ended = Items::new(alloc);
     add_ended(alloc, &mut ended, &inner, entering.quit)?;
     add_is_suspended(code)?;
-    add_if_else(code, suspended, ended)
+    add_if_else(alloc, code, suspended, ended)
 }
 
 /// Adds what hands a fault to the caller where the operand isn't 0.

@@ -96,7 +96,7 @@ fn add_outcome(
     let mut ended = Items::new(alloc);
     add_ended(alloc, &mut ended, &inner, site, called)?;
     add_is_suspended(code)?;
-    add_if_else(code, suspended, ended)
+    add_if_else(alloc, code, suspended, ended)
 }
 
 /// Adds what keeps the status that is the operand, and whether it is that of a suspension, as an operand.

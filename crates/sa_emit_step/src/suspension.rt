@@ -47,7 +47,7 @@ pub fn add_iter_prologue(
         Op::Do(I32_EQZ),
     ];
     add_line(code, &line)?;
-    add_if_else(code, start, resumption)
+    add_if_else(alloc, code, start, resumption)
 }
 
 /// Adds what takes up the variables that are kept and the frames of the sites.

@@ -43,7 +43,7 @@ fn add_get_of_value(
     let mut read = Items::new(alloc);
     add_read(&mut read, &inner, plan, place)?;
     add_line(code, &[Op::Get(around.local(plan.recv)), Op::Do(I64_EQZ)])?;
-    code.push(Instr::If(Some(ValTy::I64), void, read))?;
+    code.push(Instr::conditional(alloc, Some(ValTy::I64), void, read)?)?;
     add_line(code, &[Op::Set(around.receiving(plan.value))])
 }
 

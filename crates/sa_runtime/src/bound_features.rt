@@ -156,7 +156,7 @@ fn add_builtin(alloc: Global, to: &mut Items<Instr>, number: u32, ty: u32) -> Re
     add_line(&mut called, &[Call(function), Set(STATUS), Br(1)])?;
     let kind = FIRST_BOUND_BUILTIN.saturating_add(number);
     add_line(to, &[Get(KIND), I32(kind), Do(I32_EQ)])?;
-    to.push(Instr::If(None, called, Items::new(alloc)))?;
+    to.push(Instr::conditional(alloc, None, called, Items::new(alloc))?)?;
     Ok(())
 }
 

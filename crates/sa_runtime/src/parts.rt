@@ -108,7 +108,7 @@ fn add_part(alloc: Global, part: &Part, to: &mut Items<Instr>) -> Result<(), NoM
         }
         Part::If(parts) => {
             let body = instructions(alloc, parts)?;
-            Ok(to.push(Instr::If(None, body, Items::new(alloc)))?)
+            Ok(to.push(Instr::conditional(alloc, None, body, Items::new(alloc))?)?)
         }
     }
 }

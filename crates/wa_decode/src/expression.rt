@@ -1,6 +1,6 @@
 //! Expressions (section 5.4.6) and the instructions that hold others (section 5.4.1).
 
-ghost use Rattle.std.specs.Prelude.{◌<◌, ◌≤◌, ◌↔◌, length, IfOk, IsTrue};
+ghost use Rattle.std.specs.Prelude.{◌≡◌, [], ◌<◌, ◌≤◌, ◌↔◌, length, IfOk, IsTrue};
 ghost use Rattle.wa_syntax.specs.BinaryInstructions.{expr, instr};
 ghost use Rattle.wa_syntax.specs.Formats.{each};
 ghost use Rattle.wa_decode.specs.Places.{EndsIn, ReachesIn};
@@ -12,7 +12,7 @@ use crate::production::Decoded;
 use crate::types::block_type;
 use crate::value::{byte, expect};
 use sqlite_items::Items;
-use std::alloc::Global;
+use std::alloc::{AllocError, Global};
 use wa_syntax::Instr;
 use wa_syntax::opcode::{BLOCK, ELSE, END, IF, LOOP};
 
@@ -39,6 +39,17 @@ fn stops(bytes: &[u8], at: u32) -> bool
     matches!(bytes.get(at as usize), Some(&(END | ELSE)))
 }
 
+/// No instructions yet, with room for one where one begins at a place: many a block holds one alone, and then no memory is taken for
+/// more.
+fn room(alloc: Global, bytes: &[u8], at: u32) -> Result<Items<Instr>, AllocError>
+    ensures { IfOk result (λ instrs. instrs ≡ []) }
+{
+    if stops(bytes, at) {
+        return Ok(Items::new(alloc));
+    }
+    Ok(Items::from_vec(Vec::with_capacity(alloc, 1)?))
+}
+
 /// Instructions up to an `end` or an `else` that is none of theirs. Up to `levels` blocks may be open among them.
 #[cycle(instructions)]
 fn sequence(alloc: Global, bytes: &[u8], at: u32, levels: u32) -> Decoded<Items<Instr>>
@@ -47,7 +58,7 @@ fn sequence(alloc: Global, bytes: &[u8], at: u32, levels: u32) -> Decoded<Items<
     ensures reads { ReadsUpTo (instr levels) bytes.now at result }
     ensures reaches { IfOk result (λ read. ReachesIn bytes.now at read.1) }
 {
-    let mut instrs = Items::new(alloc);
+    let mut instrs = room(alloc, bytes, at)?;
     let mut at = at;
     while !stops(bytes, at) {
         let (instr, next) = instruction(alloc, bytes, at, levels)?;
@@ -89,7 +100,8 @@ fn structured(alloc: Global, opcode: u8, bytes: &[u8], at: u32, levels: u32) -> 
         LOOP => Ok((Instr::Loop(ty, body), expect(bytes, at, END)?)),
         _ => {
             let (otherwise, end) = alternative(alloc, bytes, at, levels - 1)?;
-            Ok((Instr::If(ty, body, otherwise), end))
+            let instr = Instr::conditional(alloc, ty, body, otherwise)?;
+            Ok((instr, end))
         }
     }
 }

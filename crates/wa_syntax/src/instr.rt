@@ -1,7 +1,12 @@
 //! Instructions (section 2.4).
 
+ghost use Rattle.std.specs.Prelude.{◌≡◌, IfOk};
+ghost use Rattle.wa_syntax.specs.declared.instr.Instr.TheVariants as variant;
+
+use crate::arm::Arm;
 use crate::module::ValTy;
 use sqlite_items::Items;
+use std::alloc::{AllocError, Global};
 
 /// An instruction. Blocks hold their instructions and have the type of their result, if they have one. Labels count the
 /// blocks outwards from 0 (2.4.5).
@@ -15,7 +20,7 @@ pub enum Instr {
     /// Instructions whose label is their beginning (2.4.5).
     Loop(Option<ValTy>, Items<Instr>),
     /// What is done where the operand isn't 0, and where it is (2.4.5).
-    If(Option<ValTy>, Items<Instr>, Items<Instr>),
+    If(Option<ValTy>, Arm<Instr>, Arm<Instr>),
     /// A branch to a label (2.4.5).
     Br(u32),
     /// A branch to a label where the operand isn't 0 (2.4.5).
@@ -42,4 +47,20 @@ pub enum Instr {
     I32Const(u32),
     /// A constant of 64 bits (2.4.1).
     I64Const(u64),
+}
+
+impl Instr {
+    /// An `if` of these instructions, where the operand isn't 0, and of those, where it is. It fails only where memory runs out.
+    pub fn conditional(
+        alloc: Global,
+        ty: Option<ValTy>,
+        then: Items<Instr>,
+        otherwise: Items<Instr>,
+    ) -> Result<Instr, AllocError>
+        ensures { IfOk result (λ instr. instr ≡ variant.If ty then otherwise) }
+    {
+        let then = Arm::new(alloc, then)?;
+        let otherwise = Arm::new(alloc, otherwise)?;
+        Ok(Instr::If(ty, then, otherwise))
+    }
 }

@@ -1,6 +1,7 @@
 //! Modules of WebAssembly Core 1.0 in its integer part, as data, and the numbers of the binary format.
 #![tactic(auto)]
 
+mod arm;
 mod instr;
 mod leb128;
 mod locals;
@@ -10,6 +11,7 @@ mod no_memory;
 pub mod opcode;
 mod trap;
 
+pub use arm::Arm;
 pub use instr::Instr;
 pub use leb128::{one_spelling, read_i32, read_i64, read_u32, write_i32, write_i64, write_u32};
 pub use locals::{Locals, Run};

@@ -179,7 +179,7 @@ fn body(alloc: Global, steps: &[Step]) -> Result<Items<Instr>, Fail> {
             }
             Step::End => {
                 if let Some(block) = open.pop() {
-                    body = closed(block, body)?;
+                    body = closed(alloc, block, body)?;
                 }
             }
             _ => body.push(simple(alloc, *step)?)?,
@@ -189,14 +189,14 @@ fn body(alloc: Global, steps: &[Step]) -> Result<Items<Instr>, Fail> {
 }
 
 /// The instructions before a block, and the block, which ends with these.
-fn closed(block: Open, body: Items<Instr>) -> Result<Items<Instr>, Fail> {
+fn closed(alloc: Global, block: Open, body: Items<Instr>) -> Result<Items<Instr>, Fail> {
     let Open {
         mut before,
         start,
         then,
     } = block;
     before.push(match start {
-        Step::If(ty) => Instr::If(ty, then, body),
+        Step::If(ty) => Instr::conditional(alloc, ty, then, body)?,
         Step::Loop(ty) => Instr::Loop(ty, body),
         Step::Block(ty) => Instr::Block(ty, body),
         _ => Instr::Block(None, body),

@@ -1,4 +1,4 @@
-use Rattle.std.proofs.Common.{◌-◌, [], arith, rules}
+use Rattle.std.proofs.Common.{◌-◌, [], sym, ◌∙◌, arith, rules}
 use Rattle.wa_syntax.specs.declared.instr.Instr.TheOpen.{Instr-F}
 use Rattle.wa_syntax.specs.declared.instr.Instr.TheVariants as i
 use Rattle.wa_syntax.specs.BinaryInstructions.{instr}
@@ -93,12 +93,12 @@ structured-returns-in_err-otherwise-in_default-clause-reads t c =
     (structured-err Body c.requires.opcode.0 c.requires.opcode.1
     (pair-err c.in_ok-ty.ensures.reads (stopped-err (else_end-stops_first Body) c.in_ok-body.ensures.reads c.in_err-otherwise-in_default.ensures.reads))))
 
-pub structured-returns-in_ok-otherwise-in_default-clause-reads : goal.structured-returns-in_ok-otherwise-in_default-clause-reads
-structured-returns-in_ok-otherwise-in_default-clause-reads t c =
+pub structured-returns-in_ok-instr-in_default-clause-reads : goal.structured-returns-in_ok-instr-in_default-clause-reads
+structured-returns-in_ok-instr-in_default-clause-reads t c =
     let Body = each (instr (c.args.levels - 1)) in
     let is = if_opcode c.args.opcode c.requires.opcode.0 c.requires.opcode.1 (λ e. search rules) (λ e. search rules) in
     level-ok c.args.levels (Instr-F.If c.in_ok-ty.ty c.in_ok-body.body c.in_ok-otherwise-in_default.otherwise) _ (omega arith)
-    (i.rolls-If c.in_ok-ty.ty c.in_ok-body.body c.in_ok-otherwise-in_default.otherwise)
+    (i.rolls-If c.in_ok-ty.ty c.in_ok-body.body c.in_ok-otherwise-in_default.otherwise ∙ sym c.in_ok-instr-in_default.ensures)
     (behind-ok 4 (λ u. Instr-F.If u.0 u.1.0 u.1.1) (arm-If Body) is
     (pair-ok c.in_ok-ty.ensures.reads (stopped-ok (else_end-stops_first Body) c.in_ok-body.ensures.reads c.in_ok-otherwise-in_default.ensures.reads)))
 
