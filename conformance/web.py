@@ -43,7 +43,7 @@ SUMS = '''class MAIN is
    end;
 end;
 '''
-# What `run --trace` tells of SUMS by docs/ITERS.md: in each round `upto!` gives the argument, and then `sum!` goes on, up to the third
+# The trace of a run of SUMS: in each round `upto!` gives the argument, and then `sum!` goes on, up to the third
 # round, which `upto!` ends.
 SUMS_TRACE = '''start f.sa:7 0
 yield f.sa:7 0
@@ -353,7 +353,8 @@ def needs_no_mouse(page):
     """Each thing to use is come to by Tab, with a ring around it, and is used by keys."""
     draws_lives(page)
     page.value("document.activeElement.blur(), document.querySelector('h1').tabIndex = -1, document.querySelector('h1').focus()")
-    for wanted in STOPS:
+    traces_runs = page.value('traceButton.checkVisibility()')
+    for wanted in (stop for stop in STOPS if stop != 'trace' or traces_runs):
         page.press('Tab')
         expect('what has the focus, and whether that is seen', [wanted, True], page.value(FOCUSED))
         if wanted == 'forward':

@@ -15,6 +15,7 @@ let pictured = '';        // the source that the picture belongs to
 const HINTS = {
   served: 'Show iters runs the program beside the server, with its input, and draws each iter that it starts.',
   alone: 'Some examples have a picture of their own. For any program it is drawn by the page that hosts/web/serve serves.',
+  untraced: 'Some examples have a picture of the iters that were alive.',
   none: 'The program has started no iter.',
 };
 
@@ -148,10 +149,20 @@ byId('file').onchange = async ({target}) => drawRecorded(await target.files[0].t
 addEventListener('keydown', (event) => {
   if (event.key !== 'Enter' || !(event.ctrlKey || event.metaKey) || !isServed) return;
   event.preventDefault();
-  busy(event.shiftKey ? showIters : runHere);
+  busy(event.shiftKey && !traceButton.hidden ? showIters : runHere);
 });
 if (!isServed) {
   document.querySelector('header .actions').hidden = true;
   byId('alone').hidden = false;
 }
+// Iters are shown where the program can trace them.
+async function showKnown() {
+  const {trace} = await (await fetch('knows')).json();
+  traceButton.hidden = !trace;
+  if (trace) return;
+  if (hint.textContent === HINTS.served) hint.textContent = HINTS.untraced;
+  HINTS.served = HINTS.untraced;
+}
+
 pick(location.hash.slice(1) || 'squares');
+if (isServed) showKnown();
