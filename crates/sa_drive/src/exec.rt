@@ -22,7 +22,7 @@ use std::alloc::Global;
 use wa_run::{Answer, run_bytes};
 
 /// How many bytes a module's file has at most.
-const MOST_MODULE_BYTES: usize = 67_108_864;
+pub const MOST_MODULE_BYTES: usize = 67_108_864;
 
 /// How the run of a module ended.
 #[derive(Clone, Copy)]

@@ -14,7 +14,7 @@ pub struct Outcome<'a> {
     pub done: u8,
     /// The texts that the cause's position is in.
     pub sources: Sources,
-    /// The name of the module's file, where the command reads one.
+    /// The name of the module's or the listing's file, where the command reads one.
     pub file: &'a str,
     /// The bytes of the module that was encoded or read.
     pub module: Vec<u8>,

@@ -1,0 +1,12 @@
+use Rattle.std.proofs.Common.{subst, sym}
+use Rattle.std.proofs.lemmas.Result.{IfErr-weaker, IfOk-weaker}
+use Rattle.sa_drive.specs.Listings.{EndsWithoutModule}
+use Rattle.sa_drive.proofs.assemble.assembled.Goals as goal
+
+pub returns-in-Ok-clause-assembly : goal.returns-in-Ok-clause-assembly
+returns-in-Ok-clause-assembly c =
+    IfOk-weaker c.encoded.result _ _ (λ bytes least. record { «module» = c.in-Ok.«module»; listing = c.in-Ok.ensures.found; shortest = least }) c.encoded.ensures.shortest
+
+pub returns-in-Ok-clause-fault : goal.returns-in-Ok-clause-fault
+returns-in-Ok-clause-fault c =
+    IfErr-weaker c.encoded.result _ _ (λ cause is. subst EndsWithoutModule (sym is) tt) c.encoded.ensures.fault
