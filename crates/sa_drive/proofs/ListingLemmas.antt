@@ -1,5 +1,5 @@
 -- The ends of the commands on listings.
-use Rattle.std.proofs.Common.{◌≡◌, ◌≤◌, ◌∙◌, ℕ, List, length, Option, inl, inr, refl, subst}
+use Rattle.std.proofs.Common.{◌≡◌, ◌≤◌, ◌∙◌, ℕ, List, [], length, Option, inl, inr, refl, subst, sym}
 use Rattle.std.specs.Global.{Vec}
 use Rattle.sa_outside.specs.Files.{Files}
 use Rattle.sa_read.specs.Read.{HasFile, IsReadOf}
@@ -47,12 +47,11 @@ whole_read : (files : Option Files) (file : List ℕ) (read : Read) (bytes : Vec
 whole_read files file read bytes is of_file = subst (IsReadOf files file 67_108_864) is of_file
 
 -- a module that was read whole was listed
-pub whole_listed : (store : Part Files) (out : Part (List ℕ)) (file given : List ℕ) (read : Read) (bytes : Vec ℕ) (ends : Cause) (outcome : Outcome) → read ≡ Whole bytes → IsReadOf store.before file 67_108_864 read → given ≡ bytes.items → outcome.«module».items ≡ bytes.items → outcome.cause ≡ ends → ListsModule out given ends → IsListed store out file outcome
-whole_listed store out file given read bytes ends outcome is of_file same told same_ends lists =
-    rw (told, same_ends) (inr (
-      whole_read store.before file read bytes is of_file,
-      subst (λ (them : List ℕ). ListsModule out them ends) same lists,
-    ))
+pub whole_listed : (store : Part Files) (out : Part (List ℕ)) (file given : List ℕ) (read : Read) (bytes : Vec ℕ) (ends : Cause) (outcome : Outcome) → read ≡ Whole bytes → IsReadOf store.before file 67_108_864 read → given ≡ bytes.items → outcome.«module».items ≡ [] → outcome.cause ≡ ends → ListsModule out given ends → IsListed store out file outcome
+whole_listed store out file given read bytes ends outcome is of_file same none same_ends lists =
+    let whole = whole_read store.before file read bytes is of_file in
+    let listed : ListsModule out bytes.items ends = subst (λ (them : List ℕ). ListsModule out them ends) same lists in
+    inr (bytes.items, whole, none, subst (λ (cause : Cause). ListsModule out bytes.items cause) (sym same_ends) listed)
 
 -- what was assembled of a text, as an outcome tells of it
 pub text_assembled : (store : Part Files) (name text bytes given told : List ℕ) (ends told_ends : Cause) → IsAssemblyOf text bytes → given ≡ bytes → told ≡ bytes → told_ends ≡ ends → IsWritten store name given ends → Assembles store name text told told_ends

@@ -77,7 +77,7 @@ IsExecuted store input out fuel file outcome =
 abbrev pub IsListed : Part Files → Part (List ℕ) → List ℕ → Outcome → Type 0
 IsListed store out file outcome =
     (IsUnread store file outcome.cause × HasNoModule outcome × IsKept out)
-    ⊎ (IsModuleIn store file outcome.«module».items × ListsModule out outcome.«module».items outcome.cause)
+    ⊎ ((bytes : List ℕ) × IsModuleIn store file bytes × HasNoModule outcome × ListsModule out bytes outcome.cause)
 
 -- why no listing was read from its file
 abbrev pub IsTextUnread : Part Files → List ℕ → Cause → Type 0

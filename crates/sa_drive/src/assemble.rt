@@ -10,8 +10,8 @@ ghost use Rattle.sa_drive.specs.Seen.{part};
 
 use crate::build::written;
 use crate::cause::Cause;
-use crate::compile::unread;
-use crate::listing::of_file;
+use crate::compile::{no_sources, unread};
+use crate::exec::without_file;
 use crate::outcome::Outcome;
 use sa_outside::WriteFiles;
 use sa_read::{Read, read_file};
@@ -34,10 +34,8 @@ pub fn assemble<'a, S: WriteFiles>(alloc: Global, line: &Assemble<'a>, store: &m
 {
     match read_file(alloc, store, line.file, MOST_LISTING_BYTES) {
         Ok(Read::Whole(text)) => assemble_text(alloc, line, text.as_slice(), store),
-        Ok(Read::Cut(_front)) => {
-            of_file(alloc, line.file, Cause::NotListing(0), Vec::new(alloc))
-        }
-        Err(fault) => of_file(alloc, line.file, unread(fault), Vec::new(alloc)),
+        Ok(Read::Cut(_front)) => without_file(alloc, line.file, Cause::NotListing(0)),
+        Err(fault) => without_file(alloc, line.file, unread(fault)),
     }
 }
 
@@ -62,8 +60,20 @@ fn assemble_text<'a, S: WriteFiles>(
             let cause = written(store, line.out, bytes.as_slice());
             of_file(alloc, line.file, cause, bytes)
         }
-        Err(cause) => of_file(alloc, line.file, cause, Vec::new(alloc)),
+        Err(cause) => without_file(alloc, line.file, cause),
     }
+}
+
+/// The outcome where the listing in this file is that of the module of these bytes.
+fn of_file<'a>(alloc: Global, file: &'a str, cause: Cause, module: Vec<u8>) -> Outcome<'a>
+    ensures cause { result.cause ≡ cause }
+    ensures done { result.done ≡ 0 }
+    ensures file { result.file.now ≡ file.entry.now }
+    ensures bytes { result.«module».items ≡ «module».items }
+    ensures steps { result.steps ≡ None }
+{
+    let outcome = Outcome::without_run(cause, no_sources(alloc), module);
+    Outcome { file, ..outcome }
 }
 
 /// The bytes of the module that the text lists, or the cause why there are none.

@@ -101,9 +101,10 @@ pub fn exec<'a, S: ReadFiles, I: Source, O: Sink>(
     }
 }
 
-/// The outcome where no module was read.
-fn without_file<'a>(alloc: Global, file: &'a str, cause: Cause) -> Outcome<'a>
+/// The outcome of a command that was to read this file, where there is no module to hand out.
+pub fn without_file<'a>(alloc: Global, file: &'a str, cause: Cause) -> Outcome<'a>
     ensures cause { result.cause ≡ cause }
+    ensures done { result.done ≡ 0 }
     ensures file { result.file.now ≡ file.entry.now }
     ensures bytes { result.«module».items ≡ [] }
     ensures steps { result.steps ≡ None }

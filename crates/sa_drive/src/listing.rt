@@ -11,8 +11,8 @@ ghost use Rattle.sa_drive.specs.Listings.{IsListingOf, ListsModule, SaysNoListin
 ghost use Rattle.sa_drive.specs.Seen.{part};
 
 use crate::cause::Cause;
-use crate::compile::{no_sources, unread};
-use crate::exec::MOST_MODULE_BYTES;
+use crate::compile::unread;
+use crate::exec::{MOST_MODULE_BYTES, without_file};
 use crate::outcome::Outcome;
 use crate::print::print;
 use sa_outside::{ReadFiles, Sink};
@@ -43,23 +43,11 @@ pub fn listing<'a, S: ReadFiles, O: Sink>(
     match read_file(alloc, store, line.module, MOST_MODULE_BYTES) {
         Ok(Read::Whole(bytes)) => {
             let cause = list(alloc, bytes.as_slice(), out);
-            of_file(alloc, line.module, cause, bytes)
+            without_file(alloc, line.module, cause)
         }
-        Ok(Read::Cut(_bytes)) => { of_file(alloc, line.module, Cause::Malformed, Vec::new(alloc)) }
-        Err(fault) => of_file(alloc, line.module, unread(fault), Vec::new(alloc)),
+        Ok(Read::Cut(_bytes)) => without_file(alloc, line.module, Cause::Malformed),
+        Err(fault) => without_file(alloc, line.module, unread(fault)),
     }
-}
-
-/// The outcome of a command that reads this file and runs no module.
-pub fn of_file<'a>(alloc: Global, file: &'a str, cause: Cause, module: Vec<u8>) -> Outcome<'a>
-    ensures cause { result.cause ≡ cause }
-    ensures done { result.done ≡ 0 }
-    ensures file { result.file.now ≡ file.entry.now }
-    ensures bytes { result.«module».items ≡ «module».items }
-    ensures steps { result.steps ≡ None }
-{
-    let outcome = Outcome::without_run(cause, no_sources(alloc), module);
-    Outcome { file, ..outcome }
 }
 
 /// The cause after the listing of the module of these bytes was put on out, or wasn't.

@@ -16,7 +16,7 @@ pub struct Outcome<'a> {
     pub sources: Sources,
     /// The name of the module's or the listing's file, where the command reads one.
     pub file: &'a str,
-    /// The bytes of the module that was encoded or read.
+    /// The bytes of the module that was encoded, or that was read to be run.
     pub module: Vec<u8>,
     /// How many steps the machine made, where they are to be shown.
     pub steps: Option<u64>,

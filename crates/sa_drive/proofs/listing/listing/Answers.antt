@@ -5,8 +5,8 @@ use Rattle.sa_drive.proofs.listing.listing.Goals as goal
 
 pub returns-in-Ok-Whole-clause-does : goal.returns-in-Ok-Whole-clause-does
 returns-in-Ok-Whole-clause-does g c =
-    whole_listed _ _ _ _ _ _ _ _ c.in-Ok-Whole.field-0-is c.in-Ok-Whole.ensures.read c.as_slice.ensures.value c.of_file.ensures.bytes c.of_file.ensures.cause c.list-cause.ensures.lists
+    whole_listed _ _ _ _ _ _ _ _ c.in-Ok-Whole.field-0-is c.in-Ok-Whole.ensures.read c.as_slice.ensures.value c.without_file.ensures.bytes c.without_file.ensures.cause c.list-cause.ensures.lists
 
 pub returns-in-Ok-Whole-clause-placed : goal.returns-in-Ok-Whole-clause-placed
 returns-in-Ok-Whole-clause-placed g c =
-    subst (IsPlaced c.of_file.result.sources) (sym c.of_file.ensures.cause) (placed_listing _ _ c.of_file.result.sources _ c.list-cause.ensures.lists)
+    subst (IsPlaced c.without_file.result.sources) (sym c.without_file.ensures.cause) (placed_listing _ _ c.without_file.result.sources _ c.list-cause.ensures.lists)
