@@ -22,10 +22,10 @@ placed_no_listing bytes sources (cause.Refused refusal) says = absurd says
 placed_no_listing bytes sources (cause.Fault kind pos) says = absurd says
 placed_no_listing bytes sources _ says = tt
 
-placed_without_module : (sources : Sources) (ends : Cause) → EndsWithoutModule ends → IsPlaced sources ends
-placed_without_module sources (cause.Refused refusal) says = absurd says
-placed_without_module sources (cause.Fault kind pos) says = absurd says
-placed_without_module sources _ says = tt
+placed_without_module : (text : List ℕ) (sources : Sources) (ends : Cause) → EndsWithoutModule text ends → IsPlaced sources ends
+placed_without_module text sources (cause.Refused refusal) says = absurd says
+placed_without_module text sources (cause.Fault kind pos) says = absurd says
+placed_without_module text sources _ says = tt
 
 -- nor do the ends of the commands
 pub placed_listing : (out : Part (List ℕ)) (bytes : List ℕ) (sources : Sources) (ends : Cause) → ListsModule out bytes ends → IsPlaced sources ends
@@ -34,7 +34,7 @@ placed_listing out bytes sources ends (inr (says, kept)) = placed_no_listing byt
 
 pub placed_assembly : (store : Part Files) (name text bytes : List ℕ) (sources : Sources) (ends : Cause) → Assembles store name text bytes ends → IsPlaced sources ends
 placed_assembly store name text bytes sources ends (inl (assembly, written)) = placed_write (Failed store) sources ends written.comes
-placed_assembly store name text bytes sources ends (inr (says, none, kept)) = placed_without_module sources ends says
+placed_assembly store name text bytes sources ends (inr (says, none, kept)) = placed_without_module text sources ends says
 
 -- what was assembled, seen from earlier on
 pub assembled_earlier : (before middle after : Option Files) (a b c : ℕ) (name text bytes : List ℕ) (ends : Cause) → middle ≡ before → a ≤ b → Assembles (part_of middle after b c) name text bytes ends → Assembles (part_of before after a c) name text bytes ends

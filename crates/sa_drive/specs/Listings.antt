@@ -4,6 +4,7 @@ use Rattle.wa_encode.specs.Spelling.{IsLeast}
 use Rattle.wa_syntax.specs.Binary.{SpellsModule}
 use Rattle.wa_syntax.specs.declared.module.Module.{Module}
 use Rattle.wa_text.specs.Listing.{IsListing}
+use Rattle.wa_text.specs.Places.{IsLineOf}
 use Rattle.sa_outside.specs.Files.{Files}
 use Rattle.sa_drive.specs.Ends.{IsPrinted, IsWritten}
 use Rattle.sa_drive.specs.Seen.{IsKept, Part}
@@ -34,14 +35,14 @@ pub record IsAssemblyOf (text bytes : List ℕ) : Type 0 where
   pub listing : IsListing text «module»
   pub shortest : IsLeast (λ spelling. SpellsModule spelling «module») bytes
 
--- the cause is one for which no module is made of a text
-abbrev pub EndsWithoutModule : Cause → Type 0
-EndsWithoutModule (cause.NotListing line) = ⊤
-EndsWithoutModule cause.NoMemory = ⊤
-EndsWithoutModule _ = ⊥
+-- why no module is made of a text: it is no listing, by one of its lines or the one behind its last line feed
+abbrev pub EndsWithoutModule : List ℕ → Cause → Type 0
+EndsWithoutModule text (cause.NotListing line) = IsLineOf text line
+EndsWithoutModule text cause.NoMemory = ⊤
+EndsWithoutModule text _ = ⊥
 
 -- the file of this name was to get the module that the text lists, which has these bytes, or there is none
 abbrev pub Assembles : Part Files → List ℕ → List ℕ → List ℕ → Cause → Type 0
 Assembles store name text bytes ends =
     (IsAssemblyOf text bytes × IsWritten store name bytes ends)
-    ⊎ (EndsWithoutModule ends × (bytes ≡ []) × IsKept store)
+    ⊎ (EndsWithoutModule text ends × (bytes ≡ []) × IsKept store)

@@ -80,7 +80,7 @@ fn of_file<'a>(alloc: Global, file: &'a str, cause: Cause, module: Vec<u8>) -> O
 fn assembled(alloc: Global, text: &[u8]) -> Result<Vec<u8>, Cause>
     requires { length text.now < 4294967295 }
     ensures assembly { IfOk result (λ bytes. IsAssemblyOf text.now bytes.items) }
-    ensures fault { IfErr result EndsWithoutModule }
+    ensures fault { IfErr result (EndsWithoutModule text.now) }
 {
     match read(alloc, text) {
         Ok(module) => encoded(alloc, &module),

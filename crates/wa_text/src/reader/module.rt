@@ -1,10 +1,11 @@
 //! Modules.
 
-ghost use Rattle.std.specs.Prelude.{◌≡◌, ◌<◌, ◌≤◌, length, IfOk};
+ghost use Rattle.std.specs.Prelude.{◌≡◌, ◌<◌, ◌≤◌, ◌==◌, length, take, IfErr, IfOk};
+ghost use Rattle.std.specs.List.{count_by};
 ghost use Rattle.wa_syntax.specs.declared.module.Module.{Module};
 ghost use Rattle.wa_text.specs.Forms.{each};
 ghost use Rattle.wa_text.specs.Listing.{IsListing, func, module_lines, start};
-ghost use Rattle.wa_text.specs.Places.{EndsIn, ReachesIn};
+ghost use Rattle.wa_text.specs.Places.{EndsIn, NamesLine, ReachesIn};
 ghost use Rattle.wa_text.specs.Reading.{Spelled};
 
 use crate::fault::{ListFault, TextFault};
@@ -25,7 +26,9 @@ pub fn read(alloc: Global, text: &[u8]) -> Result<Module, ListFault>
     requires { length text.now < 4294967295 }
     // The text is the listing of what is read.
     ensures found { IfOk result (IsListing text.now) }
-    // It is that of no two modules.
+    // A refusal names a line of the text, or the one behind its last line feed.
+    ensures line { IfErr result (NamesLine text.now) }
+    // A text is the listing of no two modules.
     ensures only { (m n : Module) → IsListing text.now m → IsListing text.now n → m ≡ n }
 {
     match module(alloc, text) {
@@ -39,13 +42,18 @@ pub fn read(alloc: Global, text: &[u8]) -> Result<Module, ListFault>
 /// The fault of a text, by the place of its first wrong line: one more than the line feeds before it is the line's number.
 fn not_listing(text: &[u8], at: u32) -> ListFault
     requires size { length text.now < 4294967295 }
+    ensures { NamesLine text.now result }
 {
-    let feeds = text
-        .iter()
-        .take(at as usize)
-        .filter(|byte| **byte == b'\n')
-        .count();
+    let feeds = line_feeds(text, at as usize);
     ListFault::NotListing(feeds as u32 + 1)
+}
+
+/// How many line feeds stand in front of a place.
+fn line_feeds(text: &[u8], end: usize) -> usize
+    ensures count { result ≡ count_by (λ byte. byte == 10) (take end text.now) }
+    ensures within { result ≤ length text.now }
+{
+    text.iter().take(end).filter(|byte| **byte == b'\n').count()
 }
 
 /// The module that a text begins with, and the place behind its last line.
