@@ -7,6 +7,7 @@ pub mod OneItem
 pub mod OneModule
 pub mod OneParts
 pub mod Opcodes
+pub mod Pieces
 pub mod Productions
 pub mod Rows
 pub mod Spelled

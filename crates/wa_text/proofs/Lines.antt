@@ -1,5 +1,6 @@
 -- Lines of forms one behind another, from place to place of a text.
 use Rattle.std.proofs.Common.{◌≡◌, ◌≢◌, ℕ, zero, suc, ◌≤◌, List, [], ◌∷◌, ◌++◌, length, drop, Option, refl, sym, ap, subst, ◌∙◌, append_assoc}
+use Rattle.std.specs.Prelude.{codes}
 use Rattle.std.specs.List.{AllByRecursion, join_with_byte}
 use Rattle.std.proofs.lemmas.List.{append-nil, at_drop_all}
 use Rattle.std.proofs.lemmas.List.Concat.{flat_map-append}
@@ -12,10 +13,10 @@ use Rattle.wa_syntax.specs.declared.module.ValTy.{ValTy}
 use Rattle.wa_text.specs.declared.reader.instruction.BlockKind.{BlockKind}
 use Rattle.wa_text.specs.declared.reader.instruction.BlockKind.TheVariants as kind
 use Rattle.wa_text.specs.Forms.{Form, ◌then◌, each, exactly, nothing}
-use Rattle.wa_text.specs.Instructions.{begin, indexed, instr, instr_over}
+use Rattle.wa_text.specs.Instructions.{begin, else_end, end, indexed, instr, instr_over}
 use Rattle.wa_text.specs.Listing.{IsListing, module_lines}
 use Rattle.wa_text.specs.Reading.{IsUnbroken, Spelled, behind_first, kind_word, words_of}
-use Rattle.wa_text.specs.Words.{Word, Line, AreLines, IsWord, line, line_text, text_of, u32}
+use Rattle.wa_text.specs.Words.{Word, Line, AreLines, IsWord, line, line_text, text_of, word, u32}
 use Rattle.wa_text.proofs.Productions.{layer_of}
 use Rattle.wa_text.proofs.Splitting.{words_are}
 
@@ -108,3 +109,24 @@ begun_instr kind.If t n i lines h =
 
 pub begun : (k : BlockKind) (t : Option ValTy) (levels n : ℕ) (i : Instr) (lines : List Line) → levels ≡ suc n → (begin (kind_word k) t then behind_first k t (each (instr n)) i) lines → instr levels i lines
 begun k t levels n i lines is h = subst (λ (m : ℕ). instr m i lines) (sym is) (begun_instr k t n i lines h)
+
+-- what one holds, by its word
+pub held_Block : (k : BlockKind) (t : Option ValTy) (Body : List Instr → Form Line) (body : List Instr) {text : List ℕ} {at mid last : ℕ} → k ≡ kind.Block → Spelled (Body body) text at mid → Spelled end text mid last → Spelled (behind_first k t Body (variant.Block t body)) text at last
+held_Block k t Body body {text} {at} {mid} {last} is h e =
+    let held : Spelled (behind_first kind.Block t Body (variant.Block t body)) text at last = weaker (λ lines s. (body, refl, s)) (join h e) in
+    subst (λ (b : BlockKind). Spelled (behind_first b t Body (variant.Block t body)) text at last) (sym is) held
+
+pub held_Loop : (k : BlockKind) (t : Option ValTy) (Body : List Instr → Form Line) (body : List Instr) {text : List ℕ} {at mid last : ℕ} → k ≡ kind.Loop → Spelled (Body body) text at mid → Spelled end text mid last → Spelled (behind_first k t Body (variant.Loop t body)) text at last
+held_Loop k t Body body {text} {at} {mid} {last} is h e =
+    let held : Spelled (behind_first kind.Loop t Body (variant.Loop t body)) text at last = weaker (λ lines s. (body, refl, s)) (join h e) in
+    subst (λ (b : BlockKind). Spelled (behind_first b t Body (variant.Loop t body)) text at last) (sym is) held
+
+pub held_If : (k : BlockKind) (t : Option ValTy) (Body : List Instr → Form Line) (body branch : List Instr) {text : List ℕ} {at mid last : ℕ} → k ≡ kind.If → Spelled (Body body) text at mid → Spelled (else_end Body branch) text mid last → Spelled (behind_first k t Body (variant.If t body branch)) text at last
+held_If k t Body body branch {text} {at} {mid} {last} is h e =
+    let held : Spelled (behind_first kind.If t Body (variant.If t body branch)) text at last = weaker (λ lines s. (body, branch, refl, s)) (join h e) in
+    subst (λ (b : BlockKind). Spelled (behind_first b t Body (variant.If t body branch)) text at last) (sym is) held
+
+-- a branch behind its `else`
+pub with_else : (Body : List Instr → Form Line) (branch : List Instr) {text : List ℕ} {at mid after last : ℕ} → branch ≢ [] → Spelled (line (word (codes "else"))) text at mid → Spelled (Body branch) text mid after → Spelled end text after last → Spelled (else_end Body branch) text at last
+with_else Body [] some h k e = absurd (some refl)
+with_else Body (i ∷ is) some h k e = join h (join k e)
