@@ -22,18 +22,18 @@ HasWords F = Has IsWord F
 abbrev pub HasLines : Form Line → Type 0
 HasLines F = Has (AllByRecursion IsWord) F
 
-pub both_pass : {X : Type 0} {P : X → Type 0} (xs ys : List X) → AllByRecursion P xs → AllByRecursion P ys → AllByRecursion P (xs ++ ys)
-both_pass [] ys h k = k
-both_pass (x ∷ xs) ys h k = (h.0, both_pass xs ys h.1 k)
+pub both_pass : {X : Type 0} (P : X → Type 0) (xs ys : List X) → AllByRecursion P xs → AllByRecursion P ys → AllByRecursion P (xs ++ ys)
+both_pass P [] ys h k = k
+both_pass P (x ∷ xs) ys h k = (h.0, both_pass P xs ys h.1 k)
 
 pub has_nothing : {X : Type 0} {P : X → Type 0} → Has P nothing
 has_nothing = record { items = []; spelled = refl; pass = tt }
 
 pub has_then : {X : Type 0} {P : X → Type 0} {A B : Form X} → Has P A → Has P B → Has P (A then B)
-has_then a b = record {
+has_then {P = P} a b = record {
   items = a.items ++ b.items;
   spelled = (a.items, b.items, refl, a.spelled, b.spelled);
-  pass = both_pass a.items b.items a.pass b.pass;
+  pass = both_pass P a.items b.items a.pass b.pass;
 }
 
 pub has_each : {X V : Type 0} {P : X → Type 0} (F : V → Form X) (vs : List V) → AllByRecursion (λ v. Has P (F v)) vs → Has P (each F vs)
@@ -66,7 +66,7 @@ decimal_word : (n : ℕ) → n < 2 ^ 64 → IsWord (decimal n)
 decimal_word n below =
     decimal_by_steps (λ m ds. IsWord ds)
     (λ m small. ((omega arith, omega arith), tt))
-    (λ m ds large h. both_pass ds ((48 + m % 10) ∷ []) h ((omega arith, omega arith), tt))
+    (λ m ds large h. both_pass (λ b. (b ≢ 32) × (b ≢ 10)) ds ((48 + m % 10) ∷ []) h ((omega arith, omega arith), tt))
     n below
 
 has_number : (bits n : ℕ) → n < 2 ^ bits → n < 2 ^ 64 → HasWords (number bits n)

@@ -19,15 +19,16 @@ use Rattle.wa_text.proofs.OneItem.{IsOne, IsWhole, any, pair, one-pair, one-as, 
 -- ---- names of opcodes
 
 -- what holds of each row holds of the one that an opcode has
+first_or_later : (P : ℕ → Word → Type 0) (row : ℕ × Word) (rest : Option Word) (op : ℕ) (w : Word) (b : Bool) → (row.0 == op) ≡ b → P row.0 row.1 → (rest ≡ Some w → P op w) → cond b (Some row.1) rest ≡ Some w → P op w
+first_or_later P row rest op w true same first later found =
+    let word : row.1 ≡ w = cc in
+    subst (λ (v : Word). P op v) word (subst (λ (n : ℕ). P n row.1) (eqb-true row.0 op same) first)
+first_or_later P row rest op w false other first later found = later found
+
 row_holds : (P : ℕ → Word → Type 0) (rows : List (ℕ × Word)) (op : ℕ) (w : Word) → AllByRecursion (λ (row : ℕ × Word). P row.0 row.1) rows → name_in rows op ≡ Some w → P op w
 row_holds P [] op w h is = let no : ⊥ = cc in absurd no
-row_holds P (row ∷ rows) op w h is = go (row.0 == op) refl is
-  where
-    go : (b : Bool) → (row.0 == op) ≡ b → cond b (Some row.1) (name_in rows op) ≡ Some w → P op w
-    go true same found =
-        let word : row.1 ≡ w = cc in
-        subst (λ (v : Word). P op v) word (subst (λ (n : ℕ). P n row.1) (eqb-true row.0 op same) h.0)
-    go false other found = row_holds P rows op w h.1 found
+row_holds P (row ∷ rows) op w h is =
+    first_or_later P row (name_in rows op) op w (row.0 == op) refl h.0 (λ found. row_holds P rows op w h.1 found) is
 
 -- each row is the only one of its name
 plain_once : AllByRecursion (λ (row : ℕ × Word). code_in plain_names row.1 ≡ Some row.0) plain_names
@@ -66,7 +67,7 @@ or_table (Some n) plain = n
 or_table None true = 0
 or_table None false = 1
 
-kind_of : Word → ℕ
+pub kind_of : Word → ℕ
 kind_of w = or_table (code_in special w) (is_some (code_in plain_names w))
 
 plain_kinds : AllByRecursion (λ (row : ℕ × Word). kind_of row.1 ≡ 0) plain_names

@@ -283,7 +283,7 @@ pub one-functype : IsWhole functype
 one-functype = whole (one-as {P = λ (p : List ValTy × List ValTy). word (codes "type") then pair (each val) (λ (ts : List ValTy). word (codes "->") then each val ts) p} (λ (t : FuncTy). (t.params, t.results))
     (λ v w same. ap (λ (p : List ValTy × List ValTy). let t : FuncTy = record { params = p.0; results = p.1 } in t) same)
     (λ v s h. h)
-    (one-behind (codes "type") (one-pair (one-each (one-val any) no_arrow) one_results (λ ts s x h ends. (h.1 ++ x, ap (λ (front : List Word). front ++ x) (h.2 ∙ ap (λ (front : List Word). front ++ h.1) h.3))))))
+    (one-behind (codes "type") (one-pair {J = is_arrow} (one-each (one-val any) no_arrow) one_results (λ ts s x h ends. (h.1 ++ x, ap (λ (front : List Word). front ++ x) (h.2 ∙ ap (λ (front : List Word). front ++ h.1) h.3))))))
 
 -- one number has one word, and two have two
 one_limits_of : (m n : ℕ) (p q : Option ℕ) (s : List Word) → limits_of m p s → limits_of n q s → (m ≡ n) × (p ≡ q)

@@ -1,5 +1,5 @@
 -- No text is the listing of two modules: its lines are one row, since each of them has a word.
-use Rattle.std.proofs.Common.{◌≡◌, ◌≢◌, ℕ, zero, suc, Bool, true, false, List, [], ◌∷◌, ◌++◌, Option, None, Some, refl, sym, ap, subst, ◌∙◌, append_assoc}
+use Rattle.std.proofs.Common.{◌≡◌, ◌≢◌, ℕ, zero, suc, Bool, true, false, List, [], ◌∷◌, ◌++◌, Option, None, Some, refl, sym, ap, subst, ◌∙◌, append_assoc, arith}
 use Rattle.std.proofs.lemmas.Bool.{ne_eqb}
 use Rattle.std.proofs.lemmas.List.Elements.{All-from_recursion}
 use Rattle.std.proofs.lemmas.List.Splits.{slice_split_at, slice_split_none}
@@ -30,7 +30,7 @@ record IsFilled (F : Form Line) : Type 0 where
 
 filled_then : {A B : Form Line} → IsFilled A → IsFilled B → IsFilled (A then B)
 filled_then a b = record {
-  filled = λ lines h. subst (AllByRecursion HasWord) (sym h.2) (both_pass {P = HasWord} h.0 h.1 (a.filled h.0 h.3) (b.filled h.1 h.4));
+  filled = λ lines h. subst (AllByRecursion HasWord) (sym h.2) (both_pass HasWord h.0 h.1 (a.filled h.0 h.3) (b.filled h.1 h.4));
 }
 
 filled_each : {V : Type 0} (F : V → Form Line) (vs : List V) → ((v : V) → IsFilled (F v)) → IsFilled (each F vs)
@@ -115,13 +115,13 @@ unbroken_word : (w : Word) → IsWord w → IsUnbroken w
 unbroken_word [] h = tt
 unbroken_word (b ∷ bs) h = (h.0.1, unbroken_word bs h.1)
 
-blank_is_none : 32 ≢ 10
-blank_is_none = λ same. let no : ⊥ = cc in no
+blank_is_none : ◌≢◌ {A = ℕ} 32 10
+blank_is_none = omega arith
 
 unbroken_line : (words : List Word) → AllByRecursion IsWord words → IsUnbroken (join_with_byte 32 words)
 unbroken_line [] h = tt
 unbroken_line (w ∷ []) h = unbroken_word w h.0
-unbroken_line (w ∷ v ∷ words) h = both_pass {P = λ b. b ≢ 10} w (32 ∷ join_with_byte 32 (v ∷ words)) (unbroken_word w h.0) (blank_is_none, unbroken_line (v ∷ words) h.1)
+unbroken_line (w ∷ v ∷ words) h = both_pass (λ b. b ≢ 10) w (32 ∷ join_with_byte 32 (v ∷ words)) (unbroken_word w h.0) (blank_is_none, unbroken_line (v ∷ words) h.1)
 
 -- the first line feed is at one place
 one_feed : (a b x y : List ℕ) → IsUnbroken a → IsUnbroken b → a ++ 10 ∷ x ≡ b ++ 10 ∷ y → (a ≡ b) × (x ≡ y)

@@ -2,7 +2,7 @@
 use Rattle.std.proofs.Common.{◌≡◌, ◌≢◌, ℕ, zero, suc, ◌+◌, ◌<◌, ◌≤◌, Bool, true, false, List, [], ◌∷◌, ◌++◌, length, get_or, take, drop, map, Some, refl, sym, ap, subst, ◌∙◌, arith}
 use Rattle.std.proofs.lemmas.Bool.{ne_eqb}
 use Rattle.std.proofs.lemmas.Bool.Decides.{nat_tests}
-use Rattle.std.proofs.lemmas.List.{length-map}
+use Rattle.std.proofs.lemmas.List.{get_or-map, length-map, take_more}
 use Rattle.std.proofs.lemmas.List.Elements.{Contains-get_or}
 use Rattle.std.specs.Prelude.{◌==◌, cond, Contains}
 use denote.Ref.{Bor}
@@ -39,9 +39,9 @@ four_words (t ∷ u ∷ v ∷ w ∷ x ∷ words) d e f g long = absurd (omega ar
 
 -- one more word
 pub texts_more : (words : List (Bor (List ℕ))) (i : ℕ) (d : Bor (List ℕ)) → i < length words → take (i + 1) (texts words) ≡ take i (texts words) ++ (get_or words i d).now ∷ []
-texts_more [] i d below = absurd (omega arith)
-texts_more (w ∷ words) zero d below = refl
-texts_more (w ∷ words) (suc i) d below = ap (λ (rest : List Word). w.now ∷ rest) (texts_more words i d (omega arith))
+texts_more words i d below =
+    take_more (texts words) i d.now (omega (arith, length-map words (λ (w : Bor (List ℕ)). w.now)))
+    ∙ ap (λ (w : Word). take i (texts words) ++ w ∷ []) (get_or-map (λ (w : Bor (List ℕ)). w.now) words i d d.now below)
 
 -- bytes by their digits
 pub spelled_bytes : (bs : List ℕ) (w : Word) → bs ≢ [] → IsBytes bs → w ≡ encode_lower bs → bytes bs (w ∷ [])
@@ -62,12 +62,17 @@ name_here (row ∷ table) zero opcode d below is =
 name_here (row ∷ table) (suc i) opcode d below is = name_here table i opcode d (omega arith) is
 
 -- the row of another opcode has no part in it
-pub name_past : (table : List (ℕ × Bor (List ℕ))) (i opcode : ℕ) (d : ℕ × Bor (List ℕ)) → i < length table → (get_or table i d).0 ≢ opcode → name_in (map shown (drop (i + 1) table)) opcode ≡ name_in (map shown (drop i table)) opcode
-name_past [] i opcode d below other = absurd (omega arith)
-name_past (row ∷ table) zero opcode d below other =
+past : (table : List (ℕ × Bor (List ℕ))) (i opcode : ℕ) (d : ℕ × Bor (List ℕ)) → i < length table → (get_or table i d).0 ≢ opcode → name_in (map shown (drop (suc i) table)) opcode ≡ name_in (map shown (drop i table)) opcode
+past [] i opcode d below other = absurd (omega arith)
+past (row ∷ table) zero opcode d below other =
     let differs : (row.0 == opcode) ≡ false = ne_eqb row.0 opcode other in
     sym (ap (λ (b : Bool). cond b (Some row.1.now) (name_in (map shown table) opcode)) differs)
-name_past (row ∷ table) (suc i) opcode d below other = name_past table i opcode d (omega arith) other
+past (row ∷ table) (suc i) opcode d below other = past table i opcode d (omega arith) other
+
+pub name_past : (table : List (ℕ × Bor (List ℕ))) (i opcode : ℕ) (d : ℕ × Bor (List ℕ)) → i < length table → (get_or table i d).0 ≢ opcode → name_in (map shown (drop (i + 1) table)) opcode ≡ name_in (map shown (drop i table)) opcode
+name_past table i opcode d below other =
+    let next : suc i ≡ i + 1 = omega arith in
+    subst (λ (k : ℕ). name_in (map shown (drop k table)) opcode ≡ name_in (map shown (drop i table)) opcode) next (past table i opcode d below other)
 
 shown_at : (table : List (ℕ × Bor (List ℕ))) (i : ℕ) (d : ℕ × Bor (List ℕ)) → get_or (map shown table) i (shown d) ≡ shown (get_or table i d)
 shown_at [] i d = refl

@@ -38,7 +38,7 @@ use Rattle.wa_text.specs.Instructions.{begin, block_result, else_end, end, expr,
 use Rattle.wa_text.specs.Listing as listing
 use Rattle.wa_text.specs.Listing.{IsListing, module_lines}
 use Rattle.wa_text.specs.Mnemonics.{access_names, plain_names}
-use Rattle.wa_text.specs.Words.{Word, Line, line, u32, u64, val, mut, text_of}
+use Rattle.wa_text.specs.Words.{Word, Line, line, u32, u64, name, val, mut, text_of}
 use Rattle.wa_text.proofs.Having.{AreBytes, Has, HasLines, HasWords, has_bytes, has_each, has_line, has_name, has_nothing, has_then, has_u32, has_u64, has_word, is_word}
 use Rattle.wa_text.proofs.Opcodes.{HasName, access_named, bare_named, of_memory_named}
 use Rattle.wa_text.proofs.Splitting.{both_of}
@@ -134,7 +134,7 @@ importdesc_has (imported.Global t) bytes s = has_then (has_word (codes "global")
 spelled_bytes : (bs bytes : List ℕ) → AreBytes bytes → formats.each formats.byte bs bytes → AreBytes bs
 spelled_bytes bs bytes are s = each_has formats.byte (λ b. b < 256) bs bytes (λ b front is e. (subst AreBytes e is).0) are s
 
-name_has : (text bytes : List ℕ) → AreBytes bytes → formats.name text bytes → HasWords (listing.name text)
+name_has : (text bytes : List ℕ) → AreBytes bytes → formats.name text bytes → HasWords (name text)
 name_has text bytes are (utf8, s) = has_name text utf8 (spelled_bytes text s.1 (behind _ _ s.2 are) s.4)
 
 import_has : (i : Import) (bytes : List ℕ) → AreBytes bytes → binary.import i bytes → HasWords (listing.import i)

@@ -1,6 +1,4 @@
-use Rattle.std.proofs.Common.{◌≡◌, List, ℕ, [], ◌∷◌, refl, ap}
-use Rattle.std.proofs.lemmas.Bool.Decides.{Decides-eqb}
-use Rattle.std.proofs.lemmas.Slice.Eq.{slice_eq-Decides}
+use Rattle.std.proofs.Common.{◌≡◌, List, ℕ, [], ◌∷◌, refl, ap, rules}
 use Rattle.std.specs.Prelude.{codes}
 use Rattle.wa_syntax.specs.declared.instr.Instr.TheOpen.{Instr-F}
 use Rattle.wa_syntax.specs.declared.instr.Instr.TheVariants as variant
@@ -12,6 +10,6 @@ returns-then-eq c =
     let first = c.args.first.now in
     let value = c.args.value.now in
     let n = c.in_ok-number.field-0 in
-    let is : first ≡ codes "i64.const" = (slice_eq-Decides Decides-eqb first (codes "i64.const") c.eq.result c.eq.ensures).0 c.if-eq.true in
+    let is : first ≡ codes "i64.const" = search rules in
     single _ (Instr-F.I64Const n) ((first ∷ value ∷ []) ∷ []) (variant.rolls-I64Const n)
     (λ Body. (first ∷ value ∷ [], (first ∷ [], value ∷ [], refl, ap (λ (w : List ℕ). w ∷ []) is, c.in_ok-number.ensures), refl))
