@@ -49,6 +49,11 @@ each_more F [] v front back h k =
 each_more F (w ∷ vs) v front back h k =
     (h.0, h.1 ++ back, ap (λ (xs : _). xs ++ back) h.2 ∙ append_assoc h.0 h.1 back, h.3, each_more F vs v h.1 back h.4 k)
 
+-- one more value of one item, in front of the items that are left
+pub front_more : {X V : Type 0} (F : V → Form X) (vs : List V) (v : V) (x : X) (all rest more : List X) → (each F vs then exactly rest) all → rest ≡ x ∷ more → F v (x ∷ []) → (each F (vs ++ v ∷ []) then exactly more) all
+front_more F vs v x all rest more h is k =
+    (h.0 ++ x ∷ [], more, h.2 ∙ ap (λ (back : List _). h.0 ++ back) (h.4 ∙ is) ∙ sym (append_assoc h.0 (x ∷ []) more), each_more F vs v h.0 (x ∷ []) h.3 k, refl)
+
 pub join-more : {V : Type 0} (F : V → Form Line) (vs : List V) (v : V) {text : List ℕ} {at mid end : ℕ} → Spelled (each F vs) text at mid → Spelled (F v) text mid end → Spelled (each F (vs ++ v ∷ [])) text at end
 join-more F vs v h k = weaker (λ front s. subst (each F (vs ++ v ∷ [])) (sym s.2) (each_more F vs v s.0 s.1 s.3 s.4)) (join h k)
 

@@ -206,10 +206,10 @@ one_else_end : {Body : List Instr → Form Line} → IsOne Stops Body → (v w :
 one_else_end one_Body [] [] a b x y h k follows goes same = ((one_the_end.one tt tt a b x y h k tt tt same).0, refl)
 one_else_end one_Body [] (j ∷ js) a b x y h k follows goes same =
     let kinds : 17 ≡ 18 = same_kind (b ++ y) (subst (Begins 17) same (begins_front a x (end_begins a h))) (begins_front b y (begins_then b k.0 k.1 k.2 (else_begins k.0 k.3))) in
-    absurd (omega arith)
+    absurd (omega (arith, kinds))
 one_else_end one_Body (i ∷ is) [] a b x y h k follows goes same =
     let kinds : 18 ≡ 17 = same_kind (b ++ y) (subst (Begins 18) same (begins_front a x (begins_then a h.0 h.1 h.2 (else_begins h.0 h.3)))) (begins_front b y (end_begins b k)) in
-    absurd (omega arith)
+    absurd (omega (arith, kinds))
 one_else_end {Body} one_Body (i ∷ is) (j ∷ js) a b x y h k follows goes same =
     let both = (one-pair one_else (one_body one_Body) (λ v s z g after. tt)).one (tt, (i ∷ is)) (tt, (j ∷ js)) a b x y h k tt tt same in
     (both.0, ap (λ (p : Unit {0} × List Instr). p.1) both.1)

@@ -11,7 +11,7 @@ ghost use Rattle.wa_text.specs.Words as form;
 use crate::fault::{LineFault, TextFault};
 use crate::reader::words::behind;
 use sqlite_items::Items;
-use std::alloc::Global;
+use std::alloc::{AllocError, Global};
 
 /// What is read at a place, with the place behind it, both at the beginning of a line.
 pub type Listed<T> = Result<(T, u32), TextFault>;
@@ -55,10 +55,10 @@ pub fn word_line(text: &[u8], at: u32, word: &[u8]) -> Result<u32, TextFault>
 }
 
 /// The words of a line.
-fn words_in(alloc: Global, line: &[u8]) -> Result<Vec<&[u8]>, TextFault>
+fn words_in(alloc: Global, line: &[u8]) -> Result<Vec<&[u8]>, AllocError>
     ensures { IfOk result (λ words. texts words.items ≡ words_of line.now) }
 {
-    Ok(line.split(|byte| *byte == b' ').collect(alloc)?)
+    line.split(|byte| *byte == b' ').collect(alloc)
 }
 
 /// The words of the line at a place, and the place behind it.

@@ -14,6 +14,6 @@ returns-in_ok-limits-in-memory-default c =
 
 pub returns-in_ok-global_type-in-global-len2 : goal.returns-in_ok-global_type-in-global-len2
 returns-in_ok-global_type-in-global-len2 c =
-    let is : c.args.kind.now ≡ codes "global" = text_from_reads c.args.kind.now (codes "global") (omega arith) (omega arith, (omega arith, (omega arith, (omega arith, (omega arith, (omega arith, tt)))))) in
-    let two = two_words c.args.words.now _ _ (omega arith) in
+    let is : c.args.kind.now ≡ codes "global" = text_from_reads c.args.kind.now (codes "global") (grind (arith)) (grind (arith), (grind (arith), (grind (arith), (grind (arith), (grind (arith), (grind (arith), tt)))))) in
+    let two = two_words c.args.words.now _ _ (grind (arith)) in
     (c.args.kind.now ∷ [], texts c.args.words.now, refl, ap (λ (w : List ℕ). w ∷ []) is, subst (λ (words : Line). globaltype c.in_ok-global_type-in-global-len2.field-0 words) (sym two) c.in_ok-global_type-in-global-len2.ensures)
