@@ -1,5 +1,5 @@
 -- What is written behind what, by the grammar of forms.
-use Rattle.std.proofs.Common.{◌≡◌, ℕ, List, [], ◌∷◌, ◌++◌, Result, Ok, OnOk, refl, sym, ap, subst, ◌∙◌, append_assoc}
+use Rattle.std.proofs.Common.{◌≡◌, ℕ, List, [], ◌∷◌, ◌++◌, Result, Ok, OnOk, sym, ap, subst, ◌∙◌, append_assoc}
 use Rattle.std.proofs.lemmas.List.{append-nil}
 use Rattle.std.proofs.lemmas.List.Concat.{flat_map-append}
 use Rattle.std.proofs.lemmas.Result.{on_ok_weaker}
@@ -9,7 +9,7 @@ use Rattle.std.specs.List.{FoldsTo, join_with_byte}
 use denote.Ref.{Bor, MutBor}
 use Rattle.wa_syntax.specs.declared.no_memory.NoMemory.{NoMemory}
 use Rattle.wa_text.specs.Forms.{Form, nothing, ◌then◌, each}
-use Rattle.wa_text.specs.Words.{Word, line, line_text, word}
+use Rattle.wa_text.specs.Words.{Word, line, word}
 use Rattle.wa_text.specs.Writing.{Adds, AddsWords, AddsLines, Leaves, behind}
 
 -- what holds of the same items by another form

@@ -1,5 +1,5 @@
 -- No lines are those of two instructions or of two functions, and no instruction begins with an `end` or an `else`.
-use Rattle.std.proofs.Common.{◌≡◌, ℕ, zero, suc, ◌+◌, ◌<◌, ◌≤◌, Bool, true, false, List, [], ◌∷◌, ◌++◌, Option, None, Some, refl, sym, ap, subst, ◌∙◌, arith, append_assoc}
+use Rattle.std.proofs.Common.{◌≡◌, ℕ, zero, suc, ◌≤◌, Bool, true, false, List, [], ◌∷◌, ◌++◌, Option, None, Some, refl, sym, ap, subst, ◌∙◌, arith}
 use Rattle.std.proofs.lemmas.Bool.{eqb-true}
 use Rattle.std.specs.Prelude.{codes, cond, ◌==◌}
 use Rattle.std.specs.List.{AllByRecursion}
@@ -9,7 +9,7 @@ use Rattle.wa_syntax.specs.declared.instr.Instr.TheViews.{roll-Instr, roll-out-I
 use Rattle.wa_syntax.specs.declared.module.Func.{Func}
 use Rattle.wa_syntax.specs.declared.module.ValTy.{ValTy}
 use Rattle.wa_text.specs.Forms.{Form, ◌then◌, each, nothing}
-use Rattle.wa_text.specs.Instructions.{begin, block_result, else_end, end, expr, indexed, instr, instr_over, max_nesting, named}
+use Rattle.wa_text.specs.Instructions.{begin, else_end, end, expr, indexed, instr, instr_over, max_nesting, named}
 use Rattle.wa_text.specs.Listing as listing
 use Rattle.wa_text.specs.Mnemonics.{access_names, name_in, plain_names}
 use Rattle.wa_text.specs.Words.{Word, Line, line, word, u32}

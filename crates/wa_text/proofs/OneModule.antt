@@ -1,16 +1,16 @@
 -- No text is the listing of two modules: its lines are one row, since each of them has a word.
-use Rattle.std.proofs.Common.{◌≡◌, ◌≢◌, ℕ, zero, suc, Bool, true, false, List, [], ◌∷◌, ◌++◌, Option, None, Some, refl, sym, ap, subst, ◌∙◌, append_assoc, arith}
+use Rattle.std.proofs.Common.{◌≡◌, ◌≢◌, ℕ, zero, suc, false, List, [], ◌∷◌, ◌++◌, Option, None, Some, refl, sym, ap, subst, ◌∙◌, append_assoc, arith}
 use Rattle.std.proofs.lemmas.Bool.{ne_eqb}
 use Rattle.std.proofs.lemmas.List.Elements.{All-from_recursion}
 use Rattle.std.proofs.lemmas.List.Splits.{slice_split_at, slice_split_none}
-use Rattle.std.specs.Prelude.{◌==◌, codes}
+use Rattle.std.specs.Prelude.{◌==◌}
 use Rattle.std.specs.List.{All, AllByRecursion, join_with_byte}
 use Rattle.wa_syntax.specs.declared.instr.Instr.{Instr, out-Instr}
 use Rattle.wa_syntax.specs.declared.instr.Instr.TheOpen.{Instr-F}
 use Rattle.wa_syntax.specs.declared.module.Func.{Func}
 use Rattle.wa_syntax.specs.declared.module.Module.{Module}
 use Rattle.wa_text.specs.Forms.{Form, ◌then◌, each}
-use Rattle.wa_text.specs.Instructions.{else_end, end, expr, instr, instr_over, max_nesting}
+use Rattle.wa_text.specs.Instructions.{else_end, instr, instr_over, max_nesting}
 use Rattle.wa_text.specs.Listing as listing
 use Rattle.wa_text.specs.Listing.{IsListing, module_lines}
 use Rattle.wa_text.specs.Reading.{IsUnbroken, words_of}

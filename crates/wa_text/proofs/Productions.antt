@@ -1,5 +1,5 @@
 -- The productions: instructions, items and modules.
-use Rattle.std.proofs.Common.{◌≡◌, ◌≢◌, ℕ, zero, suc, ◌+◌, List, [], ◌∷◌, ◌++◌, Option, Some, None, Result, OnOk, refl, sym, ap, subst, ◌∙◌, append_assoc, replicate}
+use Rattle.std.proofs.Common.{◌≡◌, ◌≢◌, ℕ, zero, suc, List, [], ◌∷◌, ◌++◌, Option, Some, None, Result, OnOk, refl, sym, ap, subst, ◌∙◌, append_assoc, replicate}
 use Rattle.std.specs.Prelude.{codes, decimal}
 use Rattle.hex.specs.Hex.{encode_lower}
 use Rattle.std.proofs.lemmas.Result.{on_ok_weaker}
@@ -10,13 +10,13 @@ use Rattle.wa_syntax.specs.declared.locals.Run.{Run}
 use Rattle.wa_syntax.specs.declared.module.Module.{Module}
 use Rattle.wa_syntax.specs.declared.module.ValTy.{ValTy}
 use Rattle.wa_syntax.specs.Locals.{types_of_runs}
-use Rattle.wa_text.specs.Forms.{Form, nothing, ◌then◌, each}
+use Rattle.wa_text.specs.Forms.{Form, ◌then◌, each}
 use Rattle.wa_text.specs.Instructions.{begin, else_end, end, instr, instr_over, named}
 use Rattle.wa_text.specs.Mnemonics.{name_in}
 use Rattle.wa_text.specs.Listing.{IsListing, locals, module_lines}
 use Rattle.wa_text.specs.Words.{Word, Line, bytes, line, number, text_of, val, word}
-use Rattle.wa_text.specs.Writing.{Adds, AddsWords, AddsLines}
-use Rattle.wa_text.proofs.Adding.{Adds-as, Adds-never, Adds-nothing, Adds-then, Adds-word}
+use Rattle.wa_text.specs.Writing.{AddsWords, AddsLines}
+use Rattle.wa_text.proofs.Adding.{Adds-as, Adds-then, Adds-word}
 
 -- ---- names of opcodes
 

@@ -1,5 +1,5 @@
 -- A module that some bytes spell has a listing: each form of the binary format has one of words or of lines.
-use Rattle.std.proofs.Common.{◌≡◌, ℕ, zero, suc, ◌+◌, ◌^◌, ◌<◌, Bool, true, false, ℤ, pos, negsuc, ◌<ℤ◌, List, [], ◌∷◌, ◌++◌, Option, Some, None, map, refl, sym, subst, inl, inr, pow_pos, arith}
+use Rattle.std.proofs.Common.{◌≡◌, ℕ, zero, suc, ◌^◌, ◌<◌, Bool, true, false, ℤ, pos, negsuc, ◌<ℤ◌, List, [], ◌∷◌, ◌++◌, Option, Some, None, map, refl, sym, subst, inl, inr, pow_pos, arith}
 use Rattle.std.proofs.lemmas.Int.{ints}
 use Rattle.std.specs.Prelude.{codes, ◌-◌}
 use Rattle.std.specs.Int.{Width, w32, w64, cast_unsigned}
@@ -33,13 +33,12 @@ use Rattle.wa_syntax.specs.Formats as formats
 use Rattle.wa_syntax.specs.Formats.{Format}
 use Rattle.wa_syntax.proofs.Signed.{IsSigned-within}
 use Rattle.wa_syntax.proofs.Unsigned.{IsUnsigned-below}
-use Rattle.wa_text.specs.Forms.{Form, ◌then◌, each}
+use Rattle.wa_text.specs.Forms.{Form, each}
 use Rattle.wa_text.specs.Instructions.{begin, block_result, else_end, end, expr, indexed, instr, instr_over, max_nesting, named}
 use Rattle.wa_text.specs.Listing as listing
 use Rattle.wa_text.specs.Listing.{IsListing, module_lines}
-use Rattle.wa_text.specs.Mnemonics.{access_names, plain_names}
 use Rattle.wa_text.specs.Words.{Word, Line, line, u32, u64, name, val, mut, text_of}
-use Rattle.wa_text.proofs.Having.{AreBytes, Has, HasLines, HasWords, has_bytes, has_each, has_line, has_name, has_nothing, has_then, has_u32, has_u64, has_word, is_word}
+use Rattle.wa_text.proofs.Having.{AreBytes, HasLines, HasWords, has_bytes, has_each, has_line, has_name, has_nothing, has_then, has_u32, has_u64, has_word, is_word}
 use Rattle.wa_text.proofs.Opcodes.{HasName, access_named, bare_named, of_memory_named}
 use Rattle.wa_text.proofs.Splitting.{both_of}
 

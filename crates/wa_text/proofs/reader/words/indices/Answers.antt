@@ -1,4 +1,4 @@
-use Rattle.std.proofs.Common.{[], ◌∷◌, take, arith}
+use Rattle.std.proofs.Common.{take, arith}
 use Rattle.wa_text.specs.Reading.{texts}
 use Rattle.wa_text.specs.Words.{u32}
 use Rattle.wa_text.proofs.Lines.{each_more}

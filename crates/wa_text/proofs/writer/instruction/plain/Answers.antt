@@ -1,11 +1,11 @@
-use Rattle.std.proofs.Common.{◌≡◌, Some, sym, ap, ◌∙◌}
+use Rattle.std.proofs.Common.{Some, sym, ap, ◌∙◌}
 use Rattle.std.specs.Prelude.{option_copied}
 use Rattle.std.proofs.lemmas.Result.{on_ok_weaker}
 use Rattle.wa_text.specs.Instructions.{named}
 use Rattle.wa_text.specs.Mnemonics.{plain_names}
 use Rattle.wa_text.specs.Words.{line}
-use Rattle.wa_text.proofs.Adding.{Adds-never, Adds-as}
-use Rattle.wa_text.proofs.Productions.{only_name, no_name, named_line}
+use Rattle.wa_text.proofs.Adding.{Adds-never}
+use Rattle.wa_text.proofs.Productions.{no_name, named_line}
 use Rattle.wa_text.proofs.writer.instruction.plain.Goals as goal
 
 pub returns-in-Some : goal.returns-in-Some

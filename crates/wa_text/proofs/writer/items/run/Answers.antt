@@ -1,7 +1,4 @@
-use Rattle.std.proofs.Common.{◌≡◌, ℕ, ◌+◌, ◌-◌, List, [], ◌∷◌, replicate, ap, sym, ◌∙◌, arith}
-use Rattle.wa_syntax.specs.declared.module.ValTy.{ValTy}
-use Rattle.wa_text.specs.Forms.{each}
-use Rattle.wa_text.specs.Words.{val}
+use Rattle.std.proofs.Common.{◌+◌, ◌-◌, arith}
 use Rattle.wa_text.proofs.Adding.{Adds-nothing, Adds-then}
 use Rattle.wa_text.proofs.Productions.{replicate_more, replicate_none}
 use Rattle.wa_text.proofs.writer.items.run.Goals as goal

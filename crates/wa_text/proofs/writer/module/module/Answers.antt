@@ -1,4 +1,3 @@
-use Rattle.std.proofs.Common.{List, ℕ, refl}
 use Rattle.std.proofs.lemmas.Result.{on_ok_weaker}
 use Rattle.wa_text.specs.Words.{line}
 use Rattle.wa_text.specs.Listing.{functype, import, func, table, memory, global, export, elem, segment}

@@ -1,4 +1,4 @@
-use Rattle.std.proofs.Common.{◌≡◌, ◌+◌, [], ◌∷◌, ◌++◌, drop, get_or, arith}
+use Rattle.std.proofs.Common.{◌≡◌, [], drop, get_or, arith}
 use Rattle.std.proofs.lemmas.List.{drop_more, at_drop_all}
 use Rattle.wa_text.proofs.Digits.{encode_lower-more, encode_lower-none}
 use Rattle.wa_text.proofs.writer.words.digits.Goals as goal
