@@ -85,9 +85,16 @@ class Calls:
         self.targets = [{one['ty']: one['target'] for one in signature['impls']} for signature in self.signatures]
         self.features = [Feature(self, number, row) for number, row in enumerate(tree['features'])]
         for feature, row in zip(self.features, tree['features']):
-            feature.body = self.body_of(feature, row['body'])
+            feature.body = self.when_called(feature, row['body'])
         self.shared_values = [self.void_of(shared['ty']) for shared in self.shareds]
         self.main = tree['main']
+
+    def when_called(self, feature, stmts):
+        """A body that is made where the feature is called first: of most programs few features are."""
+        def first(here):
+            feature.body = self.body_of(feature, stmts)
+            return feature.body(here)
+        return first
 
     # ---- types
 
