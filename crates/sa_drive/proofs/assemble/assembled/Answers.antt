@@ -14,4 +14,4 @@ returns-in-Ok-clause-fault c =
 
 pub returns-in-Err-NotListing-clause-fault : goal.returns-in-Err-NotListing-clause-fault
 returns-in-Err-NotListing-clause-fault c =
-    subst (NamesLine c.args.text.now) c.in-Err-NotListing.field-0-is c.in-Err-NotListing.ensures.line
+    rw c.in-Err-NotListing.field-0-is (subst (NamesLine c.args.text.now) c.in-Err-NotListing.field-0-is c.in-Err-NotListing.ensures.line)

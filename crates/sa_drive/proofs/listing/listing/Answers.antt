@@ -1,11 +1,12 @@
 use Rattle.std.proofs.Common.{subst, sym}
 use Rattle.sa_drive.specs.Lines.{IsPlaced}
+use Rattle.sa_drive.specs.Seen.{part}
 use Rattle.sa_drive.proofs.ListingLemmas.{placed_listing, whole_listed}
 use Rattle.sa_drive.proofs.listing.listing.Goals as goal
 
 pub returns-in-Ok-Whole-clause-does : goal.returns-in-Ok-Whole-clause-does
 returns-in-Ok-Whole-clause-does g c =
-    whole_listed _ _ _ _ _ _ _ _ c.in-Ok-Whole.field-0-is c.in-Ok-Whole.ensures.read c.as_slice.ensures.value c.without_file.ensures.bytes c.without_file.ensures.cause c.list-cause.ensures.lists
+    whole_listed (part g.S.ReadFiles.files g.S.ReadFiles.faults c.args.store.now c.read_file.new.store) _ _ _ _ _ _ c.without_file.result c.in-Ok-Whole.field-0-is c.in-Ok-Whole.ensures.read c.as_slice.ensures.value c.without_file.ensures.bytes c.without_file.ensures.cause c.list-cause.ensures.lists
 
 pub returns-in-Ok-Whole-clause-placed : goal.returns-in-Ok-Whole-clause-placed
 returns-in-Ok-Whole-clause-placed g c =
