@@ -18,20 +18,22 @@ use crate::exec::{Ended, cause_of, done_of};
 use crate::module::Built;
 use crate::outcome::Outcome;
 use crate::place::is_place_in;
+use crate::told::run_told;
 use sa_outside::{ReadFiles, Sink, Source};
 use sa_tree::{FaultKind, Pos, Sources};
-use sa_words::Run;
+use sa_words::{Run, Trace};
 use std::alloc::Global;
 use wa_run::run_module;
 use wa_valid::Valid;
 
 /// Compiles the program and runs its module.
-pub fn run<'a, S: ReadFiles, I: Source, O: Sink>(
+pub fn run<'a, S: ReadFiles, I: Source, O: Sink, E: Sink>(
     alloc: Global,
     line: &Run<'a>,
     store: &mut S,
     input: &mut I,
     out: &mut O,
+    err: &mut E,
 ) -> Outcome<'a>
     ensures does { IsRun (part S.files S.faults store.old store.new) (part I.input I.faults input.old input.new)
         (part O.output O.faults out.old out.new) line.now.fuel (map (λ file. file.now) line.now.files.items) result }
@@ -48,10 +50,15 @@ pub fn run<'a, S: ReadFiles, I: Source, O: Sink>(
         line.files.as_slice(),
         line.contracts,
         line.room,
+        line.trace,
     );
-    match module {
-        Ok(built) => run_built(alloc, sources, built, line.fuel, line.stats, input, out),
-        Err(cause) => Outcome::without_module(alloc, cause, sources),
+    let built = match module {
+        Ok(built) => built,
+        Err(cause) => return Outcome::without_module(alloc, cause, sources),
+    };
+    match line.trace {
+        Trace::Silent => run_built(alloc, sources, built, line.fuel, line.stats, input, out),
+        Trace::Told => run_told(alloc, sources, built, line.fuel, line.stats, input, out, err),
     }
 }
 
@@ -79,6 +86,7 @@ pub fn run_built<'a, I: Source, O: Sink>(
         module,
         bytes,
         sites,
+        iter_calls: _,
     } = built;
     let ended = run_valid(alloc, &module, fuel, input, out);
     let cause = at_place(ended.cause, sites.as_slice(), &sources);
@@ -110,7 +118,7 @@ fn run_valid<I: Source, O: Sink>(
 
 /// The cause of a program whose module ended with this one: where the module stopped, the fault at the position whose number
 /// it gave.
-fn at_place(cause: Cause, sites: &[Pos], sources: &Sources) -> Cause
+pub fn at_place(cause: Cause, sites: &[Pos], sources: &Sources) -> Cause
     ensures of_module { IsOfModule sources.now cause result }
     ensures placed { IsPlaced sources.now cause → IsPlaced sources.now result }
     ensures untouched { ComesBeforeOutput result → ComesBeforeOutput cause }

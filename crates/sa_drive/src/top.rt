@@ -56,7 +56,7 @@ pub fn sather<S: WriteFiles, I: Source, O: Sink, E: Sink>(
     ensures output { Grew (O.output out.old) (O.output out.new) }
     ensures untouched { ComesBeforeOutput result.cause → (out.new ≡ out.old) × (input.new ≡ input.old) }
 {
-    let outcome = obey(alloc, words, store, input, out);
+    let outcome = obey(alloc, words, store, input, out, err);
     let cause = report(alloc, &outcome, err);
     let status = match cause {
         Cause::Done => outcome.done,
@@ -70,12 +70,13 @@ pub fn sather<S: WriteFiles, I: Source, O: Sink, E: Sink>(
 }
 
 /// Does what the words ask for, but for the lines on err.
-fn obey<'a, S: WriteFiles, I: Source, O: Sink>(
+fn obey<'a, S: WriteFiles, I: Source, O: Sink, E: Sink>(
     alloc: Global,
     words: &'a [String],
     store: &mut S,
     input: &mut I,
     out: &mut O,
+    err: &mut E,
 ) -> Outcome<'a>
     ensures obeys { Obeys (outside (part S.files S.faults store.old store.new) (part I.input I.faults input.old input.new)
         (part O.output O.faults out.old out.new)) (line_in (map string_bytes words.now)) result }
@@ -95,16 +96,17 @@ fn obey<'a, S: WriteFiles, I: Source, O: Sink>(
         Err(WordsFault::Usage) => return without_command(alloc, Cause::Usage),
         Err(WordsFault::NoMemory) => return without_command(alloc, Cause::NoMemory),
     };
-    do_command(alloc, command, store, input, out)
+    do_command(alloc, command, store, input, out, err)
 }
 
 /// Does what a command asks for.
-fn do_command<'a, S: WriteFiles, I: Source, O: Sink>(
+fn do_command<'a, S: WriteFiles, I: Source, O: Sink, E: Sink>(
     alloc: Global,
     command: Command<'a>,
     store: &mut S,
     input: &mut I,
     out: &mut O,
+    err: &mut E,
 ) -> Outcome<'a>
     ensures does { Does (outside (part S.files S.faults store.old store.new) (part I.input I.faults input.old input.new)
         (part O.output O.faults out.old out.new)) (line_of command.entry) result }
@@ -120,7 +122,7 @@ fn do_command<'a, S: WriteFiles, I: Source, O: Sink>(
     ensures untouched { ComesBeforeOutput result.cause → (out.new ≡ out.old) × (input.new ≡ input.old) }
 {
     match command {
-        Command::Run(line) => run(alloc, &line, store, input, out),
+        Command::Run(line) => run(alloc, &line, store, input, out, err),
         Command::Build(line) => build(alloc, &line, store),
         Command::Check(line) => check(alloc, &line, store, out),
         Command::Exec(line) => exec(alloc, &line, store, input, out),

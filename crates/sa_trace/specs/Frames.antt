@@ -1,0 +1,1 @@
+-- What a traced module puts: a row of frames.
