@@ -5,7 +5,7 @@ use crate::module::Built;
 use crate::outcome::Outcome;
 use crate::run::at_place;
 use sa_outside::{Sink, Source};
-use sa_trace::run_traced;
+use sa_trace_run::run_traced;
 use sa_tree::Sources;
 use std::alloc::Global;
 

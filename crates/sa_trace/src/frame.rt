@@ -1,19 +1,24 @@
 //! Frames: what a traced module puts.
 
+ghost use Rattle.std.specs.Prelude.{◌≡◌, ◌≢◌, MatchOption};
+ghost use Rattle.sa_trace.specs.Frames.{kind_number};
+ghost use Rattle.sa_trace.specs.Handing.{word};
+ghost use Rattle.sa_trace.specs.declared.frame.Kind.{Kind as Kinds};
+
 use sa_tree::Pos;
 
-/// What became of an instance of an iter.
+/// What becomes of an instance of an iter.
 #[derive(Clone, Copy, Debug, PartialEq, Eq, Hash)]
 pub enum Kind {
     Start,
     Resume,
     Yield,
     Quit,
-    /// It was ended with its loop, or by a raise.
+    /// It is ended with its loop, or by a raise.
     Abandon,
 }
 
-/// Something that became of an instance of an iter.
+/// Something that becomes of an instance of an iter.
 #[derive(Clone, Copy, Debug, PartialEq, Eq, Hash)]
 pub struct Event {
     pub kind: Kind,
@@ -33,7 +38,9 @@ pub enum Frame {
 
 impl Kind {
     /// The kind that a frame tells by this number, if there is one.
-    pub(crate) fn of_number(number: u8) -> Option<Kind> {
+    pub(crate) fn of_number(number: u8) -> Option<Kind>
+        ensures { MatchOption result ((kind : Kinds) → kind_number kind ≢ number) (λ kind. kind_number kind ≡ number) }
+    {
         match number {
             0 => Some(Kind::Start),
             1 => Some(Kind::Resume),
@@ -45,7 +52,9 @@ impl Kind {
     }
 
     /// The word of its lines.
-    pub(crate) fn word(self) -> &'static str {
+    pub(crate) fn word(self) -> &'static str
+        ensures { result.now ≡ word self }
+    {
         match self {
             Kind::Start => "start",
             Kind::Resume => "resume",

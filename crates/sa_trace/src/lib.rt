@@ -4,11 +4,10 @@
 
 mod first_frame;
 mod frame;
-mod hand_on;
 mod line;
 mod parting;
-mod traced_run;
+mod sinks;
 
 pub use frame::{Event, Frame, Kind};
-pub use hand_on::Listening;
-pub use traced_run::{TracedRun, run_traced};
+pub use parting::Parting;
+pub use sinks::{Listening, hand_on};

@@ -1,8 +1,7 @@
 //! The run of a traced module, in stretches: after each one, what the module has handed on is parted into frames.
 
-use crate::hand_on::{Listening, hand_on};
-use crate::parting::Parting;
 use sa_outside::{Outage, Sink, Source, SureSink};
+use sa_trace::{Listening, Parting, hand_on};
 use sa_tree::{Pos, Sources};
 use std::alloc::Global;
 use wa_exec::{Halt, Host, Machine};
