@@ -1,5 +1,16 @@
 //! The run of a traced module, in stretches: after each one, what the module has put is parted into frames, and these are handed on.
 
+ghost use Rattle.std.specs.Prelude.{◌≡◌, ◌≤◌, ℕ, List, [], Some};
+ghost use Rattle.sa_outside.specs.Faults.{Rose};
+ghost use Rattle.sa_outside.specs.Output.{Grew};
+ghost use Rattle.sa_trace.specs.Handing.{sink};
+ghost use Rattle.sa_trace_run.specs.Traced.{AreTold, sinks};
+ghost use Rattle.wa_run.specs.Answers.{IsBeforeRun, IsTold};
+ghost use Rattle.wa_run.specs.Modules.{SaysOfValid};
+ghost use Rattle.wa_run.specs.Runs.{HasRunModule, streams};
+ghost use Rattle.wa_syntax.specs.Runs.{IsLinked, SegmentsFit};
+ghost use Rattle.wa_syntax.specs.ValidModule.{IsValid};
+
 use sa_outside::{Outage, Sink, Source, SureSink};
 use sa_trace::{Listening, Parting, hand_on};
 use sa_tree::{Pos, Sources};
@@ -40,7 +51,22 @@ pub fn run_traced<I: Source, O: Sink, E: Sink>(
     input: &mut I,
     out: &mut O,
     err: &mut E,
-) -> TracedRun {
+) -> TracedRun
+    requires valid { IsValid «module».now }
+    ensures says { SaysOfValid «module».now result.run.answer }
+    ensures told { IsTold result.run.answer (Rose (I.faults input.old) (I.faults input.new)) (Rose (O.faults out.old) (O.faults out.new)) }
+    ensures within { result.run.steps ≤ fuel }
+    ensures output { Grew (O.output out.old) (O.output out.new) }
+    ensures untouched { IsBeforeRun result.run.answer → (out.new ≡ out.old) × (input.new ≡ input.old) × (err.new ≡ err.old) }
+    // The run is that of the standard's machine, with these bytes as its output; they are frames, and out and err took what these say.
+    ensures ran { (framed : List ℕ)
+        × HasRunModule «module».now fuel result.run (streams (I.input input.old) (Some [])) (streams (I.input input.new) (Some framed))
+        × AreTold positions.now sources.now framed (sinks (sink (O.output out.old) (O.faults out.old))
+        (sink (O.output out.new) (O.faults out.new)) (sink (E.output err.old) (E.faults err.old))
+        (sink (E.output err.new) (E.faults err.new)) result.listening) }
+    // A module that is linked and whose segments fit is run.
+    ensures starts { IsLinked «module».now → SegmentsFit «module».now → IsBeforeRun result.run.answer → ⊥ }
+{
     let Ok(host) = Host::new(alloc) else {
         return unrun(Answer::NoMemory);
     };
