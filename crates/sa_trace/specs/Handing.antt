@@ -57,10 +57,10 @@ Hears listening.Yes after old new lines =
     ⊎ (StopsListening after old new × TookFront old.taken new.taken lines)
 Hears before after old new lines = (after ≡ before) × (new.taken ≡ old.taken)
 
--- err takes a front of the lines
+-- err takes a front of the lines, and listens as before unless it failed or had no memory
 abbrev pub HearsPart : (before after : Listening) → (old new : Sink) → (lines : List ℕ) → Type 0
 HearsPart before after old new lines =
-    ((after ≡ before) ⊎ StopsListening after old new) × TookFront old.taken new.taken lines
+    ((after ≡ before) ⊎ StopsListening after old new ⊎ (after ≡ listening.NoMemory)) × TookFront old.taken new.taken lines
 
 -- the frames are handed on: their output to out, and the lines of their events to err
 pub record Hands (sources : Sources) (frames : List Frame) (out_old out_new : Sink) (before after : Listening)

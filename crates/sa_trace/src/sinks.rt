@@ -17,7 +17,7 @@ pub enum Listening {
     Yes,
     /// It has failed, and nothing more is put on it.
     Failed,
-    /// Memory has run out on the way to out and to it, and nothing more is put on it.
+    /// It had no memory, or memory ran out for it where the cause is another, and nothing more is put on it.
     NoMemory,
 }
 
@@ -87,10 +87,14 @@ fn tell<E: Sink>(
         return Err(Outage::NoMemory);
     };
     match err.put(line.as_slice()) {
+        Ok(()) => Ok(()),
         Err(Outage::Failed) => {
             *listening = Listening::Failed;
             Ok(())
         }
-        other => other,
+        Err(Outage::NoMemory) => {
+            *listening = Listening::NoMemory;
+            Err(Outage::NoMemory)
+        }
     }
 }

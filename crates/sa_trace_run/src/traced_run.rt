@@ -63,7 +63,7 @@ pub fn run_traced<I: Source, O: Sink, E: Sink>(
         × HasRunModule «module».now fuel result.run (streams (I.input input.old) (Some [])) (streams (I.input input.new) (Some framed))
         × AreTold positions.now sources.now framed (sinks (sink (O.output out.old) (O.faults out.old))
         (sink (O.output out.new) (O.faults out.new)) (sink (E.output err.old) (E.faults err.old))
-        (sink (E.output err.new) (E.faults err.new)) result.listening) }
+        (sink (E.output err.new) (E.faults err.new)) result.listening) result.run.answer }
     // A module that is linked and whose segments fit is run.
     ensures starts { IsLinked «module».now → SegmentsFit «module».now → IsBeforeRun result.run.answer → ⊥ }
 {
@@ -134,20 +134,24 @@ fn run_stretch<I: Source, O: Sink, E: Sink>(
     let answer = handed_on(answer_of_halt(halt), &mut running.host, &mut buffer);
     match running.hand_on(alloc, buffer.taken(), positions, sources, out, err) {
         Ok(()) => answer,
-        Err(outage) => answer_behind(answer, outage),
-    }
-}
-
-/// The answer of a stretch behind which an outage came. A fault of the input stands, since it came first.
-fn answer_behind(answer: Answer, outage: Outage) -> Answer {
-    match (answer, outage) {
-        (Answer::InFault, _) => Answer::InFault,
-        (_, Outage::Failed) => Answer::OutFault,
-        (_, Outage::NoMemory) => Answer::NoMemory,
+        Err(outage) => running.answer_behind(answer, outage),
     }
 }
 
 impl Running {
+    /// The answer of a stretch behind which an outage came. A fault of the input stands, since it came first.
+    fn answer_behind(&mut self, answer: Answer, outage: Outage) -> Answer {
+        match (answer, outage) {
+            (Answer::InFault, Outage::Failed) => Answer::InFault,
+            (Answer::InFault, Outage::NoMemory) => {
+                self.listening = Listening::NoMemory;
+                Answer::InFault
+            }
+            (_, Outage::Failed) => Answer::OutFault,
+            (_, Outage::NoMemory) => Answer::NoMemory,
+        }
+    }
+
     /// Hands on the frames that end in these bytes.
     fn hand_on<O: Sink, E: Sink>(
         &mut self,
@@ -158,13 +162,9 @@ impl Running {
         out: &mut O,
         err: &mut E,
     ) -> Result<(), Outage> {
-        let handed = match self.parting.part(alloc, bytes, positions, sources) {
-            Ok(frames) => hand_on(alloc, frames.as_slice(), sources, &mut self.listening, out, err),
-            Err(_) => Err(Outage::NoMemory),
+        let Ok(frames) = self.parting.part(alloc, bytes, positions, sources) else {
+            return Err(Outage::NoMemory);
         };
-        if let Err(Outage::NoMemory) = handed {
-            self.listening = Listening::NoMemory;
-        }
-        handed
+        hand_on(alloc, frames.as_slice(), sources, &mut self.listening, out, err)
     }
 }
