@@ -18,7 +18,6 @@ use crate::exec::{Ended, cause_of, done_of};
 use crate::module::Built;
 use crate::outcome::Outcome;
 use crate::place::is_place_in;
-use crate::told::run_told;
 use sa_outside::{ReadFiles, Sink, Source};
 use sa_tree::{FaultKind, Pos, Sources};
 use sa_words::{Run, Trace};
@@ -26,14 +25,13 @@ use std::alloc::Global;
 use wa_run::run_module;
 use wa_valid::Valid;
 
-/// Compiles the program and runs its module.
-pub fn run<'a, S: ReadFiles, I: Source, O: Sink, E: Sink>(
+/// Compiles the program and runs its module, which isn't traced.
+pub fn run<'a, S: ReadFiles, I: Source, O: Sink>(
     alloc: Global,
     line: &Run<'a>,
     store: &mut S,
     input: &mut I,
     out: &mut O,
-    err: &mut E,
 ) -> Outcome<'a>
     ensures does { IsRun (part S.files S.faults store.old store.new) (part I.input I.faults input.old input.new)
         (part O.output O.faults out.old out.new) line.now.fuel (map (λ file. file.now) line.now.files.items) result }
@@ -50,15 +48,11 @@ pub fn run<'a, S: ReadFiles, I: Source, O: Sink, E: Sink>(
         line.files.as_slice(),
         line.contracts,
         line.room,
-        line.trace,
+        Trace::Silent,
     );
-    let built = match module {
-        Ok(built) => built,
-        Err(cause) => return Outcome::without_module(alloc, cause, sources),
-    };
-    match line.trace {
-        Trace::Silent => run_built(alloc, sources, built, line.fuel, line.stats, input, out),
-        Trace::Told => run_told(alloc, sources, built, line.fuel, line.stats, input, out, err),
+    match module {
+        Ok(built) => run_built(alloc, sources, built, line.fuel, line.stats, input, out),
+        Err(cause) => Outcome::without_module(alloc, cause, sources),
     }
 }
 

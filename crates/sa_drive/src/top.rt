@@ -21,8 +21,9 @@ use crate::print::print_generated;
 use crate::report::report;
 use crate::run::run;
 use crate::selftest::selftest;
+use crate::told::run_told;
 use sa_outside::{Sink, Source, WriteFiles};
-use sa_words::{Command, WordsFault, command_of};
+use sa_words::{Command, Trace, WordsFault, command_of};
 use sqlite_items::Items;
 use std::alloc::Global;
 
@@ -122,7 +123,10 @@ fn do_command<'a, S: WriteFiles, I: Source, O: Sink, E: Sink>(
     ensures untouched { ComesBeforeOutput result.cause → (out.new ≡ out.old) × (input.new ≡ input.old) }
 {
     match command {
-        Command::Run(line) => run(alloc, &line, store, input, out, err),
+        Command::Run(line) => match line.trace {
+            Trace::Silent => run(alloc, &line, store, input, out),
+            Trace::Told => run_told(alloc, &line, store, input, out, err),
+        },
         Command::Build(line) => build(alloc, &line, store),
         Command::Check(line) => check(alloc, &line, store, out),
         Command::Exec(line) => exec(alloc, &line, store, input, out),
