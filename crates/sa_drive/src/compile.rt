@@ -104,12 +104,7 @@ fn compile_checked(alloc: Global, checked: Checked, room: u32, trace: Trace) -> 
 }
 
 /// The module of a typed tree, or the cause why there is none.
-fn made(
-    alloc: Global,
-    core: Result<Core, Cause>,
-    room: u32,
-    trace: Trace,
-) -> Result<Built, Cause>
+fn made(alloc: Global, core: Result<Core, Cause>, room: u32, trace: Trace) -> Result<Built, Cause>
     ensures built { IfOk result IsTried }
     ensures made { IfOk result (λ _. IfErr core (λ _. ⊥)) }
     ensures fault { IfErr result (λ cause. (core ≡ Err cause) ⊎ (cause ≡ Cause.NoMemory)) }

@@ -29,7 +29,9 @@ pub fn run_told<'a, S: ReadFiles, I: Source, O: Sink, E: Sink>(
         Trace::Told,
     );
     match module {
-        Ok(built) => run_built_told(alloc, sources, built, line.fuel, line.stats, input, out, err),
+        Ok(built) => run_built_told(
+            alloc, sources, built, line.fuel, line.stats, input, out, err,
+        ),
         Err(cause) => Outcome::without_module(alloc, cause, sources),
     }
 }

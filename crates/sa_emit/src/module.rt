@@ -31,7 +31,11 @@ pub(crate) fn module(
     let mut types = own_types(alloc)?;
     let mut funcs = Items::new(alloc);
     let tracing = program.tracing;
-    add_runtime(&mut types, &mut funcs, code(alloc, memory.base, room, tracing)?)?;
+    add_runtime(
+        &mut types,
+        &mut funcs,
+        code(alloc, memory.base, room, tracing)?,
+    )?;
     add_runtime(&mut types, &mut funcs, support(alloc, tracing)?)?;
     add_frames(alloc, &mut types, &mut funcs, memory, tracing)?;
     add_bodies(alloc, &mut funcs, program)?;

@@ -138,11 +138,7 @@ const ANSWER_STATUS: Part = Sequence(&[
 /// `BOUND_CALL`, of the depth of the activation that calls, the frame to go on with or 0, and the bound value. It answers the
 /// status of a body; the faults of features without one are handed on, and so are those of the depth and of the frames.
 pub(crate) fn bound_call(alloc: Global, tracing: Tracing) -> Result<Func, NoMemory> {
-    let mut body = instructions(
-        alloc,
-        &[READ_BIND, READ_CHOSEN, SPREAD, CALL_BODY],
-        tracing,
-    )?;
+    let mut body = instructions(alloc, &[READ_BIND, READ_CHOSEN, SPREAD, CALL_BODY], tracing)?;
     add_features(alloc, tracing, &mut body)?;
     add_parts(alloc, &[ANSWER_STATUS], tracing, &mut body)?;
     Ok(Func {

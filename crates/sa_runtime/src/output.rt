@@ -45,7 +45,7 @@ pub(crate) const PUT: &[Part] = &[
     Block(&[Loop(&[
         LEAVE_WITHOUT_BYTE,
         Line(&[Get(FROM), Memory(I32_LOAD8_U, 8)]),
-    Put,
+        Put,
         READ_BYTE_ON,
         BYTE_IS_DONE,
         Line(&[Br(0)]),

@@ -56,11 +56,7 @@ pub fn functions(
 }
 
 /// The function.
-pub(crate) fn func(
-    alloc: Global,
-    function: &Function,
-    tracing: Tracing,
-) -> Result<Func, NoMemory> {
+pub(crate) fn func(alloc: Global, function: &Function, tracing: Tracing) -> Result<Func, NoMemory> {
     Ok(Func {
         ty: function.0,
         locals: locals(alloc, function.1)?,

@@ -28,11 +28,7 @@ const HAND_OUT: &[Part] = &[
 ];
 
 /// `ALLOCATE`, where the room ends at this address. No object is so large that the address behind it wraps in 64 bits.
-pub(crate) fn allocate(
-    alloc: Global,
-    room_end: u64,
-    tracing: Tracing,
-) -> Result<Func, NoMemory> {
+pub(crate) fn allocate(alloc: Global, room_end: u64, tracing: Tracing) -> Result<Func, NoMemory> {
     let mut body = Items::new(alloc);
     let object_end = [
         GetGlobal(NEXT_OBJECT),

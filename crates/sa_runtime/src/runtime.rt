@@ -23,12 +23,7 @@ pub struct RuntimeCode {
 
 /// The functions of the 33 built-in features in the order of their numbers, and then `ALLOCATE`. Objects lie from the address
 /// `base` on, a multiple of 8 up to 2,147,483,648, in a room of so many KiB, from 64 to 1,048,576. Fails where memory runs out.
-pub fn code(
-    alloc: Global,
-    base: u32,
-    room: u32,
-    tracing: Tracing,
-) -> Result<RuntimeCode, NoMemory>
+pub fn code(alloc: Global, base: u32, room: u32, tracing: Tracing) -> Result<RuntimeCode, NoMemory>
     ensures { IfOk result (λ code. length code.funcs ≡ 34) }
 {
     let types = types(alloc, &BUILTIN_TYPES)?;

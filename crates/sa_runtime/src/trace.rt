@@ -8,9 +8,7 @@
 //! A start, a resumption and an instance that is ended from outside are told where they stand in the code. How the body of an instance
 //! was left is told by its status.
 
-use crate::layout::{
-    PUT, RAISED, STARTED, STARTING_SITE, TRACED_SITE_AT, TRACED_WORDS,
-};
+use crate::layout::{PUT, RAISED, STARTED, STARTING_SITE, TRACED_SITE_AT, TRACED_WORDS};
 use crate::line::Op::{Call, Do, Get, GetGlobal, I32, I64, Memory, SetGlobal};
 use crate::line::add_line;
 use crate::signatures::{TELLS, TELLS_BYTE};
@@ -108,9 +106,7 @@ pub fn add_outcome(
 ) -> Result<(), NoMemory> {
     match tracing {
         Tracing::Off => Ok(()),
-        Tracing::On(tellers) => {
-            add_line(to, &[Get(frame), Get(status), Call(tellers.outcome)])
-        }
+        Tracing::On(tellers) => { add_line(to, &[Get(frame), Get(status), Call(tellers.outcome)]) }
     }
 }
 

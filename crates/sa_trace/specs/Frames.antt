@@ -1,5 +1,5 @@
 -- What a traced module puts: a row of frames, each a byte of the output or an event.
-use Rattle.std.specs.Prelude.{◌≡◌, ◌<◌, ◌×◌, ⊤, ⊥, ℕ, List, [], ◌∷◌, ◌++◌, length, slice_get, Some}
+use Rattle.std.specs.Prelude.{◌≡◌, ◌<◌, ⊤, ℕ, List, [], ◌∷◌, ◌++◌, length, slice_get, Some}
 use Rattle.std.specs.Int.{from_le_bytes, w32, w64}
 use Rattle.sa_tree.specs.declared.pos.Pos.{Pos}
 use Rattle.sa_tree.specs.declared.pos.Sources.{Sources}

@@ -1,5 +1,6 @@
 -- The lines of events, and what frames make of out and err.
-use Rattle.std.specs.Prelude.{◌≡◌, ◌×◌, ◌⊎◌, ◌+◌, ◌==◌, ℕ, List, [], ◌∷◌, ◌++◌, Option, codes, count_by, decimal, slice_get, take, unwrap_or}
+use Rattle.std.specs.Prelude.{◌≡◌, ◌⊎◌, ◌+◌, ◌==◌, ℕ, List, [], ◌∷◌, ◌++◌, Option}
+use Rattle.std.specs.Prelude.{codes, count_by, decimal, slice_get, take, unwrap_or}
 use Rattle.sa_outside.specs.Faults.{Rose}
 use Rattle.sa_outside.specs.Output.{Took, TookFront}
 use Rattle.sa_tree.specs.declared.pos.Pos.{Pos}

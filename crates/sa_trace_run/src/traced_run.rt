@@ -80,7 +80,16 @@ pub fn run_traced<I: Source, O: Sink, E: Sink>(
         parting: Parting::new(alloc),
         listening: Listening::Yes,
     };
-    let answer = run_on(alloc, &mut running, fuel, positions, sources, input, out, err);
+    let answer = run_on(
+        alloc,
+        &mut running,
+        fuel,
+        positions,
+        sources,
+        input,
+        out,
+        err,
+    );
     TracedRun {
         run: Run {
             answer,
@@ -130,7 +139,9 @@ fn run_stretch<I: Source, O: Sink, E: Sink>(
     err: &mut E,
 ) -> Answer {
     let mut buffer = SureSink::new(alloc);
-    let halt = running.machine.step_until(end, &mut running.host, input, &mut buffer);
+    let halt = running
+        .machine
+        .step_until(end, &mut running.host, input, &mut buffer);
     let answer = handed_on(answer_of_halt(halt), &mut running.host, &mut buffer);
     match running.hand_on(alloc, buffer.taken(), positions, sources, out, err) {
         Ok(()) => answer,
@@ -165,6 +176,13 @@ impl Running {
         let Ok(frames) = self.parting.part(alloc, bytes, positions, sources) else {
             return Err(Outage::NoMemory);
         };
-        hand_on(alloc, frames.as_slice(), sources, &mut self.listening, out, err)
+        hand_on(
+            alloc,
+            frames.as_slice(),
+            sources,
+            &mut self.listening,
+            out,
+            err,
+        )
     }
 }
