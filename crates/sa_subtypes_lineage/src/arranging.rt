@@ -1,6 +1,7 @@
 //! The declared edges are arranged as tables, or a cycle of edges is refused.
 
-ghost use Rattle.std.specs.Prelude.{◌≡◌, IfOk};
+ghost use Rattle.std.specs.Prelude.{◌≡◌, IfErr, IfOk, OnOk};
+ghost use Rattle.sa_subtypes_lineage.specs.Cycles.{HasEdgeIn, HasNoCycle, IsBetween, NamesCycle, RefusesCycle};
 
 use crate::lineage::{Edged, Lineage, Lists, links_of};
 use crate::links::Link;
@@ -10,6 +11,7 @@ use sa_tree::{Class, FrontFault, NoMemory, Rule};
 use std::alloc::Global;
 
 /// The tables of the written edges. E18 where edges form a cycle.
+#[tactic(auto, using(crate::proofs::Between::along))]
 pub fn arranged(
     alloc: Global,
     work: &mut Work,
@@ -17,11 +19,13 @@ pub fn arranged(
     names: Names,
     written: &[Written],
 ) -> Result<Lineage, FrontFault>
-    ensures { IfOk result (λ lineage. lineage.names ≡ names) }
+    ensures names { IfOk result (λ lineage. lineage.names ≡ names) }
+    ensures acyclic { OnOk result (HasNoCycle (IsBetween written.now) classes.now) }
+    ensures cycle { IfErr result (RefusesCycle (IsBetween written.now) classes.now) }
 {
     let mut pairs = Pairs::new(alloc);
     let edges = edges_of(alloc, work, written, &mut pairs)?;
-    let order = order_of(alloc, classes, &names, edges.as_slice())?;
+    let order = order_of(alloc, classes, edges.as_slice())?;
     let rank = rank_of(alloc, order.as_slice())?;
     let (links, lists) = tables_of(
         alloc,
@@ -69,15 +73,14 @@ fn tables_of(
 }
 
 /// The classes, each behind those that it has edges to. E18 where edges form a cycle.
-fn order_of(
-    alloc: Global,
-    classes: &[Class],
-    names: &Names,
-    edges: &[Edge],
-) -> Result<Vec<u32>, FrontFault> {
+#[tactic(auto, using(crate::proofs::Between::ordered))]
+fn order_of(alloc: Global, classes: &[Class], edges: &[Edge]) -> Result<Vec<u32>, FrontFault>
+    ensures acyclic { OnOk result (HasNoCycle (HasEdgeIn edges.now) classes.now) }
+    ensures cycle { IfErr result (RefusesCycle (HasEdgeIn edges.now) classes.now) }
+{
     let starts = lowers(alloc, edges)?;
     let ends = uppers(alloc, edges)?;
-    let graph = Graph::new(alloc, names.classes(), starts, ends)?;
+    let graph = Graph::new(alloc, classes.len(), starts, ends)?;
     let order = graph.order(alloc)?;
     match graph.first_on_cycle(alloc, order.as_slice())? {
         None => Ok(order),
@@ -86,9 +89,11 @@ fn order_of(
 }
 
 /// The refusal at the name of a class that lies on a cycle.
-fn cycle_at(classes: &[Class], number: usize) -> FrontFault {
+fn cycle_at(classes: &[Class], number: usize) -> FrontFault
+    ensures { NamesCycle classes.now number result }
+{
     match classes.get(number) {
-        Some(class) => Rule::SubtypeCycle.at(class.name.pos).into(),
+        Some(class) => FrontFault::Refused(Rule::SubtypeCycle.at(class.name.pos)),
         None => FrontFault::NoMemory,
     }
 }
