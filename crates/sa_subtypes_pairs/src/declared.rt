@@ -81,7 +81,7 @@ fn is_abstract_kind(kind: Kind) -> bool
 
 /// Where a type stands.
 #[tactic(auto, using(crate::proofs::Supertypes::positions))]
-pub fn position(ty: &Ty) -> Pos
+fn position(ty: &Ty) -> Pos
     ensures { result ≡ position_of ty.now }
 {
     match ty {
