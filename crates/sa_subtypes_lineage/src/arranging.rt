@@ -29,12 +29,14 @@ pub fn arranged(
     let mut pairs = Pairs::new(alloc);
     let edges = edges_of(alloc, work, written, &mut pairs)?;
     let order = order_of(alloc, classes, &names, edges.as_slice())?;
+    let rank = rank_of(alloc, order.as_slice())?;
     let (links, lists) = tables_of(
         alloc,
         work,
         &names,
         edges.as_slice(),
         order.as_slice(),
+        rank.as_slice(),
         &mut pairs,
     )?;
     let Lists { lists, above, .. } = lists;
@@ -45,27 +47,28 @@ pub fn arranged(
         links,
         lists,
         above,
+        rank,
     })
 }
 
-/// The trees and the lists.
+/// The trees and the lists, by the order of the classes and the place of each in it.
 fn tables_of(
     alloc: Global,
     work: &mut Work,
     names: &Names,
     edges: &[Edge],
     order: &[u32],
+    rank: &[u32],
     pairs: &mut Pairs,
 ) -> Result<(Vec<Link>, Lists), NoMemory> {
     let lower = lowers(alloc, edges)?;
     let by_lower = Grouped::new(alloc, names.classes(), lower.as_slice())?;
-    let rank = rank_of(alloc, order)?;
     let edged = Edged {
         names,
         edges,
         by_lower: &by_lower,
         order,
-        rank: rank.as_slice(),
+        rank,
     };
     let links = links_of(alloc, pairs, &edged)?;
     let lists = Lists::make(alloc, work, &edged, links.as_slice(), pairs)?;
