@@ -1,4 +1,2 @@
-pub mod Grouped
 pub mod Paths
-pub mod Reached
-pub mod Components
+pub mod Levels

@@ -1,16 +1,12 @@
 //! A graph as its edges, in the order in which they were given and by the node where they begin.
 
-ghost use Rattle.std.specs.Prelude.{◌≡◌, ◌↔◌, ℕ, IfOk, IsTrue, slice_get, true};
-ghost use Rattle.std.proofs.Props.{props};
-ghost use Rattle.sa_graph.specs.Components.{AreClosed};
-ghost use Rattle.sa_graph.specs.Grouped.{group_in, places_of};
-ghost use Rattle.sa_graph.specs.Paths.{HasEdge, IsEdge, IsFirstOnCycle, IsOnCycle, ends_of, node_count, starts_of};
-ghost use Rattle.sa_graph.specs.Reached.{AreReached};
+ghost use Rattle.std.specs.Prelude.{◌≡◌, IfOk, length};
+ghost use Rattle.sa_graph.specs.Paths.{IsFirstOnCycle, ends_of, node_count, starts_of};
 
 use crate::components::Components;
 use crate::grouped::Grouped;
 use crate::list::word;
-use crate::reach::reached_from;
+use crate::reach::edges_of_walk;
 use crate::walk::leaving_order;
 use sa_tree::NoMemory;
 use std::alloc::Global;
@@ -22,7 +18,6 @@ pub struct Graph {
     starts: Vec<u32>,
     ends: Vec<u32>,
     by_start: Grouped,
-    ghost grouped: { (node : ℕ) → group_in by_start node ≡ places_of starts.items node } by { Prim.hlevel props },
 }
 
 impl Graph {
@@ -30,7 +25,7 @@ impl Graph {
     ///
     /// # Errors
     ///
-    /// `NoMemory`, also where an edge begins at no node.
+    /// `NoMemory`, also where an edge begins or ends at no node.
     pub fn new(
         alloc: Global,
         count: usize,
@@ -58,21 +53,33 @@ impl Graph {
     }
 
     /// How many edges there are.
-    pub fn edges(&self) -> usize {
+    pub fn edges(&self) -> usize
+        ensures { result ≡ length (ends_of self.now) }
+    {
         self.ends.len()
     }
 
-    /// The edges that begin at a node, in the order in which they were given.
-    pub fn from(&self, node: u32) -> &[u32]
-        ensures { result.now ≡ places_of (starts_of self.now) node }
+    /// The node at which each edge begins.
+    pub(crate) fn starts(&self) -> &[u32]
+        ensures { result.now ≡ starts_of self.now }
     {
+        self.starts.as_slice()
+    }
+
+    /// The node at which each edge ends.
+    pub(crate) fn ends(&self) -> &[u32]
+        ensures { result.now ≡ ends_of self.now }
+    {
+        self.ends.as_slice()
+    }
+
+    /// The edges that begin at a node, in the order in which they were given.
+    pub fn from(&self, node: u32) -> &[u32] {
         self.by_start.of(node)
     }
 
     /// The node at which an edge ends.
-    pub fn end(&self, edge: u32) -> Option<u32>
-        ensures { result ≡ slice_get (ends_of self.now) edge }
-    {
+    pub fn end(&self, edge: u32) -> Option<u32> {
         self.ends.get(edge as usize).copied()
     }
 
@@ -93,15 +100,11 @@ impl Graph {
     /// `NoMemory`.
     pub fn cyclic(&self, alloc: Global, order: &[u32]) -> Result<Vec<bool>, NoMemory> {
         let components = Components::new(alloc, &self.turned(alloc)?, order)?;
-        let mut cyclic = Vec::new(alloc);
-        for place in 0..self.count {
-            let node = word(place)?;
-            cyclic.push(!components.is_alone(place) || self.has_loop(node))?;
-        }
-        Ok(cyclic)
+        self.cyclic_by(alloc, &components)
     }
 
-    /// The first node that lies on a cycle. `order` is the order of this graph, by which it is found at once.
+    /// The first node that lies on a cycle: one edge or more lead from it to itself. `order` is the order of this graph. The
+    /// answer is found without a proof, and then tried.
     ///
     /// # Errors
     ///
@@ -110,66 +113,50 @@ impl Graph {
         ensures { IfOk result (IsFirstOnCycle self.now) }
     {
         let components = Components::new(alloc, &self.turned(alloc)?, order)?;
-        for place in 0..self.count {
-            if self.is_on_cycle(alloc, &components, word(place)?)? {
-                return Ok(Some(place));
-            }
-        }
-        Ok(None)
+        let levels = components.levels(alloc)?;
+        let Some(node) = self.first_cyclic(alloc, &components)? else {
+            self.try_levels(&levels, self.count)?;
+            return Ok(None);
+        };
+        self.try_levels(&levels, node as usize)?;
+        let edges = edges_of_walk(alloc, self, node)?;
+        self.try_cycle(&edges, node)?;
+        Ok(Some(node as usize))
     }
 
-    /// For each node whether one edge or more lead to it from this one.
-    ///
-    /// # Errors
-    ///
-    /// `NoMemory`.
-    pub fn reached_from(&self, alloc: Global, node: u32) -> Result<Vec<bool>, NoMemory>
-        ensures { IfOk result (λ marks. AreReached (IsEdge self.now) node marks.items) }
-    {
-        reached_from(alloc, self, node)
+    /// For each node whether it lies on a cycle, by the components of the graph.
+    fn cyclic_by(&self, alloc: Global, components: &Components) -> Result<Vec<bool>, NoMemory> {
+        let mut cyclic = Vec::new(alloc);
+        for node in 0..self.count {
+            let together = components.has_others(node);
+            cyclic.push(together || self.has_loop(node))?;
+        }
+        Ok(cyclic)
+    }
+
+    /// The first node that is found to lie on a cycle.
+    fn first_cyclic(&self, alloc: Global, components: &Components) -> Result<Option<u32>, NoMemory> {
+        let cyclic = self.cyclic_by(alloc, components)?;
+        match cyclic.iter().position(|on| *on) {
+            Some(place) => Ok(Some(word(place)?)),
+            None => Ok(None),
+        }
     }
 
     /// The same edges the other way round.
-    ///
-    /// # Errors
-    ///
-    /// `NoMemory`, also where an edge ends at no node.
-    pub fn turned(&self, alloc: Global) -> Result<Graph, NoMemory>
-        ensures count { IfOk result (λ graph. node_count graph ≡ node_count self.now) }
-        ensures starts { IfOk result (λ graph. starts_of graph ≡ ends_of self.now) }
-        ensures ends { IfOk result (λ graph. ends_of graph ≡ starts_of self.now) }
-    {
+    fn turned(&self, alloc: Global) -> Result<Graph, NoMemory> {
         let starts = Vec::from_slice(alloc, self.ends.as_slice())?;
         let ends = Vec::from_slice(alloc, self.starts.as_slice())?;
         Graph::new(alloc, self.count, starts, ends)
     }
 
-    /// Whether a node lies on a cycle. One that has a component of its own does so only by an edge to itself.
-    fn is_on_cycle(
-        &self,
-        alloc: Global,
-        components: &Components,
-        node: u32,
-    ) -> Result<bool, NoMemory>
-        requires { AreClosed (HasEdge (ends_of self.now) (starts_of self.now)) components.now }
-        ensures { IfOk result (λ on. IsTrue on ↔ IsOnCycle self.now node) }
-    {
-        if components.is_alone(node as usize) {
-            return Ok(self.has_loop(node));
-        }
-        let reached = self.reached_from(alloc, node)?;
-        Ok(reached.get(node as usize).copied().unwrap_or(false))
-    }
-
     /// Whether a node has an edge to itself.
-    fn has_loop(&self, node: u32) -> bool
-        ensures { IsTrue result ↔ IsEdge self.now node node }
-    {
-        for edge in self.from(node) {
-            if self.end(*edge) == Some(node) {
-                return true;
-            }
-        }
-        false
+    fn has_loop(&self, node: usize) -> bool {
+        let Ok(node) = u32::try_from(node) else {
+            return false;
+        };
+        self.from(node)
+            .iter()
+            .any(|edge| self.end(*edge) == Some(node))
     }
 }

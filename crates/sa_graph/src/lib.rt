@@ -7,6 +7,7 @@ mod graph;
 mod grouped;
 mod list;
 mod reach;
+mod trial;
 mod walk;
 
 pub use graph::Graph;

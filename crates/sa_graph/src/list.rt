@@ -1,6 +1,6 @@
 //! Places in lists.
 
-ghost use Rattle.std.specs.Prelude.{◌≡◌, ◌<◌, IfOk, OnOk, Some, length, slice_get, slice_set};
+ghost use Rattle.std.specs.Prelude.{◌≡◌, IfOk, Some, slice_get};
 
 use sa_tree::NoMemory;
 
@@ -13,10 +13,7 @@ pub fn entry<T: Copy>(list: &[T], at: usize) -> Result<T, NoMemory>
 }
 
 /// Puts a value at such a place.
-pub fn put<T: Copy + Drop>(list: &mut [T], at: usize, value: T) -> Result<(), NoMemory>
-    ensures within { OnOk result (at < length list.old) }
-    ensures set { OnOk result (list.new ≡ slice_set list.old at value) }
-{
+pub fn put<T: Copy + Drop>(list: &mut [T], at: usize, value: T) -> Result<(), NoMemory> {
     let place = list.get_mut(at).ok_or(NoMemory)?;
     *place = value;
     Ok(())

@@ -1,59 +1,55 @@
-//! The nodes that one node leads to.
-
-ghost use Rattle.std.specs.Prelude.{◌≡◌, ℕ, IfOk, OnOk, true};
-ghost use Rattle.sa_graph.specs.Paths.{IsEdge};
-ghost use Rattle.sa_graph.specs.Reached.{AreReached, Reaches, is_set};
+//! A walk from a node along all edges, with the edge by which each node is reached.
 
 use crate::graph::Graph;
 use crate::list::{entry, put};
-use sa_tree::{NoMemory, held};
+use sa_tree::NoMemory;
 use std::alloc::Global;
-
-/// For each node whether one edge or more lead to it from this one.
-pub(crate) fn reached_from(alloc: Global, graph: &Graph, node: u32) -> Result<Vec<bool>, NoMemory>
-    ensures { IfOk result (λ marks. AreReached (IsEdge graph.now) node marks.items) }
-{
-    let mut reach = Reach {
-        marks: vec![in alloc; false; graph.count()]?,
-        waiting: Vec::new(alloc),
-    };
-    reach.mark_ends(graph, node)?;
-    'walk: while let Some(next) = reach.waiting.pop() {
-        reach.mark_ends(graph, next)?;
-    }
-    let Reach { marks, .. } = reach;
-    Ok(marks)
-}
 
 /// The nodes that are reached, and those of them whose edges aren't followed yet.
 #[derive(Drop)]
 struct Reach {
-    marks: Vec<bool>,
+    /// For each node the edge by which it was reached.
+    edges: Vec<Option<u32>>,
     waiting: Vec<u32>,
 }
 
+/// For each node that one edge or more lead to from this one an edge at which such a way ends: back along these edges the walk
+/// leads to this node. The other nodes have 0.
+pub(crate) fn edges_of_walk(alloc: Global, graph: &Graph, node: u32) -> Result<Vec<u32>, NoMemory> {
+    let mut reach = Reach {
+        edges: vec![in alloc; None; graph.count()]?,
+        waiting: Vec::new(alloc),
+    };
+    reach.follow(graph, node)?;
+    // Each node waits once at most.
+    for _ in 0..graph.count() {
+        let Some(next) = reach.waiting.pop() else {
+            break;
+        };
+        reach.follow(graph, next)?;
+    }
+    let mut edges = Vec::new(alloc);
+    for edge in reach.edges.iter() {
+        edges.push(edge.unwrap_or(0))?;
+    }
+    Ok(edges)
+}
+
 impl Reach {
-    /// Marks the ends of the edges of a node.
-    fn mark_ends(&mut self, graph: &Graph, node: u32) -> Result<(), NoMemory>
-        ensures reaches { OnOk result (Reaches (IsEdge graph.now node) self.old self.new) }
-        ensures ends { OnOk result ((next : ℕ) → IsEdge graph.now node next → is_set self.new.marks.items next ≡ true) }
-    {
+    /// Follows the edges of a node.
+    fn follow(&mut self, graph: &Graph, node: u32) -> Result<(), NoMemory> {
         for edge in graph.from(node) {
-            self.mark(held(graph.end(*edge))?)?;
+            self.reach(graph.end(*edge).ok_or(NoMemory)?, *edge)?;
         }
         Ok(())
     }
 
-    /// Marks a node where it isn't marked yet, and lets it wait.
-    fn mark(&mut self, node: u32) -> Result<(), NoMemory>
-        ensures reaches { OnOk result (Reaches (λ next. next ≡ node) self.old self.new) }
-        ensures marked { OnOk result (is_set self.new.marks.items node ≡ true) }
-    {
-        if entry(&self.marks, node as usize)? {
-            return Ok(());
+    /// Reaches a node by an edge, where it wasn't reached yet.
+    fn reach(&mut self, node: u32, edge: u32) -> Result<(), NoMemory> {
+        if entry(&self.edges, node as usize)?.is_none() {
+            put(&mut self.edges, node as usize, Some(edge))?;
+            self.waiting.push(node)?;
         }
-        put(&mut self.marks, node as usize, true)?;
-        self.waiting.push(node)?;
         Ok(())
     }
 }

@@ -56,3 +56,5 @@ module _ (flat : Flat) (names : Names) (are : AreNamesOf flat.classes names) whe
 
     pub edges-right : None ≡ slice_get (misplaced (kind_of_name names) flat.classes) 0 → HasNoCycle (IsBetween written) flat.classes → AreEdgesRight flat
     edges-right none acyclic = record { supertypes = none-misplaced none; acyclic = none_along (IsBetween written) (ClassEdge flat) forth back flat.classes acyclic }
+
+pub ruleset refusing = (refuses-supertype, refuses-cycle, edges-right)

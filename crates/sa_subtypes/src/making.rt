@@ -24,7 +24,7 @@ impl Edges {
     /// work, or the trial of their tables as many once more: one for each step and eight for each node of a type that is
     /// written. So they do only where they hold parameters many times over or where thousands of classes in a chain change
     /// the arguments.
-    #[tactic(auto, using(crate::proofs::Answering::making))]
+    #[tactic(auto, using(crate::proofs::Answering::making, crate::proofs::Refusing::refusing))]
     pub fn make(alloc: Global, flat: &Flat) -> Result<Edges, FrontFault>
         ensures subtypes { IfOk result (λ edges. AreSubtypesOf flat.now edges) }
         ensures right { OnOk result (AreEdgesRight flat.now) }

@@ -12,14 +12,18 @@ use Rattle.sa_subtypes_pairs.specs.Edges.{ends_written}
 abbrev pub HasNoCycle : (ℕ → ℕ → Type 0) → List Class → Type 0
 HasNoCycle Edge classes = (number : ℕ) → number < length classes → ¬ Leads Edge number number
 
--- the refusal is by the rule of subtypes, at the name of the first class that leads to itself
-pub record RefusesCycle (Edge : ℕ → ℕ → Type 0) (classes : List Class) (refusal : Refusal) : Type 0 where
-  pub number : ℕ
+-- the refusal is by the rule of subtypes, at the name of the class with this number
+pub record IsCycleAt (classes : List Class) (number : ℕ) (refusal : Refusal) : Type 0 where
   pub class : Class
   pub at : slice_get classes number ≡ Some class
+  pub is : refusal ≡ record { rule = rule.SubtypeCycle; pos = class.name.pos }
+
+-- it is that of the first class that leads to itself
+pub record RefusesCycle (Edge : ℕ → ℕ → Type 0) (classes : List Class) (refusal : Refusal) : Type 0 where
+  pub number : ℕ
+  pub at : IsCycleAt classes number refusal
   pub cycle : Leads Edge number number
   pub first : (earlier : ℕ) → earlier < number → ¬ Leads Edge earlier earlier
-  pub is : refusal ≡ record { rule = rule.SubtypeCycle; pos = class.name.pos }
 
 -- one of the edges leads from a class to another
 abbrev pub IsBetween : List Written → ℕ → ℕ → Type 0

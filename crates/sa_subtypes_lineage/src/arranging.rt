@@ -3,17 +3,17 @@
 ghost use Rattle.std.specs.Prelude.{◌≡◌, Err, IfOk, OnOk};
 ghost use Rattle.sa_tree.specs.declared.refusal.FrontFault.TheVariants.{Refused};
 ghost use Rattle.sa_tree.specs.declared.refusal.Refusal.{Refusal};
-ghost use Rattle.sa_subtypes_pairs.specs.Numbers.{AreNamesOf};
-ghost use Rattle.sa_subtypes_lineage.specs.Cycles.{HasEdgeIn, HasNoCycle, IsBetween, RefusesCycle};
+ghost use Rattle.sa_subtypes_lineage.specs.Cycles.{HasEdgeIn, HasNoCycle, IsBetween, IsCycleAt, RefusesCycle};
 
 use crate::lineage::{Edged, Lineage, Lists, links_of};
 use crate::links::Link;
 use sa_graph::{Graph, Grouped, put, word};
 use sa_subtypes_pairs::{Edge, Names, Pairs, Work, Written, edges_of, lowers, uppers};
-use sa_tree::{Class, FrontFault, NoMemory, Rule, held};
+use sa_tree::{Class, FrontFault, NoMemory, Rule};
 use std::alloc::Global;
 
 /// The tables of the written edges. E18 where edges form a cycle.
+#[tactic(auto, using(crate::proofs::Between::none_written, crate::proofs::Between::cycle_written))]
 pub fn arranged(
     alloc: Global,
     work: &mut Work,
@@ -21,14 +21,13 @@ pub fn arranged(
     names: Names,
     written: &[Written],
 ) -> Result<Lineage, FrontFault>
-    requires { AreNamesOf classes.now names }
     ensures names { IfOk result (λ lineage. lineage.names ≡ names) }
     ensures acyclic { OnOk result (HasNoCycle (IsBetween written.now) classes.now) }
     ensures cycle { (refusal : Refusal) → result ≡ Err (Refused refusal) → RefusesCycle (IsBetween written.now) classes.now refusal }
 {
     let mut pairs = Pairs::new(alloc);
     let edges = edges_of(alloc, work, written, &mut pairs)?;
-    let order = order_of(alloc, classes, &names, edges.as_slice())?;
+    let order = order_of(alloc, classes, edges.as_slice())?;
     let rank = rank_of(alloc, order.as_slice())?;
     let (links, lists) = tables_of(
         alloc,
@@ -76,25 +75,29 @@ fn tables_of(
 }
 
 /// The classes, each behind those that it has edges to. E18 where edges form a cycle.
-fn order_of(
-    alloc: Global,
-    classes: &[Class],
-    names: &Names,
-    edges: &[Edge],
-) -> Result<Vec<u32>, FrontFault>
-    requires { AreNamesOf classes.now names.now }
+#[tactic(auto, using(crate::proofs::Between::none_found, crate::proofs::Between::first_found))]
+fn order_of(alloc: Global, classes: &[Class], edges: &[Edge]) -> Result<Vec<u32>, FrontFault>
     ensures acyclic { OnOk result (HasNoCycle (HasEdgeIn edges.now) classes.now) }
     ensures cycle { (refusal : Refusal) → result ≡ Err (Refused refusal) → RefusesCycle (HasEdgeIn edges.now) classes.now refusal }
 {
     let starts = lowers(alloc, edges)?;
     let ends = uppers(alloc, edges)?;
-    let graph = Graph::new(alloc, names.classes(), starts, ends)?;
+    let graph = Graph::new(alloc, classes.len(), starts, ends)?;
     let order = graph.order(alloc)?;
-    let Some(number) = graph.first_on_cycle(alloc, order.as_slice())? else {
-        return Ok(order);
-    };
-    let class = held(classes.get(number))?;
-    Err(Rule::SubtypeCycle.at(class.name.pos).into())
+    match graph.first_on_cycle(alloc, order.as_slice())? {
+        None => Ok(order),
+        Some(number) => Err(cycle_at(classes, number)),
+    }
+}
+
+/// The refusal at the name of a class that lies on a cycle.
+fn cycle_at(classes: &[Class], number: usize) -> FrontFault
+    ensures { (refusal : Refusal) → result ≡ Refused refusal → IsCycleAt classes.now number refusal }
+{
+    match classes.get(number) {
+        Some(class) => Rule::SubtypeCycle.at(class.name.pos).into(),
+        None => FrontFault::NoMemory,
+    }
 }
 
 /// The place of each class in the order.

@@ -2,6 +2,7 @@ pub mod Compositions
 pub mod Declaring
 pub mod Differences
 pub mod Dressed
+pub mod Ends
 pub mod Equal
 pub mod Headers
 pub mod Joins

@@ -4,7 +4,7 @@ ghost use Rattle.std.specs.Prelude.{◌≡◌, IfOk, flat_map, map, slice_get};
 ghost use Rattle.sa_tree.specs.Types.{bare};
 ghost use Rattle.sa_subtypes_pairs.specs.Edges.{ends_of, ends_written};
 ghost use Rattle.sa_subtypes_pairs.specs.Numbers.{kind_of_name};
-ghost use Rattle.sa_subtypes_pairs.specs.Supertypes.{is_abstract_class, misplaced, misplaced_type, position_of};
+ghost use Rattle.sa_subtypes_pairs.specs.Supertypes.{is_abstract_class, is_abstract_kind, misplaced, misplaced_type, position_of};
 
 use crate::names::Names;
 use crate::pair::Pairs;
@@ -27,6 +27,7 @@ pub struct Edge {
 
 /// Where the first type after a `<` stands, in text order, that is no abstract class: a concrete class, a parameter, SAME, a
 /// bound type, or a name that is no class.
+#[tactic(auto, using(crate::proofs::Supertypes::classes_walk))]
 pub fn first_misplaced(classes: &[Class], names: &Names) -> Option<Pos>
     ensures { result ≡ slice_get (misplaced (kind_of_name names.now) classes.now) 0 }
 {
@@ -39,6 +40,7 @@ pub fn first_misplaced(classes: &[Class], names: &Names) -> Option<Pos>
 }
 
 /// The same of the types after one `<`.
+#[tactic(auto, using(crate::proofs::Supertypes::types_walk))]
 fn first_of(types: &[Ty], names: &Names) -> Option<Pos>
     ensures { result ≡ slice_get (flat_map (misplaced_type (kind_of_name names.now)) types.now) 0 }
 {
@@ -56,8 +58,24 @@ fn is_abstract_class(ty: &Ty, names: &Names) -> bool
     ensures { result ≡ is_abstract_class (kind_of_name names.now) (bare ty.now) }
 {
     match ty {
-        Ty::Named(name, _, _) => names.kind_named(name) == Some(Kind::Abstract),
-        _ => false,
+        Ty::Named(name, _, _) => match names.kind_named(name) {
+            Some(kind) => is_abstract_kind(kind),
+            None => false,
+        },
+        Ty::Same(_) => false,
+        Ty::Rout(_, _, _) => false,
+        Ty::Iter(_, _, _) => false,
+    }
+}
+
+fn is_abstract_kind(kind: Kind) -> bool
+    ensures { result ≡ is_abstract_kind kind }
+{
+    match kind {
+        Kind::Reference => false,
+        Kind::Immutable => false,
+        Kind::Abstract => true,
+        Kind::Partial => false,
     }
 }
 
@@ -67,11 +85,15 @@ pub fn position(ty: &Ty) -> Pos
     ensures { result ≡ position_of ty.now }
 {
     match ty {
-        Ty::Named(_, _, pos) | Ty::Same(pos) | Ty::Rout(_, _, pos) | Ty::Iter(_, _, pos) => *pos,
+        Ty::Named(_, _, pos) => *pos,
+        Ty::Same(pos) => *pos,
+        Ty::Rout(_, _, pos) => *pos,
+        Ty::Iter(_, _, pos) => *pos,
     }
 }
 
 /// The written edges with their pairs.
+#[tactic(auto, using(crate::proofs::Ends::ends_more))]
 pub fn edges_of(
     alloc: Global,
     work: &mut Work,
@@ -106,6 +128,7 @@ fn edge_of(
 }
 
 /// The lower class of each edge.
+#[tactic(auto, using(std::proofs::lemmas::List::map_more))]
 pub fn lowers(alloc: Global, edges: &[Edge]) -> Result<Vec<u32>, NoMemory>
     ensures { IfOk result (λ lowers. lowers.items ≡ map (λ e. e.lower) edges.now) }
 {
@@ -117,6 +140,7 @@ pub fn lowers(alloc: Global, edges: &[Edge]) -> Result<Vec<u32>, NoMemory>
 }
 
 /// The upper class of each edge.
+#[tactic(auto, using(std::proofs::lemmas::List::map_more))]
 pub fn uppers(alloc: Global, edges: &[Edge]) -> Result<Vec<u32>, NoMemory>
     ensures { IfOk result (λ uppers. uppers.items ≡ map (λ e. e.upper) edges.now) }
 {
