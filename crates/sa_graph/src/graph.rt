@@ -109,6 +109,7 @@ impl Graph {
     /// # Errors
     ///
     /// `NoMemory`.
+    #[tactic(auto, using(crate::proofs::Trials::first_is))]
     pub fn first_on_cycle(&self, alloc: Global, order: &[u32]) -> Result<Option<usize>, NoMemory>
         ensures { IfOk result (IsFirstOnCycle self.now) }
     {
