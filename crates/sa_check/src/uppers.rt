@@ -45,7 +45,10 @@ pub(crate) fn class_types_above(
 }
 
 /// The numbers of the abstract types that are above every type, rising.
-pub(crate) fn types_above_all(alloc: Global, program: &Program<'_>) -> Result<Items<u32>, NoMemory> {
+pub(crate) fn types_above_all(
+    alloc: Global,
+    program: &Program<'_>,
+) -> Result<Items<u32>, NoMemory> {
     let Uppers { tops, .. } = uppers_of(alloc, program)?;
     Ok(Items::from_vec(tops))
 }
@@ -62,7 +65,9 @@ fn uppers_of(alloc: Global, program: &Program<'_>) -> Result<Uppers, NoMemory> {
             uppers.add(program, number)?;
         }
     }
-    uppers.others.sort_unstable_by_key(|upper| (upper.rank, upper.number));
+    uppers
+        .others
+        .sort_unstable_by_key(|upper| (upper.rank, upper.number));
     Ok(uppers)
 }
 
@@ -95,9 +100,7 @@ impl Uppers {
             return Ok(found);
         };
         for place in (0..self.above.len()).rev() {
-            if self.is_asked(place, rank, found.as_slice())
-                && self.is_below(program, ty, place)?
-            {
+            if self.is_asked(place, rank, found.as_slice()) && self.is_below(program, ty, place)? {
                 let above = held(self.above.get(place))?;
                 add_found(found.as_mut_slice(), place, above.as_slice());
             }

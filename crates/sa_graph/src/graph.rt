@@ -136,7 +136,11 @@ impl Graph {
     }
 
     /// The first node that is found to lie on a cycle.
-    fn first_cyclic(&self, alloc: Global, components: &Components) -> Result<Option<u32>, NoMemory> {
+    fn first_cyclic(
+        &self,
+        alloc: Global,
+        components: &Components,
+    ) -> Result<Option<u32>, NoMemory> {
         let cyclic = self.cyclic_by(alloc, components)?;
         match cyclic.iter().position(|on| *on) {
             Some(place) => Ok(Some(word(place)?)),

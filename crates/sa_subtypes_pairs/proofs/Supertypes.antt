@@ -54,5 +54,6 @@ module _ (kind : List ℕ → Option Kind) where
   pub classes_nowhere : (classes : List Class) (i : ℕ) → length classes ≤ i → slice_get (misplaced kind (drop i classes)) 0 ≡ None
   classes_nowhere = first_nowhere in_class
 
-  pub ruleset types_walk = (types_here, types_later, types_nowhere)
-  pub ruleset classes_walk = (classes_here, classes_later, classes_nowhere)
+pub ruleset types_walk = (types_here, types_later, types_nowhere)
+
+pub ruleset classes_walk = (classes_here, classes_later, classes_nowhere)
