@@ -2,13 +2,10 @@
 //! another class only where edges lead from class to class, and it is below all that are above a type that it is below. So the
 //! types are asked in an order in which each stands behind those above it, the nearest first, and what is known isn't asked again.
 
-use sa_check_program::Program;
+use sa_check_program::{OB, Program};
 use sa_tree::{NoMemory, Ty, held};
 use sqlite_items::Items;
 use std::alloc::Global;
-
-/// The number of `$OB`, which is above every type.
-const OB: u32 = 0;
 
 /// An abstract type by its number, and the rank of its class: each class has a greater one than those above it.
 #[derive(Clone, Copy)]
