@@ -1,6 +1,6 @@
 use Rattle.std.proofs.Common.{ℕ, ◌<◌}
 use Rattle.sa_graph.specs.Reaching.{IsClosedAt, IsOnWay}
-use Rattle.sa_graph.proofs.trial.Graph.try_ways.Given as goal
+use Rattle.sa_graph.proofs.graph.Graph.try_ways.Given as goal
 
 abbrev pub invariant-loop-place : goal.invariant-loop-place
 invariant-loop-place l = (k : ℕ) → k < l.place → IsClosedAt l.self l.ways.marks.items k

@@ -1,6 +1,6 @@
 use Rattle.std.proofs.Common.{arith}
 use Rattle.sa_graph.proofs.Trials.{none_before}
-use Rattle.sa_graph.proofs.trial.Graph.try_levels.Goals as goal
+use Rattle.sa_graph.proofs.graph.Graph.try_levels.Goals as goal
 
 pub returns : goal.returns
 returns c =
