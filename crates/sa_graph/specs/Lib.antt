@@ -1,0 +1,4 @@
+pub mod Grouped
+pub mod Paths
+pub mod Reached
+pub mod Components

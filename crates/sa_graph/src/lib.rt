@@ -6,6 +6,7 @@ mod components;
 mod graph;
 mod grouped;
 mod list;
+mod reach;
 mod walk;
 
 pub use graph::Graph;

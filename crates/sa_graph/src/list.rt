@@ -1,17 +1,22 @@
 //! Places in lists.
 
-ghost use Rattle.std.specs.Prelude.{◌≡◌, IfOk};
+ghost use Rattle.std.specs.Prelude.{◌≡◌, ◌<◌, IfOk, OnOk, Some, length, slice_get, slice_set};
 
 use sa_tree::NoMemory;
 
 /// What a list holds at a place where it holds something. That it does is known to the writer and not to a proof, so
 /// another place is answered as want of memory.
-pub fn entry<T: Copy>(list: &[T], at: usize) -> Result<T, NoMemory> {
+pub fn entry<T: Copy>(list: &[T], at: usize) -> Result<T, NoMemory>
+    ensures { IfOk result (λ value. slice_get list.now at ≡ Some value) }
+{
     list.get(at).copied().ok_or(NoMemory)
 }
 
 /// Puts a value at such a place.
-pub fn put<T: Copy + Drop>(list: &mut [T], at: usize, value: T) -> Result<(), NoMemory> {
+pub fn put<T: Copy + Drop>(list: &mut [T], at: usize, value: T) -> Result<(), NoMemory>
+    ensures within { OnOk result (at < length list.old) }
+    ensures set { OnOk result (list.new ≡ slice_set list.old at value) }
+{
     let place = list.get_mut(at).ok_or(NoMemory)?;
     *place = value;
     Ok(())

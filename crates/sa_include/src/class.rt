@@ -1,12 +1,17 @@
 //! The features of one class, from those of the classes that it includes and its own, and its first refusal: two features
 //! that it writes conflict (E11), two that its includes bring do or both have an array part (E17), or a stub is left.
 
+ghost use Rattle.std.specs.Prelude.{◌≡◌, IfOk, None, Some, slice_get};
+ghost use Rattle.std.specs.List.{items_where_true};
+ghost use Rattle.sa_tree.specs.declared.class.Class.{Class};
+ghost use Rattle.sa_include.specs.Resolved.{IsJudged, IsNothing, IsResolved};
+
 use crate::clause::{Gathered, gather};
 use crate::resolved::{Flattened, Program};
 use crate::substitute::Maker;
 use sa_graph::entry;
 use sa_include_conflicts::{
-    ClassFeatures, Conflicts, first_conflict, group_features, is_set, item, staying, stub_left,
+    ClassFeatures, Stays, group_features, is_set, item, staying, stub_left,
 };
 use sa_tree::{Class, Feature, Kind, NoMemory, Pos, Refusal, Rule, Ty};
 use sqlite_items::Items;
@@ -19,18 +24,22 @@ pub(crate) fn flatten_class(
     resolved: &[Flattened],
     maker: &mut Maker<'_>,
     number: u32,
-) -> Result<Flattened, NoMemory> {
+) -> Result<Flattened, NoMemory>
+    ensures { (c : Class) → slice_get program.now.classes.now number ≡ Some c → IfOk result (IsResolved c) }
+{
     let class = item(program.classes, number as usize)?;
     let gathered = gather(alloc, program, resolved, maker, number)?;
-    let arrays = program.includes.second_with_array(number);
+    let arrays = program
+        .includes
+        .second_with_array(class.includes.as_slice());
     let judged = judge(alloc, class, &gathered, arrays)?;
     kept(alloc, gathered, judged)
 }
 
-/// Which features of a class stay, by their places, and its first refusal.
+/// Which features of a class stay, and its first refusal.
 #[derive(Drop)]
 struct Judged {
-    stays: Vec<bool>,
+    staying: Stays,
     refusal: Option<Refusal>,
 }
 
@@ -41,46 +50,63 @@ fn judge(
     class: &Class,
     gathered: &Gathered,
     arrays: Option<usize>,
-) -> Result<Judged, NoMemory> {
+) -> Result<Judged, NoMemory>
+    ensures { IfOk result (IsJudged class.now gathered.now.features.items) }
+{
     let features = ClassFeatures {
         brought: gathered.features.as_slice(),
         written: class.features.as_slice(),
         immutable: class.kind == Kind::Immutable,
     };
     let conflicts = group_features(alloc, &features)?;
-    let stays = staying(alloc, &features, &conflicts)?;
-    if gathered.refusal.is_some() {
-        let refusal = gathered.refusal;
-        return Ok(Judged { stays, refusal });
-    }
-    let refusal = written_refused(alloc, &features, &conflicts, &stays)?;
-    if refusal.is_some() {
-        return Ok(Judged { stays, refusal });
-    }
-    let last = features.brought.len();
-    let conflict = first_conflict(alloc, &conflicts, &stays, 0, last)?;
-    let clause = refused_clause(&gathered.clauses, conflict, arrays)?;
-    let refusal = clause_refused(class, clause)?;
-    if refusal.is_some() {
-        return Ok(Judged { stays, refusal });
-    }
-    let refusal = stub_left(class.kind, &features, &stays)?;
-    Ok(Judged { stays, refusal })
+    let staying = staying(alloc, &features, &conflicts)?;
+    let found = Found {
+        written: conflicts.first_written(alloc, &staying)?,
+        brought: conflicts.first_brought(alloc, &staying)?,
+        arrays,
+        stub: stub_left(class.kind, &features, &staying),
+    };
+    let refusal = refusal_of(class, gathered, &found)?;
+    Ok(Judged { staying, refusal })
 }
 
-/// The refusal of the first written feature that conflicts with an earlier one.
-fn written_refused(
-    alloc: Global,
-    features: &ClassFeatures<'_>,
-    conflicts: &Conflicts,
-    stays: &[bool],
-) -> Result<Option<Refusal>, NoMemory> {
-    let first = features.brought.len();
-    let Some(place) = first_conflict(alloc, conflicts, stays, first, features.len())? else {
-        return Ok(None);
-    };
-    let pos = features.at(place)?.name.pos;
-    Ok(Some(Rule::FeaturesConflict.at(pos)))
+/// What is found of the features of a class.
+#[derive(Clone, Copy)]
+struct Found {
+    /// The place of the first written feature that conflicts with an earlier one.
+    written: Option<usize>,
+    /// The place of the first brought feature that does.
+    brought: Option<usize>,
+    /// The second include clause with an array part.
+    arrays: Option<usize>,
+    /// Where a stub is left.
+    stub: Option<Pos>,
+}
+
+/// The refusal of a class by what is found of its features: that of a change first, then E11 at the name of the later
+/// written feature, E17 at the type of the include clause, and E22 at the name of the stub.
+fn refusal_of(
+    class: &Class,
+    gathered: &Gathered,
+    found: &Found,
+) -> Result<Option<Refusal>, NoMemory>
+    ensures { IfOk result (λ refusal. refusal ≡ None → IsNothing found.now) }
+{
+    if gathered.refusal.is_some() {
+        return Ok(gathered.refusal);
+    }
+    if let Some(place) = found.written {
+        let feature = item(class.features.as_slice(), place)?;
+        return Ok(Some(Rule::FeaturesConflict.at(feature.name.pos)));
+    }
+    if let Some(clause) = refused_clause(&gathered.clauses, found.brought, found.arrays)? {
+        let include = item(class.includes.as_slice(), clause)?;
+        return Ok(Some(Rule::IncludedFeaturesConflict.at(pos_of(&include.ty))));
+    }
+    match found.stub {
+        Some(pos) => Ok(Some(Rule::StubLeft.at(pos))),
+        None => Ok(None),
+    }
 }
 
 /// The first include clause that is refused: the one that brings the first brought feature that conflicts with an earlier
@@ -89,7 +115,9 @@ fn refused_clause(
     clauses: &[usize],
     conflict: Option<usize>,
     arrays: Option<usize>,
-) -> Result<Option<usize>, NoMemory> {
+) -> Result<Option<usize>, NoMemory>
+    ensures { IfOk result (λ clause. clause ≡ None → (conflict ≡ None) × (arrays ≡ None)) }
+{
     let Some(place) = conflict else {
         return Ok(arrays);
     };
@@ -98,15 +126,6 @@ fn refused_clause(
         Some(second) => Ok(Some(clause.min(second))),
         None => Ok(Some(clause)),
     }
-}
-
-/// The refusal of an include clause at its type.
-fn clause_refused(class: &Class, clause: Option<usize>) -> Result<Option<Refusal>, NoMemory> {
-    let Some(clause) = clause else {
-        return Ok(None);
-    };
-    let include = item(class.includes.as_slice(), clause)?;
-    Ok(Some(Rule::IncludedFeaturesConflict.at(pos_of(&include.ty))))
 }
 
 fn pos_of(ty: &Ty) -> Pos {
@@ -119,15 +138,17 @@ fn pos_of(ty: &Ty) -> Pos {
 }
 
 /// What stays of the features of a class.
-fn kept(alloc: Global, gathered: Gathered, judged: Judged) -> Result<Flattened, NoMemory> {
+fn kept(alloc: Global, gathered: Gathered, judged: Judged) -> Result<Flattened, NoMemory>
+    ensures brought { IfOk result (λ flattened. flattened.brought ≡ items_where_true judged.staying.brought.items gathered.features.items) }
+    ensures stays { IfOk result (λ flattened. flattened.stays.items ≡ judged.staying.written.items) }
+    ensures refusal { IfOk result (λ flattened. flattened.refusal ≡ judged.refusal) }
+{
     let Gathered { features, open, .. } = gathered;
-    let Judged { stays, refusal } = judged;
-    let written = marks_from(alloc, &stays, features.len())?;
-    let open = marks_of_staying(alloc, &stays, &open)?;
-    let brought = features_that_stay(alloc, features, &stays)?;
+    let Judged { staying, refusal } = judged;
+    let Stays { brought, written } = staying;
     Ok(Flattened {
-        brought,
-        open,
+        open: marks_of_staying(alloc, &brought, &open)?,
+        brought: features_that_stay(alloc, features, &brought)?,
         stays: written,
         refusal,
         done: true,
@@ -138,13 +159,12 @@ fn features_that_stay(
     alloc: Global,
     features: Vec<Feature>,
     stays: &[bool],
-) -> Result<Items<Feature>, AllocError> {
+) -> Result<Items<Feature>, AllocError>
+    ensures { IfOk result (λ kept. kept ≡ items_where_true stays.now features.items) }
+{
     let mut rest = features;
     let mut last_first = Vec::new(alloc);
-    for _ in 0..rest.len() {
-        let Some(feature) = rest.pop() else {
-            break;
-        };
+    'features: while let Some(feature) = rest.pop() {
         if is_set(stays, rest.len()) {
             last_first.push(feature)?;
         }
@@ -166,13 +186,4 @@ fn marks_of_staying(
         }
     }
     Ok(kept)
-}
-
-/// The marks from a place on.
-fn marks_from(alloc: Global, marks: &[bool], from: usize) -> Result<Vec<bool>, AllocError> {
-    let mut rest = Vec::new(alloc);
-    for place in from..marks.len() {
-        rest.push(is_set(marks, place))?;
-    }
-    Ok(rest)
 }

@@ -1,7 +1,10 @@
 //! The classes of a program with their features flattened.
 
-ghost use Rattle.std.specs.Prelude.{IfOk};
+ghost use Rattle.std.specs.Prelude.{◌≡◌, ◌≢◌, IfOk, None, OnOk, Some, false, slice_get, slice_set};
+ghost use Rattle.std.specs.List.{AllZip};
 ghost use Rattle.sa_include.specs.Flattened.{AreFlattened};
+ghost use Rattle.sa_include.specs.Resolved.{AreAcceptedUpTo, AreResolved, IsAccepted};
+ghost use Rattle.sa_include.specs.declared.resolved.Flattened.{Flattened};
 
 use crate::budget::Budget;
 use crate::class::flatten_class;
@@ -44,7 +47,9 @@ fn resolved(
     alloc: Global,
     classes: &[Class],
     includes: &Includes,
-) -> Result<Vec<Flattened>, FrontFault> {
+) -> Result<Vec<Flattened>, FrontFault>
+    ensures { IfOk result (λ resolved. AllZip IsAccepted classes.now resolved.items) }
+{
     let params = all_params(alloc, classes)?;
     let open = open_in_all(alloc, classes, &params)?;
     let program = Program {
@@ -69,28 +74,42 @@ fn resolve(
     alloc: Global,
     program: &Program<'_>,
     maker: &mut Maker<'_>,
-) -> Result<Vec<Flattened>, FrontFault> {
-    let mut resolved = unresolved(alloc, program.classes.len())?;
+) -> Result<Vec<Flattened>, FrontFault>
+    ensures { IfOk result (λ resolved. AllZip IsAccepted program.now.classes.now resolved.items) }
+{
+    let mut resolved = unresolved(alloc, program.classes)?;
     let mut accepted = 0;
     for number in program.includes.order() {
         let flattened = flatten_class(alloc, program, resolved.as_slice(), maker, *number)?;
         keep(&mut resolved, *number as usize, flattened)?;
         accepted = accepted_up_to(resolved.as_slice(), accepted)?;
     }
+    // The order has each class, so that all of them are gone through.
+    if accepted < resolved.len() {
+        return Err(FrontFault::NoMemory);
+    }
     Ok(resolved)
 }
 
-fn unresolved(alloc: Global, classes: usize) -> Result<Vec<Flattened>, NoMemory> {
+fn unresolved(alloc: Global, classes: &[Class]) -> Result<Vec<Flattened>, NoMemory>
+    ensures { IfOk result (λ resolved. AreResolved classes.now resolved.items) }
+{
     let mut list = Vec::new(alloc);
-    for _ in 0..classes {
+    'classes: while list.len() < classes.len() {
         list.push(Flattened::none(alloc))?;
     }
     Ok(list)
 }
 
-/// Puts a class at its place, which is there.
-fn keep(resolved: &mut [Flattened], at: usize, flattened: Flattened) -> Result<(), NoMemory> {
+/// Puts a class at its place, which is there and isn't gone through yet.
+fn keep(resolved: &mut [Flattened], at: usize, flattened: Flattened) -> Result<(), NoMemory>
+    ensures new { OnOk result ((slice_get resolved.old at ≢ None) × (resolved.new ≡ slice_set resolved.old at flattened)) }
+    ensures before { OnOk result ((old : Flattened) → slice_get resolved.old at ≡ Some old → old.done ≡ false) }
+{
     let place = held(resolved.get_mut(at))?;
+    if place.done {
+        return Err(NoMemory);
+    }
     *place = flattened;
     Ok(())
 }
@@ -127,7 +146,10 @@ fn open_in(alloc: Global, features: &[Feature], params: &Weights) -> Result<Vec<
 
 /// The number of the first class from this one on that isn't gone through, or how many classes there are. The first class
 /// before it that has a refusal is refused.
-fn accepted_up_to(resolved: &[Flattened], from: usize) -> Result<usize, FrontFault> {
+fn accepted_up_to(resolved: &[Flattened], from: usize) -> Result<usize, FrontFault>
+    requires { AreAcceptedUpTo from resolved.now }
+    ensures { IfOk result (λ number. AreAcceptedUpTo number resolved.now) }
+{
     for number in from..resolved.len() {
         let flattened = item(resolved, number)?;
         if let Some(refusal) = flattened.refusal {
@@ -146,6 +168,7 @@ fn whole_classes(
     classes: &[Class],
     resolved: Vec<Flattened>,
 ) -> Result<Items<Class>, NoMemory>
+    requires { AllZip IsAccepted classes.now resolved.items }
     ensures { IfOk result (λ whole. AreFlattened classes.now whole) }
 {
     let mut last_first = resolved;

@@ -1,5 +1,7 @@
 //! The classes of a program while their includes are gone through.
 
+ghost use Rattle.std.specs.Prelude.{◌≡◌, false};
+
 use sa_include_names::Includes;
 use sa_tree::{Class, Feature, Refusal};
 use sqlite_items::Items;
@@ -22,7 +24,9 @@ pub(crate) struct Flattened {
 
 impl Flattened {
     /// What stands for a class until it is gone through.
-    pub(crate) fn none(alloc: Global) -> Flattened {
+    pub(crate) fn none(alloc: Global) -> Flattened
+        ensures { result.done ≡ false }
+    {
         Flattened {
             brought: Items::new(alloc),
             open: Vec::new(alloc),

@@ -1,8 +1,8 @@
-//! How many forms a tree has: its statements, expressions, declared locals and types, each with those inside it, and one
-//! more for each 16 bytes of a name or a text. A type that is a parameter counts as many as the type that is put in its
-//! place.
+//! How many forms a tree has: its statements, expressions, declared locals and types, each with those inside it. Names and
+//! texts aren't counted, since copies share their bytes. A type that is a parameter counts as many as the type that is put
+//! in its place.
 
-use crate::weights::{Size, Weights, size_of_bytes};
+use crate::weights::{Size, Weights};
 use sa_tree::{Arm, CaseArm, Expr, Formal, Given, Local, ModeTy, Part, Recv, Stmt, Ty, TypeArm};
 use sqlite_items::Boxed;
 
@@ -14,8 +14,7 @@ pub(crate) fn size_of_type(ty: &Ty, weights: &Weights) -> Size {
             if given.is_empty() {
                 return weights.size_of_name(name);
             }
-            let inside = size_of_types(given.as_slice(), weights);
-            Size::ONE.plus(size_of_bytes(name)).plus(inside)
+            Size::ONE.plus(size_of_types(given.as_slice(), weights))
         }
         Ty::Same(_) => Size::ONE,
         Ty::Rout(args, result, _) => {
@@ -65,23 +64,16 @@ pub(crate) fn size_of_optional_type(ty: &Option<Ty>, weights: &Weights) -> Size 
 pub(crate) fn size_of_formals(formals: &[Formal], weights: &Weights) -> Size {
     let mut size = Size::ZERO;
     for formal in formals {
-        size = size
-            .plus(size_of_local(&formal.local))
-            .plus(size_of_type(&formal.ty, weights));
+        size = size.plus(Size::ONE).plus(size_of_type(&formal.ty, weights));
     }
     size
-}
-
-fn size_of_local(local: &Local) -> Size {
-    Size::ONE.plus(size_of_bytes(&local.name))
 }
 
 fn size_of_locals(locals: &[Local]) -> Size {
-    let mut size = Size::ZERO;
-    for local in locals {
-        size = size.plus(size_of_local(local));
+    Size {
+        forms: locals.len() as u64,
+        has_params: false,
     }
-    size
 }
 
 /// The size of what a feature starts with: the value of a shared or of a constant.
@@ -103,7 +95,7 @@ fn size_of_expr(e: &Expr, weights: &Weights) -> Size {
         Expr::Me(_) => Size::ONE,
         Expr::Void(_) => Size::ONE,
         Expr::Exception(_) => Size::ONE,
-        Expr::Text(text, _) => Size::ONE.plus(size_of_bytes(text)),
+        Expr::Text(_, _) => Size::ONE,
         Expr::IsVoid(tested, _) => Size::ONE.plus(size_of_expr(tested.get(), weights)),
         Expr::Unary(_, of, _) => Size::ONE.plus(size_of_expr(of.get(), weights)),
         Expr::Bind(call, _) => Size::ONE.plus(size_of_expr(call.get(), weights)),
@@ -115,10 +107,11 @@ fn size_of_expr(e: &Expr, weights: &Weights) -> Size {
                 .plus(given)
         }
         Expr::Items(list, _) => Size::ONE.plus(size_of_exprs(list.as_slice(), weights)),
-        Expr::Call(on, name, given, _) => {
+        Expr::Call(on, _, given, _) => {
             let on = size_of_recv(on, weights);
-            let given = size_of_givens(given.as_slice(), weights);
-            Size::ONE.plus(size_of_bytes(name)).plus(on).plus(given)
+            Size::ONE
+                .plus(on)
+                .plus(size_of_givens(given.as_slice(), weights))
         }
         Expr::Binary(_, left, right, _) => {
             let left = size_of_expr(left.get(), weights);
@@ -215,9 +208,9 @@ fn size_of_stmt(stmt: &Stmt, weights: &Weights) -> Size {
                 None => size,
             }
         }
-        Stmt::TypeCase(tested, arms, rest, _) => {
+        Stmt::TypeCase(_, arms, rest, _) => {
             let arms = size_of_type_arms(arms.as_slice(), weights);
-            let size = Size::ONE.plus(size_of_local(tested)).plus(arms);
+            let size = Size::ONE.plus(Size::ONE).plus(arms);
             match rest {
                 Some(rest) => size.plus(size_of_stmts(rest.as_slice(), weights)),
                 None => size,

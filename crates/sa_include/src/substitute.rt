@@ -1,11 +1,17 @@
 //! What an included feature is in the including class: types with the given ones in place of the included class's parameters,
 //! and statements that are shared where nothing in them changes.
 
+ghost use Rattle.std.specs.Prelude.{◌≡◌, IfOk};
+ghost use Rattle.std.specs.Option.{option_map};
+ghost use Rattle.sa_types.specs.Table.{put_in};
+ghost use Rattle.sa_instance.specs.Trees.{expr_with};
+ghost use Rattle.sa_include.specs.Parts.{part_with};
+
 use crate::budget::{Budget, FEATURE_FORMS};
 use crate::size::{
     size_of_formals, size_of_optional_type, size_of_stmts, size_of_type, size_of_value,
 };
-use crate::weights::{Weights, size_of_bytes};
+use crate::weights::Weights;
 use sa_instance::{subst_expr, subst_stmts};
 use sa_tree::{
     Access, Body, Expr, Feature, Formal, Local, Name, NoMemory, Param, Part, Shared, Ty,
@@ -84,12 +90,12 @@ pub(crate) fn is_open(feature: &Feature, params: &Weights) -> bool {
     }
 }
 
-/// The forms of an included feature without its statements, with its name in the including class.
-fn forms_of_head(feature: &Feature, name: &Name, weights: &Weights) -> u64 {
+/// The forms of an included feature without its statements.
+fn forms_of_head(feature: &Feature, weights: &Weights) -> u64 {
     let formals = size_of_formals(feature.formals.as_slice(), weights);
     let result = size_of_optional_type(&feature.result, weights);
     let value = size_of_value(&feature.part, weights);
-    let head = size_of_bytes(name).plus(formals).plus(result).plus(value);
+    let head = formals.plus(result).plus(value);
     head.forms.saturating_add(FEATURE_FORMS)
 }
 
@@ -137,7 +143,7 @@ impl<'a> Maker<'a> {
         arguments: &TypeArguments<'_>,
     ) -> Result<Included, NoMemory> {
         self.budget
-            .take(forms_of_head(feature, &renamed.name, &arguments.weights))?;
+            .take(forms_of_head(feature, &arguments.weights))?;
         let IncludedPart { part, open } = self.part(alloc, &feature.part, open, arguments)?;
         let feature = with_part(alloc, feature, renamed, part, &arguments.by)?;
         Ok(Included { feature, open })
@@ -210,7 +216,9 @@ pub(crate) fn subst_part(
     alloc: Global,
     part: &Part,
     by: &Substitution<'_>,
-) -> Result<Part, NoMemory> {
+) -> Result<Part, NoMemory>
+    ensures { IfOk result (λ copy. copy ≡ part_with (put_in by.now) part.now) }
+{
     match part {
         Part::Routine(body) => Ok(Part::Routine(body.share()?)),
         Part::Signature => Ok(Part::Signature),
@@ -229,7 +237,9 @@ fn subst_optional_expr(
     alloc: Global,
     e: &Option<Expr>,
     by: &Substitution<'_>,
-) -> Result<Option<Expr>, NoMemory> {
+) -> Result<Option<Expr>, NoMemory>
+    ensures { IfOk result (λ copy. copy ≡ option_map (expr_with (put_in by.now)) e.now) }
+{
     match e {
         None => Ok(None),
         Some(e) => Ok(Some(subst_expr(alloc, e, by)?)),

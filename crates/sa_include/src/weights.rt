@@ -31,14 +31,6 @@ impl Size {
     }
 }
 
-/// What the bytes of a name or a text count besides the form that it belongs to.
-pub(crate) fn size_of_bytes(name: &Name) -> Size {
-    Size {
-        forms: (name.as_slice().len() / 16) as u64,
-        has_params: false,
-    }
-}
-
 /// Names of parameters, and how many forms stand for each.
 #[derive(Drop)]
 pub(crate) struct Weights {
@@ -77,7 +69,7 @@ impl Weights {
                 forms,
                 has_params: true,
             },
-            None => Size::ONE.plus(size_of_bytes(name)),
+            None => Size::ONE,
         }
     }
 }

@@ -1,14 +1,15 @@
-//! A class without its includes: its header, the features that its includes bring, and those that it writes itself, but for
-//! its stubs that are replaced.
+//! A class without its includes: its header, the features that its includes bring and that stay, and those that it writes
+//! itself and that stay.
 
-ghost use Rattle.std.specs.Prelude.{◌≡◌, IfOk, IsTrue};
-ghost use Rattle.std.specs.List.{All};
-ghost use Rattle.sa_include_conflicts.specs.Stub.{is_stub_part};
-ghost use Rattle.sa_include.specs.Flattened.{IsFlattened, Wins, head_of};
+ghost use Rattle.std.specs.Prelude.{◌≡◌, ◌++◌, IfOk};
+ghost use Rattle.std.specs.List.{items_where_true};
+ghost use Rattle.sa_include.specs.Flattened.{IsFlattened};
+ghost use Rattle.sa_include.specs.Parts.{PutsNothing};
+ghost use Rattle.sa_include.specs.Resolved.{IsAccepted};
 
 use crate::resolved::Flattened;
 use crate::substitute::subst_part;
-use sa_include_conflicts::{is_set, is_stub};
+use sa_include_conflicts::is_set;
 use sa_tree::{Class, Feature, Formal, Local, NoMemory, Param, Ty};
 use sa_types::Substitution;
 use sqlite_items::Items;
@@ -21,6 +22,8 @@ pub(crate) fn whole_class(
     flattened: Flattened,
     nothing: &Substitution<'_>,
 ) -> Result<Class, NoMemory>
+    requires accepted { IsAccepted class.now flattened }
+    requires nothing { PutsNothing nothing.now }
     ensures { IfOk result (λ flat. IsFlattened class.now flat) }
 {
     let Flattened { brought, stays, .. } = flattened;
@@ -37,7 +40,7 @@ pub(crate) fn whole_class(
     })
 }
 
-/// The features that the includes of a class bring, and behind them those that it writes, but for its stubs that don't stay.
+/// The features that the includes of a class bring, and behind them those that it writes and that stay.
 fn with_written(
     alloc: Global,
     brought: Items<Feature>,
@@ -45,23 +48,16 @@ fn with_written(
     stays: &[bool],
     nothing: &Substitution<'_>,
 ) -> Result<Items<Feature>, NoMemory>
-    ensures { IfOk result (λ features. All (Wins features) written.now) }
+    requires { PutsNothing nothing.now }
+    ensures { IfOk result (λ features. features ≡ brought ++ items_where_true stays.now written.now) }
 {
     let mut features = brought;
     for (place, feature) in written.iter().enumerate() {
-        if is_replaced_stub(feature, is_set(stays, place)) {
-            continue;
+        if is_set(stays, place) {
+            features.push(copy_feature(alloc, feature, nothing)?)?;
         }
-        features.push(copy_feature(alloc, feature, nothing)?)?;
     }
     Ok(features)
-}
-
-/// Whether a feature that a class writes is a stub that doesn't stay.
-fn is_replaced_stub(feature: &Feature, stays: bool) -> bool
-    ensures { IsTrue result → IsTrue (is_stub_part feature.now.part) }
-{
-    is_stub(feature) && !stays
 }
 
 /// A feature once more. Its statements are shared.
@@ -70,7 +66,8 @@ fn copy_feature(
     feature: &Feature,
     nothing: &Substitution<'_>,
 ) -> Result<Feature, NoMemory>
-    ensures { IfOk result (λ copy. head_of copy ≡ head_of feature.now) }
+    requires { PutsNothing nothing.now }
+    ensures { IfOk result (λ copy. copy ≡ feature.now) }
 {
     Ok(Feature {
         name: copy_local(alloc, &feature.name)?,

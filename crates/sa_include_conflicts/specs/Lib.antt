@@ -1,1 +1,6 @@
 pub mod Stub
+pub mod Signatures
+pub mod Shapes
+pub mod Clashes
+pub mod Groups
+pub mod Replaced

@@ -1,25 +1,37 @@
 //! Which features of a class conflict: those that have two signatures which no call could tell apart.
 
+ghost use Rattle.std.specs.Prelude.{◌≡◌, ◌||◌, ℕ, IfOk, OnOk, map};
+ghost use Rattle.std.specs.List.{All, items_where_true, list_any};
+ghost use Rattle.sa_include_conflicts.specs.Clashes.{IsFirstClash};
+ghost use Rattle.sa_include_conflicts.specs.Groups.{AreGrouped, Grew, HasKnown, IsFirstSharing, IsKnown, group_in, groups_in, has_group, is_marked, is_set};
+ghost use Rattle.sa_include_conflicts.specs.Replaced.{IsStaying, stays_brought, stays_written};
+ghost use Rattle.sa_include_conflicts.specs.declared.features.ClassFeatures.{ClassFeatures};
+
 use crate::features::ClassFeatures;
 use crate::lists::is_set;
-use crate::shape::{Side, has_writer, hash_of, signature};
-use indexmap::IndexMap;
-use sa_graph::{entry, put};
-use sa_signatures::conflict;
-use sa_tree::NoMemory;
+use crate::replaced::Stays;
+use crate::shape::Shape;
+use crate::signature::{own_signature, writer_signature};
+use indexmap::IndexSet;
+use sa_graph::put;
+use sa_tree::{Feature, NoMemory};
 use sa_types::Sig;
 use std::alloc::Global;
 
 /// The groups that the signatures of a feature are in. Two features conflict where they have a group in common.
 #[derive(Clone, Copy)]
-pub(crate) struct Groups {
-    own: usize,
-    writer: Option<usize>,
+pub struct Groups {
+    /// The group of the signature by which it is read or called.
+    pub own: usize,
+    /// The group of the signature by which it is written, where it has one.
+    pub writer: Option<usize>,
 }
 
 impl Groups {
     /// Whether one of them is marked.
-    pub(crate) fn is_marked(&self, marks: &[bool]) -> bool {
+    pub(crate) fn is_marked(&self, marks: &[bool]) -> bool
+        ensures { result ≡ is_marked marks.now self.now }
+    {
         match self.writer {
             Some(writer) => is_set(marks, self.own) || is_set(marks, writer),
             None => is_set(marks, self.own),
@@ -27,7 +39,9 @@ impl Groups {
     }
 
     /// Marks them.
-    pub(crate) fn mark(&self, marks: &mut [bool]) -> Result<(), NoMemory> {
+    pub(crate) fn mark(&self, marks: &mut [bool]) -> Result<(), NoMemory>
+        ensures { OnOk result ((n : ℕ) → is_set marks.new n ≡ (is_set marks.old n || has_group self.now n)) }
+    {
         put(marks, self.own, true)?;
         match self.writer {
             Some(writer) => put(marks, writer, true),
@@ -36,156 +50,152 @@ impl Groups {
     }
 }
 
-/// The first signature of a group, and the group before it whose signatures have the same hash.
-#[derive(Clone, Copy)]
-struct Group {
-    place: usize,
-    side: Side,
-    earlier: Option<usize>,
-}
-
-/// Signatures in groups of those that conflict with one another.
-#[derive(Drop)]
-struct Grouping {
-    /// The last group of each hash.
-    last: IndexMap<u64, usize>,
-    groups: Vec<Group>,
-}
-
-/// Which features of a class conflict.
+/// The groups of the features of a class.
 #[derive(Drop)]
 pub struct Conflicts {
-    /// The groups of each feature.
-    of: Vec<Groups>,
+    /// Those of each feature that includes bring.
+    pub brought: Vec<Groups>,
+    /// Those of each feature that the class writes.
+    pub written: Vec<Groups>,
     /// How many groups there are.
-    pub(crate) count: usize,
+    pub count: usize,
 }
 
-impl Conflicts {
-    /// The groups of the feature at a place.
-    pub(crate) fn at(&self, place: usize) -> Result<Groups, NoMemory> {
-        entry(self.of.as_slice(), place)
-    }
-}
-
-/// Puts the signatures of a class's features into groups of those that conflict with one another. Conflict is an
-/// equivalence, so each signature is compared with one of each group of equal hash.
+/// Puts the signatures of a class's features into groups of those that conflict with one another.
 ///
 /// # Errors
 ///
 /// `NoMemory`.
-pub fn group_features(alloc: Global, features: &ClassFeatures<'_>) -> Result<Conflicts, NoMemory> {
+pub fn group_features(alloc: Global, features: &ClassFeatures<'_>) -> Result<Conflicts, NoMemory>
+    ensures { IfOk result (AreGrouped features.now) }
+{
     let mut grouping = Grouping {
-        last: IndexMap::new(alloc),
-        groups: Vec::new(alloc),
+        known: IndexSet::new(alloc),
+        immutable: features.immutable,
     };
-    let mut of = Vec::new(alloc);
-    for place in 0..features.len() {
-        of.push(grouping.groups_of(alloc, features, place)?)?;
-    }
-    let count = grouping.groups.len();
-    Ok(Conflicts { of, count })
+    let brought = grouping.groups_of_all(alloc, features.brought)?;
+    let written = grouping.groups_of_all(alloc, features.written)?;
+    let count = grouping.known.len();
+    Ok(Conflicts {
+        brought,
+        written,
+        count,
+    })
+}
+
+/// Signatures in groups of those that conflict with one another. A group has the number of its first signature.
+#[derive(Drop)]
+struct Grouping {
+    /// The first signature of each group.
+    known: IndexSet<Shape>,
+    /// Whether the class is immutable.
+    immutable: bool,
 }
 
 impl Grouping {
-    fn groups_of(
+    fn groups_of_all(
         &mut self,
         alloc: Global,
-        features: &ClassFeatures<'_>,
-        place: usize,
-    ) -> Result<Groups, NoMemory> {
-        let own = self.group_of(alloc, features, place, Side::Own)?;
-        if !has_writer(features.at(place)?) {
-            return Ok(Groups { own, writer: None });
+        features: &[Feature],
+    ) -> Result<Vec<Groups>, NoMemory>
+        ensures class { OnOk result (self.new.immutable ≡ self.old.immutable) }
+        ensures more { OnOk result (Grew self.old.known.keys self.new.known.keys) }
+        ensures groups { IfOk result (λ all. all.items ≡ map (groups_in self.new.known.keys self.old.immutable) features.now) }
+        ensures known { OnOk result (All (HasKnown self.new.known.keys self.old.immutable) features.now) }
+    {
+        let mut all = Vec::new(alloc);
+        for feature in features {
+            all.push(self.groups_of(alloc, feature)?)?;
         }
-        let writer = Some(self.group_of(alloc, features, place, Side::Writer)?);
+        Ok(all)
+    }
+
+    fn groups_of(&mut self, alloc: Global, feature: &Feature) -> Result<Groups, NoMemory>
+        ensures class { OnOk result (self.new.immutable ≡ self.old.immutable) }
+        ensures more { OnOk result (Grew self.old.known.keys self.new.known.keys) }
+        ensures groups { IfOk result (λ groups. groups ≡ groups_in self.new.known.keys self.old.immutable feature.now) }
+        ensures known { OnOk result (HasKnown self.new.known.keys self.old.immutable feature.now) }
+    {
+        let own = self.group_of(own_signature(alloc, feature)?)?;
+        let writer = match writer_signature(alloc, feature, self.immutable)? {
+            Some(sig) => Some(self.group_of(sig)?),
+            None => None,
+        };
         Ok(Groups { own, writer })
     }
 
     /// The group of a signature, a new one where it conflicts with none of the earlier ones.
-    fn group_of(
-        &mut self,
-        alloc: Global,
-        features: &ClassFeatures<'_>,
-        place: usize,
-        side: Side,
-    ) -> Result<usize, NoMemory> {
-        let hash = hash_of(features.at(place)?, side, features.immutable);
-        let earlier = self.last.get(&hash).copied();
-        if let Some(group) = self.conflicting(alloc, features, place, side, earlier)? {
-            return Ok(group);
-        }
-        let group = self.groups.len();
-        self.groups.push(Group {
-            place,
-            side,
-            earlier,
-        })?;
-        self.last.insert(hash, group)?;
+    fn group_of(&mut self, sig: Sig) -> Result<usize, NoMemory>
+        ensures class { OnOk result (self.new.immutable ≡ self.old.immutable) }
+        ensures more { OnOk result (Grew self.old.known.keys self.new.known.keys) }
+        ensures group { IfOk result (λ group. group ≡ group_in self.new.known.keys sig) }
+        ensures known { OnOk result (IsKnown self.new.known.keys sig) }
+    {
+        let (group, _) = self.known.insert_full(Shape::new(sig))?;
         Ok(group)
     }
+}
 
-    /// The group whose signatures conflict with this one, among those of its hash.
-    fn conflicting(
-        &self,
-        alloc: Global,
-        features: &ClassFeatures<'_>,
-        place: usize,
-        side: Side,
-        last: Option<usize>,
-    ) -> Result<Option<usize>, NoMemory> {
-        let Some(last) = last else {
-            return Ok(None);
-        };
-        let one = signature(alloc, features.at(place)?, side, features.immutable)?;
-        let mut next = Some(last);
-        // Each group is tried once at most.
-        for _ in 0..self.groups.len() {
-            let Some(number) = next else {
-                break;
-            };
-            let group = entry(self.groups.as_slice(), number)?;
-            if has_conflict(alloc, features, &one, group)? {
-                return Ok(Some(number));
-            }
-            next = group.earlier;
+/// Marks the groups of the features that are chosen.
+pub(crate) fn mark_chosen(
+    marks: &mut [bool],
+    groups: &[Groups],
+    chosen: &[bool],
+) -> Result<(), NoMemory>
+    ensures { OnOk result ((n : ℕ) → is_set marks.new n ≡ (is_set marks.old n || list_any (λ g. has_group g n) (items_where_true chosen.now groups.now))) }
+{
+    for (place, own) in groups.iter().enumerate() {
+        if is_set(chosen, place) {
+            own.mark(marks)?;
         }
-        Ok(None)
+    }
+    Ok(())
+}
+
+impl Conflicts {
+    /// The place of the first feature that the includes of a class bring, that stays, and that conflicts with an earlier one
+    /// which does.
+    ///
+    /// # Errors
+    ///
+    /// `NoMemory`.
+    pub fn first_brought(&self, alloc: Global, staying: &Stays) -> Result<Option<usize>, NoMemory>
+        ensures { (features : ClassFeatures) → AreGrouped features self.now → IsStaying features staying.now → IfOk result (IsFirstClash features.immutable features.brought.now (stays_brought features.immutable features.brought.now features.written.now)) }
+    {
+        let groups = self.brought.as_slice();
+        first_sharing(alloc, groups, staying.brought.as_slice(), self.count)
+    }
+
+    /// The place of the first feature that a class writes, that stays, and that conflicts with an earlier one which does.
+    ///
+    /// # Errors
+    ///
+    /// `NoMemory`.
+    pub fn first_written(&self, alloc: Global, staying: &Stays) -> Result<Option<usize>, NoMemory>
+        ensures { (features : ClassFeatures) → AreGrouped features self.now → IsStaying features staying.now → IfOk result (IsFirstClash features.immutable features.written.now (stays_written features.immutable features.brought.now features.written.now)) }
+    {
+        let groups = self.written.as_slice();
+        first_sharing(alloc, groups, staying.written.as_slice(), self.count)
     }
 }
 
-/// Whether a signature conflicts with those of a group.
-fn has_conflict(
+/// The first place of a feature that stays and has a group in common with an earlier one that stays. There are `count`
+/// groups.
+fn first_sharing(
     alloc: Global,
-    features: &ClassFeatures<'_>,
-    one: &Sig,
-    group: Group,
-) -> Result<bool, NoMemory> {
-    let feature = features.at(group.place)?;
-    let other = signature(alloc, feature, group.side, features.immutable)?;
-    Ok(conflict(&other, one))
-}
-
-/// The first of the features from a place up to another that stays and conflicts with an earlier one of them that stays.
-///
-/// # Errors
-///
-/// `NoMemory`.
-pub fn first_conflict(
-    alloc: Global,
-    conflicts: &Conflicts,
+    groups: &[Groups],
     stays: &[bool],
-    from: usize,
-    to: usize,
-) -> Result<Option<usize>, NoMemory> {
-    let mut marks = vec![in alloc; false; conflicts.count]?;
-    for place in from..to {
+    count: usize,
+) -> Result<Option<usize>, NoMemory>
+    ensures { IfOk result (IsFirstSharing groups.now stays.now) }
+{
+    let mut marks = vec![in alloc; false; count]?;
+    for (place, own) in groups.iter().enumerate() {
         if is_set(stays, place) {
-            let groups = conflicts.at(place)?;
-            if groups.is_marked(&marks) {
+            if own.is_marked(&marks) {
                 return Ok(Some(place));
             }
-            groups.mark(&mut marks)?;
+            own.mark(&mut marks)?;
         }
     }
     Ok(None)

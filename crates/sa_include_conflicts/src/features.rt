@@ -3,11 +3,9 @@
 ghost use Rattle.std.specs.Prelude.{◌≡◌};
 ghost use Rattle.sa_include_conflicts.specs.Stub.{is_stub_part};
 
-use crate::lists::item;
-use sa_tree::{Feature, NoMemory, Part};
+use sa_tree::{Feature, Part};
 
-/// The features of a class before any replaces another: those that its includes bring, then those that it writes. A place
-/// counts them in this order, from 0.
+/// The features of a class before any replaces another: those that its includes bring, then those that it writes.
 #[derive(Clone, Copy)]
 pub struct ClassFeatures<'a> {
     /// Those that includes bring.
@@ -18,35 +16,8 @@ pub struct ClassFeatures<'a> {
     pub immutable: bool,
 }
 
-impl<'a> ClassFeatures<'a> {
-    /// How many there are.
-    pub fn len(&self) -> usize {
-        self.brought.len().saturating_add(self.written.len())
-    }
-
-    /// The feature at a place.
-    ///
-    /// # Errors
-    ///
-    /// `NoMemory` where there is none.
-    pub fn at(&self, place: usize) -> Result<&'a Feature, NoMemory> {
-        match place.checked_sub(self.brought.len()) {
-            None => item(self.brought, place),
-            Some(written) => item(self.written, written),
-        }
-    }
-
-    /// Whether there is a stub at a place.
-    pub(crate) fn is_stub(&self, place: usize) -> bool {
-        match self.at(place) {
-            Ok(feature) => is_stub(feature),
-            Err(_) => false,
-        }
-    }
-}
-
 /// Whether a feature is a stub, which the including class has to give.
-pub fn is_stub(feature: &Feature) -> bool
+pub(crate) fn is_stub(feature: &Feature) -> bool
     ensures { result ≡ is_stub_part feature.now.part }
 {
     match feature.part {

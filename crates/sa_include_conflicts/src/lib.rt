@@ -6,10 +6,11 @@ mod features;
 mod lists;
 mod replaced;
 mod shape;
+mod signature;
 mod stubs;
 
-pub use conflicts::{Conflicts, first_conflict, group_features};
-pub use features::{ClassFeatures, is_stub};
+pub use conflicts::{Conflicts, Groups, group_features};
+pub use features::ClassFeatures;
 pub use lists::{is_set, item};
-pub use replaced::staying;
+pub use replaced::{Stays, staying};
 pub use stubs::stub_left;

@@ -1,14 +1,21 @@
 //! Places in lists.
 
+ghost use Rattle.std.specs.Prelude.{◌≡◌, IfOk, Some, slice_get};
+ghost use Rattle.sa_include_conflicts.specs.Groups.{is_set};
+
 use sa_tree::{NoMemory, held};
 
 /// What a list holds at a place where it holds something. That it does is known to the writer and not to a proof, so
 /// another place is answered as want of memory.
-pub fn item<T>(list: &[T], at: usize) -> Result<&T, NoMemory> {
+pub fn item<T>(list: &[T], at: usize) -> Result<&T, NoMemory>
+    ensures { IfOk result (λ item. slice_get list.now at ≡ Some item.now) }
+{
     held(list.get(at))
 }
 
 /// Whether there is a mark at a place. There is none behind the list.
-pub fn is_set(marks: &[bool], at: usize) -> bool {
+pub fn is_set(marks: &[bool], at: usize) -> bool
+    ensures { result ≡ is_set marks.now at }
+{
     marks.get(at).copied().unwrap_or(false)
 }

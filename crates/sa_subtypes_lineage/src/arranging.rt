@@ -1,12 +1,16 @@
 //! The declared edges are arranged as tables, or a cycle of edges is refused.
 
-ghost use Rattle.std.specs.Prelude.{◌≡◌, IfOk};
+ghost use Rattle.std.specs.Prelude.{◌≡◌, Err, IfOk, OnOk};
+ghost use Rattle.sa_tree.specs.declared.refusal.FrontFault.TheVariants.{Refused};
+ghost use Rattle.sa_tree.specs.declared.refusal.Refusal.{Refusal};
+ghost use Rattle.sa_subtypes_pairs.specs.Numbers.{AreNamesOf};
+ghost use Rattle.sa_subtypes_lineage.specs.Cycles.{HasEdgeIn, HasNoCycle, IsBetween, RefusesCycle};
 
 use crate::lineage::{Edged, Lineage, Lists, links_of};
 use crate::links::Link;
 use sa_graph::{Graph, Grouped, put, word};
 use sa_subtypes_pairs::{Edge, Names, Pairs, Work, Written, edges_of, lowers, uppers};
-use sa_tree::{Class, FrontFault, NoMemory, Rule};
+use sa_tree::{Class, FrontFault, NoMemory, Rule, held};
 use std::alloc::Global;
 
 /// The tables of the written edges. E18 where edges form a cycle.
@@ -17,7 +21,10 @@ pub fn arranged(
     names: Names,
     written: &[Written],
 ) -> Result<Lineage, FrontFault>
-    ensures { IfOk result (λ lineage. lineage.names ≡ names) }
+    requires { AreNamesOf classes.now names }
+    ensures names { IfOk result (λ lineage. lineage.names ≡ names) }
+    ensures acyclic { OnOk result (HasNoCycle (IsBetween written.now) classes.now) }
+    ensures cycle { (refusal : Refusal) → result ≡ Err (Refused refusal) → RefusesCycle (IsBetween written.now) classes.now refusal }
 {
     let mut pairs = Pairs::new(alloc);
     let edges = edges_of(alloc, work, written, &mut pairs)?;
@@ -71,23 +78,20 @@ fn order_of(
     classes: &[Class],
     names: &Names,
     edges: &[Edge],
-) -> Result<Vec<u32>, FrontFault> {
+) -> Result<Vec<u32>, FrontFault>
+    requires { AreNamesOf classes.now names.now }
+    ensures acyclic { OnOk result (HasNoCycle (HasEdgeIn edges.now) classes.now) }
+    ensures cycle { (refusal : Refusal) → result ≡ Err (Refused refusal) → RefusesCycle (HasEdgeIn edges.now) classes.now refusal }
+{
     let starts = lowers(alloc, edges)?;
     let ends = uppers(alloc, edges)?;
     let graph = Graph::new(alloc, names.classes(), starts, ends)?;
     let order = graph.order(alloc)?;
-    match graph.first_on_cycle(alloc, order.as_slice())? {
-        None => Ok(order),
-        Some(number) => Err(cycle_at(classes, number)),
-    }
-}
-
-/// The refusal at the name of a class that lies on a cycle.
-fn cycle_at(classes: &[Class], number: usize) -> FrontFault {
-    match classes.get(number) {
-        Some(class) => Rule::SubtypeCycle.at(class.name.pos).into(),
-        None => FrontFault::NoMemory,
-    }
+    let Some(number) = graph.first_on_cycle(alloc, order.as_slice())? else {
+        return Ok(order);
+    };
+    let class = held(classes.get(number))?;
+    Err(Rule::SubtypeCycle.at(class.name.pos).into())
 }
 
 /// The place of each class in the order.

@@ -13,4 +13,5 @@ pub mod Readings
 pub mod Renumbering
 pub mod Rounds
 pub mod Spelling
+pub mod Supertypes
 pub mod Terms

@@ -1,7 +1,6 @@
-use Rattle.std.proofs.Common.{take}
-use Rattle.std.specs.List.{All}
-use Rattle.sa_include.specs.Flattened.{Wins}
+use Rattle.std.proofs.Common.{◌≡◌, ◌++◌, take}
+use Rattle.std.specs.List.{items_where_true}
 use Rattle.sa_include.proofs.whole.with_written.Given as goal
 
 abbrev pub invariant-loop-place : goal.invariant-loop-place
-invariant-loop-place l = All (Wins l.features) (take l.place l.written)
+invariant-loop-place l = l.features ≡ l.fn.brought ++ items_where_true (take l.place l.stays) (take l.place l.written)

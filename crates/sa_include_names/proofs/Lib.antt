@@ -1,0 +1,5 @@
+pub mod Numbers
+pub mod Misuses
+pub mod Clauses
+pub mod Scopes
+pub mod Verdicts
