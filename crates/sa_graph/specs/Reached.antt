@@ -16,7 +16,8 @@ pub record IsReaching (Edge : ℕ → ℕ → Type 0) (from : ℕ) (reach : Reac
   pub sound : (node : ℕ) → is_set reach.marks.items node ≡ true → Leads Edge from node
   pub first : (node : ℕ) → Edge from node → is_set reach.marks.items node ≡ true
   pub marked : (node : ℕ) → Contains reach.waiting.items node → is_set reach.marks.items node ≡ true
-  pub closed : (node next : ℕ) → is_set reach.marks.items node ≡ true → Edge node next → Contains reach.waiting.items node ⊎ (is_set reach.marks.items next ≡ true)
+  pub closed : (node next : ℕ) → is_set reach.marks.items node ≡ true → Edge node next
+      → Contains reach.waiting.items node ⊎ (is_set reach.marks.items next ≡ true)
 
 -- how much is left to do
 abbrev pub left_to_reach : Reach → ℕ
@@ -26,6 +27,7 @@ left_to_reach reach = 2 * count_by not reach.marks.items + length reach.waiting.
 pub record Reaches (More : ℕ → Type 0) (old new : Reach) : Type 0 where
   pub kept : (node : ℕ) → is_set old.marks.items node ≡ true → is_set new.marks.items node ≡ true
   pub waits : (node : ℕ) → Contains old.waiting.items node → Contains new.waiting.items node
-  pub marks : (node : ℕ) → is_set new.marks.items node ≡ true → (is_set old.marks.items node ≡ true) ⊎ (More node × Contains new.waiting.items node)
+  pub marks : (node : ℕ) → is_set new.marks.items node ≡ true
+      → (is_set old.marks.items node ≡ true) ⊎ (More node × Contains new.waiting.items node)
   pub waiting : (node : ℕ) → Contains new.waiting.items node → Contains old.waiting.items node ⊎ (is_set new.marks.items node ≡ true)
   pub less : left_to_reach new ≤ left_to_reach old

@@ -56,8 +56,11 @@ pub record IsAccepted (c : Class) (flattened : Flattened) : Type 0 where
 -- those that are gone through are resolved
 pub record AreResolved (classes : List Class) (resolved : List Flattened) : Type 0 where
   pub count : length resolved ≡ length classes
-  pub each : (n : ℕ) (c : Class) (flattened : Flattened) → slice_get classes n ≡ Some c → slice_get resolved n ≡ Some flattened → flattened.done ≡ true → IsResolved c flattened
+  pub each : (n : ℕ) (c : Class) (flattened : Flattened) → slice_get classes n ≡ Some c → slice_get resolved n ≡ Some flattened
+      → flattened.done ≡ true → IsResolved c flattened
 
 -- those up to a number are gone through and have no refusal
 abbrev pub AreAcceptedUpTo : ℕ → List Flattened → Type 0
-AreAcceptedUpTo number resolved = (n : ℕ) (flattened : Flattened) → n < number → slice_get resolved n ≡ Some flattened → (flattened.done ≡ true) × (flattened.refusal ≡ None)
+AreAcceptedUpTo number resolved =
+    (n : ℕ) (flattened : Flattened) → n < number → slice_get resolved n ≡ Some flattened
+    → (flattened.done ≡ true) × (flattened.refusal ≡ None)

@@ -27,7 +27,13 @@ module _ (immutable : Bool) (brought written : List Feature) where
   abbrev pub stays_brought : Feature → Bool
   stays_brought f = if is_stub_part f.part then not (is_met immutable (reals ++ filter stays_written written) f) else is_kept_real f
 
+abbrev pub keeps_brought : ClassFeatures → Feature → Bool
+keeps_brought features = stays_brought features.immutable features.brought.now features.written.now
+
+abbrev pub keeps_written : ClassFeatures → Feature → Bool
+keeps_written features = stays_written features.immutable features.brought.now features.written.now
+
 -- these stay of the features of a class
 pub record IsStaying (features : ClassFeatures) (staying : Stays) : Type 0 where
-  pub brought : staying.brought.items ≡ map (stays_brought features.immutable features.brought.now features.written.now) features.brought.now
-  pub written : staying.written.items ≡ map (stays_written features.immutable features.brought.now features.written.now) features.written.now
+  pub brought : staying.brought.items ≡ map (keeps_brought features) features.brought.now
+  pub written : staying.written.items ≡ map (keeps_written features) features.written.now

@@ -1,4 +1,5 @@
--- Signatures as keys of a table, in which two are one where they conflict: conflict is an equivalence, and what is hashed of two that conflict is equal.
+-- Signatures as keys of a table, in which two are one where they conflict: conflict is an equivalence, and what is hashed of two that
+-- conflict is equal.
 use Rattle.std.specs.Prelude.{◌≡◌, ◌++◌, ◌&&◌, ◌||◌, Bool, true, false, Option, Some, None, cond, refl, is_some}
 use Rattle.std.specs.Bool.{Decides, beq}
 use Rattle.std.specs.Cmp.{IsEquivalence, and_equiv, on_equiv, bool_eq_equiv, booleans_Decides, equiv}
@@ -79,7 +80,8 @@ alike_abstract f g a b p q r = sym p ∙ ap is_abstract_bare ((same_type_Decides
 clash_seen : (f g : Ty) → types_clash f g ≡ option_eq same_type (seen f) (seen g)
 clash_seen f g = by (is_abstract_type f) (is_abstract_type g) (same_type (bare f) (bare g)) refl refl refl
   where
-    by : (a b s : Bool) → is_abstract_type f ≡ a → is_abstract_type g ≡ b → same_type (bare f) (bare g) ≡ s → (s || a && b) ≡ option_eq same_type (cond a None (Some (bare f))) (cond b None (Some (bare g)))
+    by : (a b s : Bool) → is_abstract_type f ≡ a → is_abstract_type g ≡ b → same_type (bare f) (bare g) ≡ s
+        → (s || a && b) ≡ option_eq same_type (cond a None (Some (bare f))) (cond b None (Some (bare g)))
     by true true true p q r = refl
     by true true false p q r = refl
     by true false true p q r = sym (alike_abstract f g true false p q r)
@@ -110,7 +112,13 @@ args_Alike : Alike args_clash argument_writes
 args_Alike = and-Alike (on_Alike (λ a. a.mode) (same_Alike mode_writes mode_decides)) (on_Alike (λ a. a.ty) types_Alike)
 
 pub conflict_equiv : IsEquivalence do_conflict
-conflict_equiv = and_equiv (and_equiv (on_equiv (λ s. s.name) nat_list_eq_equiv) (on_equiv (λ s. is_some s.result) bool_eq_equiv)) (on_equiv (λ s. s.args) (lists_equiv args_equiv))
+conflict_equiv =
+    and_equiv (and_equiv (on_equiv (λ s. s.name) nat_list_eq_equiv) (on_equiv (λ s. is_some s.result) bool_eq_equiv))
+    (on_equiv (λ s. s.args) (lists_equiv args_equiv))
 
 pub conflict_Alike : Alike do_conflict sig_writes
-conflict_Alike = and-Alike (and-Alike (on_Alike (λ s. s.name) (same_Alike name_writes bytes_decides)) (on_Alike (λ s. is_some s.result) (same_Alike fed.bool booleans_Decides))) (on_Alike (λ s. s.args) (items_Alike args_Alike))
+conflict_Alike =
+    and-Alike
+    (and-Alike (on_Alike (λ s. s.name) (same_Alike name_writes bytes_decides))
+    (on_Alike (λ s. is_some s.result) (same_Alike fed.bool booleans_Decides)))
+    (on_Alike (λ s. s.args) (items_Alike args_Alike))

@@ -3,8 +3,9 @@
 ghost use Rattle.std.specs.Prelude.{◌≡◌, ◌||◌, ℕ, IfOk, OnOk, map};
 ghost use Rattle.std.specs.List.{All, items_where_true, list_any};
 ghost use Rattle.sa_include_conflicts.specs.Clashes.{IsFirstClash};
-ghost use Rattle.sa_include_conflicts.specs.Groups.{AreGrouped, Grew, HasKnown, IsFirstSharing, IsKnown, group_in, groups_in, has_group, is_marked, is_set};
-ghost use Rattle.sa_include_conflicts.specs.Replaced.{IsStaying, stays_brought, stays_written};
+ghost use Rattle.sa_include_conflicts.specs.Groups.{AreGrouped, Grew, HasKnown, IsFirstSharing, IsKnown};
+ghost use Rattle.sa_include_conflicts.specs.Groups.{group_in, groups_in, has_group, is_marked, is_set};
+ghost use Rattle.sa_include_conflicts.specs.Replaced.{IsStaying, keeps_brought, keeps_written};
 ghost use Rattle.sa_include_conflicts.specs.declared.features.ClassFeatures.{ClassFeatures};
 
 use crate::features::ClassFeatures;
@@ -142,7 +143,8 @@ pub(crate) fn mark_chosen(
     groups: &[Groups],
     chosen: &[bool],
 ) -> Result<(), NoMemory>
-    ensures { OnOk result ((n : ℕ) → is_set marks.new n ≡ (is_set marks.old n || list_any (λ g. has_group g n) (items_where_true chosen.now groups.now))) }
+    ensures { OnOk result ((n : ℕ) → is_set marks.new n
+        ≡ (is_set marks.old n || list_any (λ g. has_group g n) (items_where_true chosen.now groups.now))) }
 {
     for (place, own) in groups.iter().enumerate() {
         if is_set(chosen, place) {
@@ -160,7 +162,8 @@ impl Conflicts {
     ///
     /// `NoMemory`.
     pub fn first_brought(&self, alloc: Global, staying: &Stays) -> Result<Option<usize>, NoMemory>
-        ensures { (features : ClassFeatures) → AreGrouped features self.now → IsStaying features staying.now → IfOk result (IsFirstClash features.immutable features.brought.now (stays_brought features.immutable features.brought.now features.written.now)) }
+        ensures { (features : ClassFeatures) → AreGrouped features self.now → IsStaying features staying.now
+            → IfOk result (IsFirstClash features.immutable features.brought.now (keeps_brought features)) }
     {
         let groups = self.brought.as_slice();
         first_sharing(alloc, groups, staying.brought.as_slice(), self.count)
@@ -172,7 +175,8 @@ impl Conflicts {
     ///
     /// `NoMemory`.
     pub fn first_written(&self, alloc: Global, staying: &Stays) -> Result<Option<usize>, NoMemory>
-        ensures { (features : ClassFeatures) → AreGrouped features self.now → IsStaying features staying.now → IfOk result (IsFirstClash features.immutable features.written.now (stays_written features.immutable features.brought.now features.written.now)) }
+        ensures { (features : ClassFeatures) → AreGrouped features self.now → IsStaying features staying.now
+            → IfOk result (IsFirstClash features.immutable features.written.now (keeps_written features)) }
     {
         let groups = self.written.as_slice();
         first_sharing(alloc, groups, staying.written.as_slice(), self.count)

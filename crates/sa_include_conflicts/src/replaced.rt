@@ -71,7 +71,8 @@ fn kept_reals(
     groups: &[Groups],
     taken: &[bool],
 ) -> Result<Vec<bool>, NoMemory>
-    ensures { (of : Feature → Groups) → groups.now ≡ map of features.now → IfOk result (λ kept. kept.items ≡ map (λ f. is_real f && not (is_marked taken.now (of f))) features.now) }
+    ensures { (of : Feature → Groups) → groups.now ≡ map of features.now
+        → IfOk result (λ kept. kept.items ≡ map (λ f. is_real f && not (is_marked taken.now (of f))) features.now) }
 {
     let mut kept = Vec::new(alloc);
     for (place, feature) in features.iter().enumerate() {
@@ -88,7 +89,8 @@ fn written_that_stay(
     groups: &[Groups],
     taken: &[bool],
 ) -> Result<Vec<bool>, NoMemory>
-    ensures { (of : Feature → Groups) → groups.now ≡ map of features.now → IfOk result (λ stays. stays.items ≡ map (λ f. is_real f || not (is_marked taken.now (of f))) features.now) }
+    ensures { (of : Feature → Groups) → groups.now ≡ map of features.now
+        → IfOk result (λ stays. stays.items ≡ map (λ f. is_real f || not (is_marked taken.now (of f))) features.now) }
 {
     let mut stays = Vec::new(alloc);
     for (place, feature) in features.iter().enumerate() {
@@ -106,7 +108,9 @@ fn brought_that_stay(
     taken: &[bool],
     kept: &[bool],
 ) -> Result<Vec<bool>, NoMemory>
-    ensures { (of : Feature → Groups) (is_kept : Feature → Bool) → groups.now ≡ map of features.now → kept.now ≡ map is_kept features.now → IfOk result (λ stays. stays.items ≡ map (λ f. if is_stub_part f.part then not (is_marked taken.now (of f)) else is_kept f) features.now) }
+    ensures { (of : Feature → Groups) (is_kept : Feature → Bool) → groups.now ≡ map of features.now → kept.now ≡ map is_kept features.now
+        → IfOk result (λ stays. stays.items
+            ≡ map (λ f. if is_stub_part f.part then not (is_marked taken.now (of f)) else is_kept f) features.now) }
 {
     let mut stays = Vec::new(alloc);
     for (place, feature) in features.iter().enumerate() {

@@ -13,7 +13,8 @@ use Rattle.sa_include_names.specs.declared.names.ParamNames.{ParamNames}
 use Rattle.sa_include_names.specs.Includes.{DoesInclude, number_included}
 use Rattle.sa_include_names.specs.Names.{hides}
 use Rattle.sa_include_names.specs.Tables.{AddsEdges, AreEdges, HasEdgeIn, HasNumbers, HasParams, NamesHere, included_in, number_in}
-use Rattle.sa_include_names.proofs.Numbers.{at_push, at_index}
+use Rattle.std.proofs.lemmas.Option.{slice_get_read, slice_get_within}
+use Rattle.sa_include_names.proofs.Numbers.{at_push}
 
 -- ---- one more edge
 
@@ -121,7 +122,7 @@ module _ (classes : List Class) (numbers : ClassNumbers) (numbered : HasNumbers 
   }
     where
       at : slice_get classes i ≡ Some c
-      at = at_index classes i c within is
+      at = slice_get_read classes (length classes) i c refl within is
 
       into : (a b : ℕ) → HasEdgeIn new a b → (a < i + 1) × DoesInclude classes a b
       into a b h = ⊎_elim (λ g. let r = (upto.includes a b).0 g in (omega (arith, r.0), r.1)) (λ m. (omega (arith, m.0), subst (λ n. DoesInclude classes n b) (sym m.0) (record { class = c; at = at; clause = m.1.0; has = m.1.1; names = sym (same_class params c named (bare m.1.0.ty)) ∙ m.1.2 }))) (adds.only upto.count a b h)
@@ -151,10 +152,5 @@ no_classes classes edges starts ends = record {
 pub all_classes : (classes : List Class) (edges : Edges) (n : ℕ) → length classes ≡ n → AreEdgesUpTo classes n edges → AreEdges classes edges
 all_classes classes edges n e upto = record {
   count = upto.count;
-  includes = λ a b. (λ h. ((upto.includes a b).0 h).1, λ d. (upto.includes a b).1 (omega (arith, e, inside a d.class classes d.at), d));
+  includes = λ a b. (λ h. ((upto.includes a b).0 h).1, λ d. (upto.includes a b).1 (omega (arith, e, slice_get_within classes a d.class d.at), d));
 }
-  where
-    inside : {X : Type 0} (k : ℕ) (x : X) (xs : List X) → slice_get xs k ≡ Some x → k < length xs
-    inside k x [] h = cc
-    inside zero x (y ∷ xs) h = omega arith
-    inside (suc k) x (y ∷ xs) h = let r = inside k x xs h in omega (arith, r)

@@ -64,8 +64,3 @@ differ_push cs c differ new place d at = by (at_push cs c d place at)
     by (inr (e, same)) =
         ap (λ ds. number_of ds d.name.name) (take-append-le place cs (c ∷ []) (omega (arith, e)) ∙ take_all place cs (omega (arith, e)))
         ∙ ap (λ (x : Class). number_of cs x.name.name) (sym same) ∙ new
-
-pub at_index : {X : Type 0} (xs : List X) (i : ℕ) (x : X) → i < length xs → x ≡ get_or xs i x → slice_get xs i ≡ Some x
-at_index [] i x h e = absurd (omega (arith, h))
-at_index (y ∷ xs) zero x h e = ap Some (sym e)
-at_index (y ∷ xs) (suc i) x h e = at_index xs i x (omega (arith, h)) e

@@ -4,10 +4,11 @@ use Rattle.std.proofs.lemmas.Bool.{false≢true}
 use Rattle.sa_graph.specs.Paths.{HasEdge, IsEdge, IsFirst, IsOnCycle, Leads, ends_of, node_count, starts_of}
 use Rattle.sa_graph.specs.Reached.{AreReached}
 use Rattle.sa_graph.specs.declared.graph.Graph.{Graph}
-use Rattle.sa_graph.proofs.Among.{get_or-from_get, same_or_other}
+use Rattle.sa_graph.proofs.Among.{same_or_other}
 use Rattle.sa_graph.proofs.Reaching.{set_at, set_keeps}
 use Rattle.sa_graph.proofs.Turned.{leads_along, leads_back, first_edge}
 use Rattle.std.proofs.lemmas.List.{get_or-set_same}
+use Rattle.std.proofs.lemmas.Option.{slice_get_within}
 use Rattle.sa_tree.specs.declared.class.Class.{Class}
 use Rattle.sa_tree.specs.declared.refusal.Refusal.{Refusal}
 use Rattle.sa_include_names.specs.declared.graph.Edges.{Edges}
@@ -84,8 +85,5 @@ module _ (classes : List Class) (graph : Graph) (of : AreGraphOf classes graph) 
     cycle = λ number h. none number (subst (λ n. number < n) (sym of.count) (inside number number h)) (graph_way number number h);
   }
     where
-      within : {X : Type 0} (k : ℕ) (x : X) (xs : List X) → slice_get xs k ≡ Some x → k < length xs
-      within k x xs h = (get_or-from_get xs k x x h).0
-
       inside : (a b : ℕ) → Leads (DoesInclude classes) a b → a < length classes
-      inside a b way = let e = first_edge (DoesInclude classes) a b way in within a e.1.class classes e.1.at
+      inside a b way = let e = first_edge (DoesInclude classes) a b way in slice_get_within classes a e.1.class e.1.at

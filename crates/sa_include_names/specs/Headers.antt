@@ -1,5 +1,7 @@
--- Where a type stands in a header or an include clause that may not stand there: the positions, in text order, that of a type before those of the types inside it.
-use Rattle.std.specs.Prelude.{◌&&◌, ◌||◌, ◌==◌, Bool, true, false, not, ℕ, List, [], ◌∷◌, ◌++◌, Option, None, Some, codes, cond, flat_map, length, nat_eq, slice_get}
+-- Where a type stands in a header or an include clause that may not stand there: the positions, in text order, that of a type before
+-- those of the types inside it.
+use Rattle.std.specs.Prelude.{◌&&◌, ◌||◌, ◌==◌, Bool, true, false, not, ℕ, List, [], ◌∷◌, ◌++◌, Option, None, Some}
+use Rattle.std.specs.Prelude.{codes, cond, flat_map, length, nat_eq, slice_get}
 use Rattle.std.specs.Cmp.Lexicographic.{pointwise}
 use Rattle.std.specs.List.{list_any}
 use Rattle.std.specs.Option.{option_map_or}
@@ -92,7 +94,9 @@ module _ (classes : List Class) (number : List ℕ → Option ℕ) (arrays : Lis
 
   -- a class may be included: it isn't abstract, and none of those; and an immutable class includes none with an array part
   abbrev pub may_include : List ℕ → Bool
-  may_include name = class_passes (λ k c. is_no_abstract c.kind && not (is_never_included name) && (is_no_immutable including || not (is_set arrays k))) (number_seen name)
+  may_include name =
+      class_passes (λ k c. is_no_abstract c.kind && not (is_never_included name) && (is_no_immutable including || not (is_set arrays k)))
+      (number_seen name)
 
   -- ---- types by where they stand
 

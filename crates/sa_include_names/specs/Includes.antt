@@ -30,7 +30,9 @@ array_name = codes "AREF"
 
 -- a class is that one, or includes it, by itself or by others
 abbrev pub HasArrayPart : List Class → ℕ → Type 0
-HasArrayPart classes number = (array : ℕ) × (number_of classes array_name ≡ Some array) × ((number ≡ array) ⊎ Leads (DoesInclude classes) number array)
+HasArrayPart classes number =
+    (array : ℕ) × (number_of classes array_name ≡ Some array)
+    × ((number ≡ array) ⊎ Leads (DoesInclude classes) number array)
 
 abbrev pub is_set : List Bool → ℕ → Bool
 is_set marks number = slice_index_or marks number false

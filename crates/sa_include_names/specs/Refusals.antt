@@ -1,4 +1,5 @@
--- What the classes of a program are refused by for their names and their includes: the first class with the name of an earlier one; where there is none, the first name that may not stand where it does; and where there is none, the first class that includes itself.
+-- What the classes of a program are refused by for their names and their includes: the first class with the name of an earlier one;
+-- where there is none, the first name that may not stand where it does; and where there is none, the first class that includes itself.
 use Rattle.std.specs.Prelude.{◌≡◌, ◌⊎◌, ℕ, ◌<◌, Bool, List, [], Some, slice_get}
 use Rattle.sa_tree.specs.declared.class.Class.{Class}
 use Rattle.sa_tree.specs.declared.refusal.Refusal.{Refusal}

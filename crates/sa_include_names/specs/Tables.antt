@@ -45,7 +45,8 @@ abbrev pub includes_in : Scope → List ℕ → Bool
 includes_in scope = may_include scope.classes.now (number_in scope.numbers.now) scope.arrays.now scope.kind (hidden_in scope.params)
 
 abbrev pub misused_include_in : Scope → Ty → List Pos
-misused_include_in scope = misused_include scope.classes.now (number_in scope.numbers.now) scope.arrays.now scope.kind (hidden_in scope.params)
+misused_include_in scope =
+    misused_include scope.classes.now (number_in scope.numbers.now) scope.arrays.now scope.kind (hidden_in scope.params)
 
 abbrev pub misused_class_in : Scope → Class → List Pos
 misused_class_in scope = misused_in scope.classes.now (number_in scope.numbers.now) scope.arrays.now scope.kind (hidden_in scope.params)
@@ -67,7 +68,8 @@ included_in params numbers other = None
 
 -- one of the clauses names the class
 abbrev pub NamesHere : ParamNames → ClassNumbers → List Include → ℕ → Type 0
-NamesHere params numbers includes to = (clause : Include) × Contains includes clause × (included_in params numbers (bare clause.ty) ≡ Some to)
+NamesHere params numbers includes to =
+    (clause : Include) × Contains includes clause × (included_in params numbers (bare clause.ty) ≡ Some to)
 
 abbrev pub HasEdgeIn : Edges → ℕ → ℕ → Type 0
 HasEdgeIn edges = HasEdge edges.starts.items edges.ends.items

@@ -92,7 +92,8 @@ pub(crate) fn array_parts(
     graph: &Graph,
     numbers: &ClassNumbers,
 ) -> Result<Vec<bool>, NoMemory>
-    ensures { (classes : List Class) → HasNumbers classes numbers.now → AreGraphOf classes graph.now → IfOk result (λ marks. AreArrays classes marks.items) }
+    ensures { (classes : List Class) → HasNumbers classes numbers.now → AreGraphOf classes graph.now
+        → IfOk result (λ marks. AreArrays classes marks.items) }
 {
     let name = Name::from_slice(alloc, ARRAY_PART)?;
     let Some(array) = numbers.of(&name) else {

@@ -2,7 +2,8 @@
 
 ghost use Rattle.std.specs.Prelude.{◌≡◌, ◌==◌, IfOk, None, cond, flat_map, length};
 ghost use Rattle.sa_include_names.specs.Headers.{is_never_included, misused, misused_arg, misused_names, misused_option, misused_types};
-ghost use Rattle.sa_include_names.specs.Tables.{HasNumbers, first, hidden_in, includes_in, misused_above_in, misused_class_in, misused_include_in, number_in, stands_in};
+ghost use Rattle.sa_include_names.specs.Tables.{HasNumbers, first, hidden_in, includes_in, misused_above_in, misused_class_in};
+ghost use Rattle.sa_include_names.specs.Tables.{misused_include_in, number_in, stands_in};
 
 use crate::graph::is_marked;
 use crate::names::{ClassNumbers, ParamNames};
