@@ -1,16 +1,11 @@
 -- What a class without its includes has of the class as it is written.
-use Rattle.std.specs.Prelude.{◌≡◌, ◌⊎◌, Bool, true, false, IsTrue, List, [], None}
+use Rattle.std.specs.Prelude.{◌≡◌, ◌⊎◌, IsTrue, List, [], None}
 use Rattle.std.specs.List.{All, AllZip, Contains}
 use Rattle.sa_include_conflicts.specs.Clashes.{NoneClash}
 use Rattle.sa_include_conflicts.specs.Stub.{is_stub_part, stub_left}
 use Rattle.sa_tree.specs.declared.class.Class.{Class}
 use Rattle.sa_tree.specs.declared.class.Feature.{Feature}
-use Rattle.sa_tree.specs.declared.class.Kind.{Kind}
-use Rattle.sa_tree.specs.declared.class.Kind.TheVariants.{Immutable}
-
-abbrev pub is_immutable : Kind → Bool
-is_immutable Immutable = true
-is_immutable _ = false
+use Rattle.sa_include.specs.Features.{is_immutable}
 
 -- a feature that is written is a stub, which may be replaced, or is itself among the features
 abbrev pub Wins : List Feature → Feature → Type 0

@@ -1,3 +1,5 @@
 pub mod Parts
+pub mod Features
 pub mod Flattened
+pub mod Refusals
 pub mod Resolved

@@ -1,10 +1,10 @@
 //! The features of one class, from those of the classes that it includes and its own, and its first refusal: two features
 //! that it writes conflict (E11), two that its includes bring do or both have an array part (E17), or a stub is left.
 
-ghost use Rattle.std.specs.Prelude.{◌≡◌, IfOk, None, Some, slice_get};
+ghost use Rattle.std.specs.Prelude.{◌≡◌, IfOk, List, MatchOption, None, Some, slice_get};
 ghost use Rattle.std.specs.List.{items_where_true};
 ghost use Rattle.sa_tree.specs.declared.class.Class.{Class};
-ghost use Rattle.sa_include.specs.Resolved.{IsJudged, IsNothing, IsResolved};
+ghost use Rattle.sa_include.specs.Resolved.{IsArrayFound, IsClauseFound, IsJudged, IsNothing, IsOfFound, IsProgram, IsResolved};
 
 use crate::clause::{Gathered, gather};
 use crate::resolved::{Flattened, Program};
@@ -13,7 +13,8 @@ use sa_graph::entry;
 use sa_include_conflicts::{
     ClassFeatures, Stays, group_features, is_set, item, staying, stub_left,
 };
-use sa_tree::{Class, Feature, Kind, NoMemory, Pos, Refusal, Rule, Ty};
+use sa_subtypes_pairs::position;
+use sa_tree::{Class, Feature, Kind, NoMemory, Pos, Refusal, Rule};
 use sqlite_items::Items;
 use std::alloc::{AllocError, Global};
 
@@ -25,7 +26,9 @@ pub(crate) fn flatten_class(
     maker: &mut Maker<'_>,
     number: u32,
 ) -> Result<Flattened, NoMemory>
-    ensures { (c : Class) → slice_get program.now.classes.now number ≡ Some c → IfOk result (IsResolved c) }
+    requires { IsProgram program.now }
+    ensures { (c : Class) → slice_get program.now.classes.now number ≡ Some c
+        → IfOk result (IsResolved program.now.classes.now c) }
 {
     let class = item(program.classes, number as usize)?;
     let gathered = gather(alloc, program, resolved, maker, number)?;
@@ -51,7 +54,8 @@ fn judge(
     gathered: &Gathered,
     arrays: Option<usize>,
 ) -> Result<Judged, NoMemory>
-    ensures { IfOk result (IsJudged class.now gathered.now.features.items) }
+    ensures { (classes : List Class) → IsArrayFound classes class.now arrays
+        → IfOk result (IsJudged classes class.now gathered.now) }
 {
     let features = ClassFeatures {
         brought: gathered.features.as_slice(),
@@ -90,7 +94,8 @@ fn refusal_of(
     gathered: &Gathered,
     found: &Found,
 ) -> Result<Option<Refusal>, NoMemory>
-    ensures { IfOk result (λ refusal. refusal ≡ None → IsNothing found.now) }
+    ensures { IfOk result (λ refusal.
+        MatchOption refusal (IsNothing found.now) (IsOfFound class.now gathered.now found.now)) }
 {
     if gathered.refusal.is_some() {
         return Ok(gathered.refusal);
@@ -101,7 +106,7 @@ fn refusal_of(
     }
     if let Some(clause) = refused_clause(&gathered.clauses, found.brought, found.arrays)? {
         let include = item(class.includes.as_slice(), clause)?;
-        return Ok(Some(Rule::IncludedFeaturesConflict.at(pos_of(&include.ty))));
+        return Ok(Some(Rule::IncludedFeaturesConflict.at(position(&include.ty))));
     }
     match found.stub {
         Some(pos) => Ok(Some(Rule::StubLeft.at(pos))),
@@ -116,7 +121,8 @@ fn refused_clause(
     conflict: Option<usize>,
     arrays: Option<usize>,
 ) -> Result<Option<usize>, NoMemory>
-    ensures { IfOk result (λ clause. clause ≡ None → (conflict ≡ None) × (arrays ≡ None)) }
+    ensures { IfOk result (λ clause.
+        MatchOption clause ((conflict ≡ None) × (arrays ≡ None)) (IsClauseFound conflict arrays)) }
 {
     let Some(place) = conflict else {
         return Ok(arrays);
@@ -125,15 +131,6 @@ fn refused_clause(
     match arrays {
         Some(second) => Ok(Some(clause.min(second))),
         None => Ok(Some(clause)),
-    }
-}
-
-fn pos_of(ty: &Ty) -> Pos {
-    match ty {
-        Ty::Named(_, _, pos) => *pos,
-        Ty::Same(pos) => *pos,
-        Ty::Rout(_, _, pos) => *pos,
-        Ty::Iter(_, _, pos) => *pos,
     }
 }
 

@@ -1,5 +1,10 @@
 //! The features that the include clauses of a class bring.
 
+ghost use Rattle.std.specs.Prelude.{◌≡◌, ◌⊎◌, IfOk, OnOk, Some, slice_get};
+ghost use Rattle.sa_tree.specs.declared.class.Class.{Class};
+ghost use Rattle.sa_tree.specs.declared.refusal.Refusal.{Refusal};
+ghost use Rattle.sa_include.specs.Refusals.{RefusesChange, RefusesChangeIn};
+
 use crate::renamed::{Renaming, access_after, name_after};
 use crate::resolved::{Flattened, Program};
 use crate::substitute::{Included, Maker, Renamed, TypeArguments};
@@ -26,7 +31,10 @@ pub(crate) fn gather<'a>(
     resolved: &'a [Flattened],
     maker: &mut Maker<'_>,
     number: u32,
-) -> Result<Gathered, NoMemory> {
+) -> Result<Gathered, NoMemory>
+    ensures { (c : Class) → slice_get program.now.classes.now number ≡ Some c
+        → IfOk result (λ gathered. (refusal : Refusal) → gathered.refusal ≡ Some refusal → RefusesChange c refusal) }
+{
     let class = item(program.classes, number as usize)?;
     let mut gathered = Gathered {
         features: Vec::new(alloc),
@@ -52,7 +60,10 @@ fn bring_clause(
     same: &Ty,
     maker: &mut Maker<'_>,
     gathered: &mut Gathered,
-) -> Result<(), NoMemory> {
+) -> Result<(), NoMemory>
+    ensures { OnOk result ((refusal : Refusal) → gathered.new.refusal ≡ Some refusal
+        → (gathered.old.refusal ≡ Some refusal) ⊎ RefusesChangeIn include.now refusal) }
+{
     let mut clause = Clause::new(alloc, source.class, include, place, same)?;
     clause.bring(alloc, source, maker, gathered)?;
     gathered.refuse(clause.renaming.refused(include.changes.as_slice()));
@@ -61,7 +72,9 @@ fn bring_clause(
 
 impl Gathered {
     /// Puts a feature that a clause brings behind the others.
-    fn add(&mut self, included: Included, clause: usize) -> Result<(), NoMemory> {
+    fn add(&mut self, included: Included, clause: usize) -> Result<(), NoMemory>
+        ensures { OnOk result (self.new.refusal ≡ self.old.refusal) }
+    {
         let Included { feature, open } = included;
         self.features.push(feature)?;
         self.open.push(open)?;
@@ -70,7 +83,9 @@ impl Gathered {
     }
 
     /// Keeps the refusal of a clause, where there is none of an earlier one.
-    fn refuse(&mut self, refusal: Option<Refusal>) {
+    fn refuse(&mut self, refusal: Option<Refusal>)
+        ensures { (self.new.refusal ≡ self.old.refusal) ⊎ (self.new.refusal ≡ refusal) }
+    {
         if self.refusal.is_none() {
             self.refusal = refusal;
         }
@@ -134,7 +149,9 @@ impl<'a> Clause<'a> {
         source: &Source<'_>,
         maker: &mut Maker<'_>,
         gathered: &mut Gathered,
-    ) -> Result<(), NoMemory> {
+    ) -> Result<(), NoMemory>
+        ensures { OnOk result (gathered.new.refusal ≡ gathered.old.refusal) }
+    {
         let flattened = source.flattened;
         for (place, feature) in flattened.brought.as_slice().iter().enumerate() {
             let open = is_set(&flattened.open, place);
@@ -149,7 +166,9 @@ impl<'a> Clause<'a> {
         source: &Source<'_>,
         maker: &mut Maker<'_>,
         gathered: &mut Gathered,
-    ) -> Result<(), NoMemory> {
+    ) -> Result<(), NoMemory>
+        ensures { OnOk result (gathered.new.refusal ≡ gathered.old.refusal) }
+    {
         for (place, feature) in source.class.features.as_slice().iter().enumerate() {
             if is_set(&source.flattened.stays, place) {
                 let open = is_set(source.open, place);
@@ -167,7 +186,9 @@ impl<'a> Clause<'a> {
         open: bool,
         maker: &mut Maker<'_>,
         gathered: &mut Gathered,
-    ) -> Result<(), NoMemory> {
+    ) -> Result<(), NoMemory>
+        ensures { OnOk result (gathered.new.refusal ≡ gathered.old.refusal) }
+    {
         let Some(renamed) = self.renamed(alloc, feature)? else {
             return Ok(());
         };

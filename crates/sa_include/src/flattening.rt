@@ -1,9 +1,15 @@
 //! The classes of a program with their features flattened.
 
-ghost use Rattle.std.specs.Prelude.{◌≡◌, ◌≢◌, IfOk, None, OnOk, Some, false, slice_get, slice_set};
-ghost use Rattle.std.specs.List.{AllZip};
+ghost use Rattle.std.specs.Prelude.{◌≡◌, ◌≢◌, Err, IfOk, None, OnOk, Some, false, slice_get, slice_set};
+ghost use Rattle.std.specs.List.{All, AllZip};
+ghost use Rattle.sa_tree.specs.declared.refusal.FrontFault.TheVariants.{Refused};
+ghost use Rattle.sa_tree.specs.declared.refusal.Refusal.{Refusal};
+ghost use Rattle.sa_include_names.specs.Includes.{AreArrays, HasOneArray};
+ghost use Rattle.sa_include_names.specs.Refusals.{AreIncludesRight};
+ghost use Rattle.sa_include_names.specs.Tables.{HasNumbers};
 ghost use Rattle.sa_include.specs.Flattened.{AreFlattened};
-ghost use Rattle.sa_include.specs.Resolved.{AreAcceptedUpTo, AreResolved, IsAccepted};
+ghost use Rattle.sa_include.specs.Refusals.{RefusesIncludes, RefusesOneClass};
+ghost use Rattle.sa_include.specs.Resolved.{AreAcceptedUpTo, AreResolved, IsAccepted, IsFirstRefused, IsProgram};
 ghost use Rattle.sa_include.specs.declared.resolved.Flattened.{Flattened};
 
 use crate::budget::Budget;
@@ -30,6 +36,9 @@ use std::alloc::Global;
 /// [`MOST_FORMS`](crate::MOST_FORMS).
 pub fn flatten(alloc: Global, classes: &[Class]) -> Result<Flat, FrontFault>
     ensures flattened { IfOk result (λ flat. AreFlattened classes.now flat.classes) }
+    ensures right { OnOk result (AreIncludesRight classes.now) }
+    ensures arrays { OnOk result (All (λ c. HasOneArray classes.now c.includes) classes.now) }
+    ensures refused { (refusal : Refusal) → result ≡ Err (Refused refusal) → RefusesIncludes classes.now refusal }
 {
     let includes = Includes::new(alloc, classes)?;
     let resolved = resolved(alloc, classes, &includes)?;
@@ -48,7 +57,11 @@ fn resolved(
     classes: &[Class],
     includes: &Includes,
 ) -> Result<Vec<Flattened>, FrontFault>
-    ensures { IfOk result (λ resolved. AllZip IsAccepted classes.now resolved.items) }
+    requires right { AreIncludesRight classes.now }
+    requires numbers { HasNumbers classes.now includes.now.numbers }
+    requires arrays { AreArrays classes.now includes.now.arrays.items }
+    ensures accepted { IfOk result (λ resolved. AllZip (IsAccepted classes.now) classes.now resolved.items) }
+    ensures refused { (refusal : Refusal) → result ≡ Err (Refused refusal) → RefusesOneClass classes.now refusal }
 {
     let params = all_params(alloc, classes)?;
     let open = open_in_all(alloc, classes, &params)?;
@@ -75,7 +88,12 @@ fn resolve(
     program: &Program<'_>,
     maker: &mut Maker<'_>,
 ) -> Result<Vec<Flattened>, FrontFault>
-    ensures { IfOk result (λ resolved. AllZip IsAccepted program.now.classes.now resolved.items) }
+    requires right { AreIncludesRight program.now.classes.now }
+    requires program { IsProgram program.now }
+    ensures accepted { IfOk result (λ resolved.
+        AllZip (IsAccepted program.now.classes.now) program.now.classes.now resolved.items) }
+    ensures refused { (refusal : Refusal) → result ≡ Err (Refused refusal)
+        → RefusesOneClass program.now.classes.now refusal }
 {
     let mut resolved = unresolved(alloc, program.classes)?;
     let mut accepted = 0;
@@ -148,15 +166,16 @@ fn open_in(alloc: Global, features: &[Feature], params: &Weights) -> Result<Vec<
 /// before it that has a refusal is refused.
 fn accepted_up_to(resolved: &[Flattened], from: usize) -> Result<usize, FrontFault>
     requires { AreAcceptedUpTo from resolved.now }
-    ensures { IfOk result (λ number. AreAcceptedUpTo number resolved.now) }
+    ensures accepted { IfOk result (λ number. AreAcceptedUpTo number resolved.now) }
+    ensures refused { (refusal : Refusal) → result ≡ Err (Refused refusal) → IsFirstRefused resolved.now refusal }
 {
     for number in from..resolved.len() {
         let flattened = item(resolved, number)?;
-        if let Some(refusal) = flattened.refusal {
-            return Err(FrontFault::Refused(refusal));
-        }
         if !flattened.done {
             return Ok(number);
+        }
+        if let Some(refusal) = flattened.refusal {
+            return Err(FrontFault::Refused(refusal));
         }
     }
     Ok(resolved.len())
@@ -168,7 +187,7 @@ fn whole_classes(
     classes: &[Class],
     resolved: Vec<Flattened>,
 ) -> Result<Items<Class>, NoMemory>
-    requires { AllZip IsAccepted classes.now resolved.items }
+    requires { AllZip (IsAccepted classes.now) classes.now resolved.items }
     ensures { IfOk result (λ whole. AreFlattened classes.now whole) }
 {
     let mut last_first = resolved;

@@ -1,6 +1,11 @@
 //! The changes of an include clause: what an included feature is called, and who sees it. A change is of a feature that the
 //! clause brings, and its two names are both those of iters or neither is (else E16).
 
+ghost use Rattle.std.specs.Prelude.{◌≡◌, Contains, Some};
+ghost use Rattle.sa_tree.specs.declared.class.Change.{Change};
+ghost use Rattle.sa_tree.specs.declared.refusal.Refusal.{Refusal};
+ghost use Rattle.sa_tree.specs.declared.rule.Rule.TheVariants.{NoSuchIncludedFeature};
+
 use indexmap::IndexMap;
 use sa_graph::put;
 use sa_include_conflicts::is_set;
@@ -50,7 +55,10 @@ impl Renaming {
     }
 
     /// The refusal of the first change, in text order, that isn't one of a feature that the clause brings.
-    pub(crate) fn refused(&self, changes: &[Change]) -> Option<Refusal> {
+    pub(crate) fn refused(&self, changes: &[Change]) -> Option<Refusal>
+        ensures { (refusal : Refusal) → result ≡ Some refusal → (change : Change) × Contains changes.now change
+            × (refusal ≡ record { rule = NoSuchIncludedFeature; pos = change.from.pos }) }
+    {
         for change in changes {
             if !self.is_met(&change.from.name) || !keeps_the_kind(change) {
                 return Some(Rule::NoSuchIncludedFeature.at(change.from.pos));

@@ -1,8 +1,9 @@
 //! A class without its includes: its header, the features that its includes bring and that stay, and those that it writes
 //! itself and that stay.
 
-ghost use Rattle.std.specs.Prelude.{◌≡◌, ◌++◌, IfOk};
+ghost use Rattle.std.specs.Prelude.{◌≡◌, ◌++◌, IfOk, List};
 ghost use Rattle.std.specs.List.{items_where_true};
+ghost use Rattle.sa_tree.specs.declared.class.Class.{Class};
 ghost use Rattle.sa_include.specs.Flattened.{IsFlattened};
 ghost use Rattle.sa_include.specs.Parts.{PutsNothing};
 ghost use Rattle.sa_include.specs.Resolved.{IsAccepted};
@@ -22,9 +23,8 @@ pub(crate) fn whole_class(
     flattened: Flattened,
     nothing: &Substitution<'_>,
 ) -> Result<Class, NoMemory>
-    requires accepted { IsAccepted class.now flattened }
     requires nothing { PutsNothing nothing.now }
-    ensures { IfOk result (λ flat. IsFlattened class.now flat) }
+    ensures { (classes : List Class) → IsAccepted classes class.now flattened → IfOk result (IsFlattened class.now) }
 {
     let Flattened { brought, stays, .. } = flattened;
     let written = class.features.as_slice();

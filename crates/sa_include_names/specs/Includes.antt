@@ -1,6 +1,8 @@
 -- Which classes include which, and which have the array part by their includes.
-use Rattle.std.specs.Prelude.{◌≡◌, ◌⊎◌, ◌↔◌, Bool, true, false, ℕ, List, Option, None, Some, Contains, codes, cond, slice_get}
+use Rattle.std.specs.Prelude.{◌≡◌, ◌⊎◌, ◌↔◌, ◌≤◌, Bool, true, false, ℕ, List, Option, None, Some, Contains}
+use Rattle.std.specs.Prelude.{codes, cond, count_by, slice_get, take}
 use Rattle.std.specs.List.{slice_index_or}
+use Rattle.std.specs.Option.{option_map_or}
 use Rattle.sa_tree.specs.declared.class.Class.{Class}
 use Rattle.sa_tree.specs.declared.class.Include.{Include}
 use Rattle.sa_tree.specs.Types.{BareTy, Named, bare}
@@ -40,3 +42,32 @@ is_set marks number = slice_index_or marks number false
 -- the classes with an array part are marked
 abbrev pub AreArrays : List Class → List Bool → Type 0
 AreArrays classes marks = (number : ℕ) → (is_set marks number ≡ true) ↔ HasArrayPart classes number
+
+-- ---- include clauses with an array part, where the classes that have it are marked
+
+-- the class that the type of an include clause names, in a class no parameter of which hides it
+abbrev pub number_named : (List ℕ → Option ℕ) → BareTy → Option ℕ
+number_named number (Named name given) = number name
+number_named number other = None
+
+abbrev pub brings_array : (List ℕ → Option ℕ) → List Bool → Include → Bool
+brings_array number marks clause = option_map_or (is_set marks) (number_named number (bare clause.ty)) false
+
+-- the clause at a place passes a test, and one before it does
+pub record IsSecond (test : Include → Bool) (includes : List Include) (place : ℕ) : Type 0 where
+  pub clause : Include
+  pub at : slice_get includes place ≡ Some clause
+  pub passes : test clause ≡ true
+  pub before : count_by test (take place includes) ≡ 1
+
+-- it is the second of these clauses that brings an array part
+pub record IsSecondArray (classes : List Class) (includes : List Include) (place : ℕ) : Type 0 where
+  pub arrays : List Bool
+  pub marked : AreArrays classes arrays
+  pub second : IsSecond (brings_array (number_of classes) arrays) includes place
+
+-- one of these clauses brings an array part at most
+pub record HasOneArray (classes : List Class) (includes : List Include) : Type 0 where
+  pub arrays : List Bool
+  pub marked : AreArrays classes arrays
+  pub one : count_by (brings_array (number_of classes) arrays) includes ≤ 1

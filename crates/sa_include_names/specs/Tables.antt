@@ -57,10 +57,6 @@ first list = slice_get list 0
 
 -- ---- the include clauses as edges
 
-abbrev pub number_written : ClassNumbers → BareTy → Option ℕ
-number_written numbers (Named name given) = number_in numbers name
-number_written numbers other = None
-
 -- the class that a type of an include clause names
 abbrev pub included_in : ParamNames → ClassNumbers → BareTy → Option ℕ
 included_in params numbers (Named name given) = cond (hidden_in params name) None (number_in numbers name)

@@ -1,13 +1,14 @@
 //! An order in which each class stands behind those that it includes. There is none where a class includes itself, by itself
 //! or by others (E15).
 
-ghost use Rattle.std.specs.Prelude.{◌≡◌, ℕ, ◌<◌, Err, IfOk, OnOk};
+ghost use Rattle.std.specs.Prelude.{◌≡◌, ℕ, ◌<◌, ◌≤◌, Err, IfOk, MatchOption, OnOk, count_by};
 ghost use Rattle.sa_graph.specs.Paths.{IsOnCycle, node_count};
 ghost use Rattle.sa_tree.specs.declared.refusal.FrontFault.TheVariants.{Refused};
 ghost use Rattle.sa_tree.specs.declared.refusal.Refusal.{Refusal};
 ghost use Rattle.sa_tree.specs.Types.{bare};
+ghost use Rattle.sa_include_names.specs.Includes.{AreArrays, IsSecond, brings_array, number_named};
 ghost use Rattle.sa_include_names.specs.Refusals.{AreIncludesRight, RefusesNames};
-ghost use Rattle.sa_include_names.specs.Tables.{CycleAt, HasNumbers, number_written};
+ghost use Rattle.sa_include_names.specs.Tables.{CycleAt, HasNumbers, number_in};
 
 use crate::graph::{Edges, array_parts, is_marked};
 use crate::header::first_misused;
@@ -36,6 +37,7 @@ impl Includes {
     /// memory runs out.
     pub fn new(alloc: Global, classes: &[Class]) -> Result<Includes, FrontFault>
         ensures numbers { IfOk result (λ includes. HasNumbers classes.now includes.numbers) }
+        ensures arrays { IfOk result (λ includes. AreArrays classes.now includes.arrays.items) }
         ensures right { OnOk result (AreIncludesRight classes.now) }
         ensures refused { (refusal : Refusal) → result ≡ Err (Refused refusal) → RefusesNames classes.now refusal }
     {
@@ -62,7 +64,7 @@ impl Includes {
     /// The class that the type of an include clause names.
     #[tactic(auto, using(sa_tree::proofs::BareTypes::bares))]
     pub fn included(&self, ty: &Ty) -> Option<u32>
-        ensures { result ≡ number_written self.now.numbers (bare ty.now) }
+        ensures { result ≡ number_named (number_in self.now.numbers) (bare ty.now) }
     {
         match ty {
             Ty::Named(name, _, _) => self.numbers.of(name),
@@ -70,8 +72,13 @@ impl Includes {
         }
     }
 
-    /// The second of these include clauses that is of AREF or of a class that reaches it by its includes, if there are two.
-    pub fn second_with_array(&self, includes: &[Include]) -> Option<usize> {
+    /// The place of the second of these include clauses that is of AREF or of a class that reaches it by its includes, if there
+    /// are two.
+    pub fn second_with_array(&self, includes: &[Include]) -> Option<usize>
+        ensures { MatchOption result
+            (count_by (brings_array (number_in self.now.numbers) self.now.arrays.items) includes.now ≤ 1)
+            (IsSecond (brings_array (number_in self.now.numbers) self.now.arrays.items) includes.now) }
+    {
         let mut one = false;
         for (clause, include) in includes.iter().enumerate() {
             if self.has_array(include) {
@@ -84,7 +91,9 @@ impl Includes {
         None
     }
 
-    fn has_array(&self, include: &Include) -> bool {
+    fn has_array(&self, include: &Include) -> bool
+        ensures { result ≡ brings_array (number_in self.now.numbers) self.now.arrays.items include.now }
+    {
         match self.included(&include.ty) {
             Some(class) => is_marked(&self.arrays, class),
             None => false,

@@ -61,8 +61,9 @@ fn is_abstract_class(ty: &Ty, names: &Names) -> bool
     }
 }
 
+/// Where a type stands.
 #[tactic(auto, using(crate::proofs::Supertypes::positions))]
-fn position(ty: &Ty) -> Pos
+pub fn position(ty: &Ty) -> Pos
     ensures { result ≡ position_of ty.now }
 {
     match ty {
