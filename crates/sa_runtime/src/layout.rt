@@ -79,8 +79,12 @@ pub const BOUND_CALL: u32 = 47;
 /// The function of the first body of the program.
 pub const FIRST_BODY: u32 = 48;
 
-/// The number of the type that the function of each body has, behind those of the three imported functions: it takes the depth
-/// of its activation and its frame, or 0, and answers a status.
+/// How many of the arguments of a body are parameters of its function, at most. The others lie in memory.
+pub const PARAMETERS: usize = 4;
+
+/// The number of the type that the function of a body without arguments has, behind those of the three imported functions; those
+/// of bodies with arguments follow, up to `PARAMETERS` of them. A function takes its arguments, its own object, how much deeper
+/// activations may nest, and its frame, or 0, and answers a status.
 pub const BODY_TYPE: u32 = 3;
 
 /// The status of a body that has returned.
