@@ -3,6 +3,7 @@
 use crate::dispatch::{Dispatch, add_loop};
 use crate::pool::has_frames;
 use crate::predecessors::predecessors_of;
+use crate::reached::Reached;
 use crate::resuming::add_before_choice;
 use crate::steps::Writer;
 use crate::structured::add_shaped;
@@ -18,17 +19,20 @@ use sqlite_items::Items;
 use std::alloc::Global;
 use wa_syntax::{Func, Instr, NoMemory};
 
-/// The function of each body, in order.
+/// The function of each body that is reached, in order.
 pub(crate) fn add_bodies(
     alloc: Global,
     funcs: &mut Items<Func>,
     program: Program<'_>,
+    reached: &Reached,
 ) -> Result<(), NoMemory> {
     let Some((last, others)) = program.flat.bodies.as_slice().split_last() else {
         return Ok(());
     };
-    for body in others {
-        funcs.push(function(alloc, program, body, role_of(body))?)?;
+    for (body, is_reached) in others.iter().zip(reached.bodies.iter()) {
+        if *is_reached {
+            funcs.push(function(alloc, program, body, role_of(body))?)?;
+        }
     }
     funcs.push(function(alloc, program, last, Role::Last)?)?;
     Ok(())

@@ -1,10 +1,11 @@
 //! The bodies that bound values call, and those of the implementations that have no place by their signature, with their places in
 //! the table of functions, behind those that have one.
 
+use crate::reached::Reached;
 use crate::sums::{number, sum};
 use sa_dispatch::Rows;
 use sa_emit_value::held;
-use sa_flat::{Callee, FlatProgram};
+use sa_flat::{BindEntry, Callee, FlatProgram};
 use sqlite_items::Items;
 use std::alloc::Global;
 use wa_syntax::NoMemory;
@@ -25,16 +26,18 @@ pub(crate) fn places_of(
     alloc: Global,
     flat: &FlatProgram,
     rows: &Rows,
+    reached: &Reached,
 ) -> Result<Places, NoMemory> {
     let mut places = no_places(alloc, flat, rows)?;
-    for bind in flat.binds.as_slice() {
-        match bind.callee {
-            Callee::Body(body) => places.add(body)?,
-            _ => {}
+    for (bind, is_reached) in flat.binds.as_slice().iter().zip(reached.binds.iter()) {
+        if *is_reached {
+            places.add_bind(bind)?;
         }
     }
     for sig in 0..rows.signatures() {
-        places.add_signature(flat, rows, sig)?;
+        if reached.signatures.get(sig as usize) == Some(&true) {
+            places.add_signature(flat, rows, sig)?;
+        }
     }
     Ok(places)
 }
@@ -53,6 +56,14 @@ fn no_places(alloc: Global, flat: &FlatProgram, rows: &Rows) -> Result<Places, N
 }
 
 impl Places {
+    /// Adds the body that the values of a bind call.
+    fn add_bind(&mut self, bind: &BindEntry) -> Result<(), NoMemory> {
+        match bind.callee {
+            Callee::Body(body) => self.add(body),
+            _ => Ok(()),
+        }
+    }
+
     /// Adds a body that isn't there yet.
     fn add(&mut self, body: u32) -> Result<(), NoMemory> {
         let at = body as usize;

@@ -19,13 +19,19 @@ pub(crate) const MAIN_TYPE: u32 = BODY_TYPE + PARAMETERS as u32 + 1;
 
 /// The types up to that of `main`.
 pub(crate) fn own_types(alloc: Global) -> Result<Items<FuncTy>, NoMemory> {
-    let mut types = Items::new(alloc);
-    types.push(func_type(alloc, &[ValTy::I32], &[])?)?;
-    types.push(func_type(alloc, &[], &[ValTy::I32])?)?;
+    let mut types = host_types(alloc)?;
     types.push(func_type(alloc, &[ValTy::I32, ValTy::I32], &[])?)?;
     for arguments in 0..=PARAMETERS {
         types.push(body_type(alloc, arguments)?)?;
     }
+    types.push(func_type(alloc, &[], &[ValTy::I32])?)?;
+    Ok(types)
+}
+
+/// The types of `put` and of `get`.
+pub(crate) fn host_types(alloc: Global) -> Result<Items<FuncTy>, NoMemory> {
+    let mut types = Items::new(alloc);
+    types.push(func_type(alloc, &[ValTy::I32], &[])?)?;
     types.push(func_type(alloc, &[], &[ValTy::I32])?)?;
     Ok(types)
 }

@@ -75,7 +75,7 @@ fn add_object(
     let line = [
         Op::I64(header(entry.ty, BOUND, at)),
         Op::I64(u64::from(size)),
-        Op::Call(ALLOCATE),
+        around.runtime(ALLOCATE)?,
         Op::Tee(around.address()),
         Op::Do(I32_EQZ),
     ];
@@ -170,7 +170,7 @@ pub(crate) fn add_bound_call(
         Op::I32(0),
         around.operand(plan.recv),
         Op::Do(I32_WRAP_I64),
-        Op::Call(BOUND_CALL),
+        around.runtime(BOUND_CALL)?,
         Op::Tee(around.status()),
     ];
     add_line(code, &line)?;

@@ -4,7 +4,7 @@ use crate::binding::add_bound_call;
 use crate::dispatch::add_dispatch;
 use sa_emit_value::{
     Around, Handing, add_answers, add_builtin, add_fail_if, add_get, add_get_shared, add_if,
-    add_passed, add_raise, add_set, add_set_shared, function_of,
+    add_passed, add_raise, add_set, add_set_shared,
 };
 use sa_flat::{CallPlan, Callee, Fail};
 use sa_runtime::fault_numbers::TOO_DEEP;
@@ -42,7 +42,7 @@ fn add_body_call(
     plan: &CallPlan,
     body: u32,
 ) -> Result<(), NoMemory> {
-    let func = function_of(body)?;
+    let func = around.program.function_of(body)?;
     add_depth_test(alloc, code, around, &plan.fail)?;
     add_passed(code, around, plan.args.as_slice(), Handing::AtStart)?;
     add_line(code, &[around.operand(plan.recv)])?;

@@ -5,7 +5,7 @@ use crate::frames::add_is_frame;
 use crate::outcome::{Instance, add_is_raised, add_is_suspended, add_quit};
 use sa_emit_call::{add_deeper, add_too_deep};
 use sa_emit_value::{
-    Around, Handing, add_answers, add_handed_on, add_if, add_if_else, add_passed, function_of,
+    Around, Handing, add_answers, add_handed_on, add_if, add_if_else, add_passed,
 };
 use sa_flat::FlatArg;
 use sa_runtime::fault_numbers::{TOO_DEEP, TOO_MANY_FRAMES};
@@ -45,7 +45,7 @@ pub(crate) fn add_enter(
     around: &Around<'_>,
     entering: &Entering<'_>,
 ) -> Result<(), NoMemory> {
-    let func = function_of(entering.body)?;
+    let func = around.program.function_of(entering.body)?;
     add_too_deep(code, around)?;
     add_handed_on_if(alloc, code, TOO_DEEP)?;
     add_frame(alloc, code, around)?;
@@ -77,7 +77,7 @@ fn add_frame(
 ) -> Result<(), NoMemory> {
     let frame = around.frame();
     let mut start = Items::new(alloc);
-    let line = [Op::Call(NEW_FRAME), Op::Tee(frame), Op::Do(I32_EQZ)];
+    let line = [around.runtime(NEW_FRAME)?, Op::Tee(frame), Op::Do(I32_EQZ)];
     add_line(&mut start, &line)?;
     add_handed_on_if(alloc, &mut start, TOO_MANY_FRAMES)?;
     add_line(code, &[Op::Get(frame), Op::Do(I32_EQZ)])?;
@@ -102,7 +102,7 @@ fn add_ended(
     around: &Around<'_>,
     quit: u32,
 ) -> Result<(), NoMemory> {
-    add_line(code, &[Op::Get(around.frame()), Op::Call(END_FRAME)])?;
+    add_line(code, &[Op::Get(around.frame()), around.runtime(END_FRAME)?])?;
     let mut raise = Items::new(alloc);
     add_line(&mut raise, &[Op::I32(RAISED), Op::Do(RETURN)])?;
     add_is_raised(code, around)?;

@@ -44,16 +44,21 @@ pub(crate) fn add_release(
     sites: &[u32],
 ) -> Result<(), NoMemory> {
     for site in sites {
-        add_release_of(alloc, code, around.site(*site))?;
+        add_release_of(alloc, code, around, around.site(*site))?;
     }
     Ok(())
 }
 
-fn add_release_of(alloc: Global, code: &mut Items<Instr>, frame: u32) -> Result<(), NoMemory> {
+fn add_release_of(
+    alloc: Global,
+    code: &mut Items<Instr>,
+    around: &Around<'_>,
+    frame: u32,
+) -> Result<(), NoMemory> {
     let mut release = Items::new(alloc);
     let line = [
         Op::Get(frame),
-        Op::Call(RELEASE),
+        around.runtime(RELEASE)?,
         Op::I32(0),
         Op::Set(frame),
     ];
@@ -71,7 +76,7 @@ pub(crate) fn add_new_frame(
 ) -> Result<(), NoMemory> {
     let fail = &site.plan.fail;
     add_depth_test(alloc, code, around, fail)?;
-    let line = [Op::Call(NEW_FRAME), Op::Tee(site.frame), Op::Do(I32_EQZ)];
+    let line = [around.runtime(NEW_FRAME)?, Op::Tee(site.frame), Op::Do(I32_EQZ)];
     add_line(code, &line)?;
     add_fail_if(alloc, code, around, Op::I32(TOO_MANY_FRAMES), fail)
 }

@@ -234,7 +234,7 @@ fn add_ended(
 ) -> Result<(), NoMemory> {
     let fail = &site.plan.fail;
     if keeps_frame(called) {
-        add_line(code, &[Op::Get(site.frame), Op::Call(END_FRAME)])?;
+        add_line(code, &[Op::Get(site.frame), around.runtime(END_FRAME)?])?;
     }
     add_line(code, &[Op::I32(0), Op::Set(site.frame)])?;
     if !keeps_frame(called) {

@@ -9,7 +9,7 @@ use sa_emit_call::{
     Choice, Class, Implementations, add_chosen, add_deeper, add_depth_test, implementations_of,
 };
 use sa_emit_value::{
-    ARGUMENTS, Around, Handing, add_handed, add_passed, add_type_of, add_void_test, function_of,
+    ARGUMENTS, Around, Handing, add_handed, add_passed, add_type_of, add_void_test,
     parameters,
 };
 use sa_flat::{CallPlan, Callee};
@@ -78,7 +78,7 @@ fn add_body_start(
     site: &Site<'_>,
     body: u32,
 ) -> Result<(), NoMemory> {
-    let func = function_of(body)?;
+    let func = around.program.function_of(body)?;
     add_new_frame(alloc, code, around, site)?;
     add_all(code, around, site)?;
     add_deeper(code, around, Op::Get(site.frame))?;
@@ -94,7 +94,7 @@ fn add_body_resume(
     site: &Site<'_>,
     body: u32,
 ) -> Result<(), NoMemory> {
-    let func = function_of(body)?;
+    let func = around.program.function_of(body)?;
     add_depth_test(alloc, code, around, &site.plan.fail)?;
     add_all_but_once(code, around, site)?;
     add_deeper(code, around, Op::Get(site.frame))?;
@@ -232,7 +232,7 @@ fn add_bound_start(
         Op::I32(0),
         around.operand(plan.recv),
         Op::Do(I32_WRAP_I64),
-        Op::Call(BOUND_CALL),
+        around.runtime(BOUND_CALL)?,
     ];
     add_line(code, &line)?;
     add_started(alloc, code, around, site, Called::Bound)
@@ -252,7 +252,7 @@ fn add_bound_resume(
     add_handed(code, around, args, Handing::AtResumption)?;
     add_line(code, &[Op::Get(around.depth()), Op::Get(site.frame)])?;
     add_called(code, site)?;
-    add_line(code, &[Op::Call(BOUND_CALL)])?;
+    add_line(code, &[around.runtime(BOUND_CALL)?])?;
     add_resumed(alloc, code, around, site, Called::Bound)
 }
 

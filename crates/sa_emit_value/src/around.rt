@@ -11,7 +11,7 @@ use crate::reading::Reading;
 use sa_dispatch::Rows;
 use sa_flat::{FIRST_TEMPORARY, FlatBody, FlatProgram};
 use sa_operands::{Given, Keeping};
-use sa_runtime::layout::{FIRST_BODY, PARAMETERS};
+use sa_runtime::layout::PARAMETERS;
 use sa_runtime::line::Op;
 use sa_shape::Jump;
 use std::alloc::Global;
@@ -58,14 +58,24 @@ pub struct Program<'a> {
     pub below: &'a Below,
     /// The address of each bind's entry.
     pub entries: &'a [u32],
-    /// For each body its place in the table behind those of the rows, if a bind calls it through the table.
+    /// For each body its place in the table behind those of the rows, if it has one.
     pub places: &'a [Option<u32>],
+    /// For each function of the runtime its number in the module, if the program can reach it.
+    pub runtime: &'a [Option<u32>],
+    /// For each body the number of its function in the module, if the program can reach it.
+    pub functions: &'a [Option<u32>],
 }
 
 impl<'a> Program<'a> {
     /// A body by its number. The answer is `NoMemory` where there is none.
     pub fn body(&self, number: u32) -> Result<&'a FlatBody, NoMemory> {
         held(self.flat.bodies.get(number as usize))
+    }
+
+    /// The function of a body, by the body's number. The answer is `NoMemory` where the module has none.
+    pub fn function_of(&self, body: u32) -> Result<u32, NoMemory> {
+        let number = held(self.functions.get(body as usize).copied())?;
+        held(number)
     }
 
     /// The number of the body that does the implementation in this row. The answer is `NoMemory` where there is no such row.
@@ -203,6 +213,12 @@ impl<'a> Around<'a> {
         }
     }
 
+    /// Calls a function of the runtime. The answer is `NoMemory` where the module has none.
+    pub fn runtime(&self, function: u32) -> Result<Op, NoMemory> {
+        let number = held(self.program.runtime.get(function as usize).copied())?;
+        Ok(Op::Call(held(number)?))
+    }
+
     /// The number of attributes of a type.
     pub fn attributes(&self, ty: u32) -> Result<u32, NoMemory> {
         held(self.program.flat.types.get(ty as usize).copied())
@@ -261,11 +277,6 @@ pub fn local_of(body: &FlatBody, var: u32) -> u32 {
 pub fn site_local(body: &FlatBody, site: u32) -> u32 {
     let behind = body.temporaries.max(FIRST_TEMPORARY);
     local_of(body, behind).saturating_add(site)
-}
-
-/// The function of a body, by the body's number. The answer is `NoMemory` where 32 bits don't hold it.
-pub fn function_of(body: u32) -> Result<u32, NoMemory> {
-    held(body.checked_add(FIRST_BODY))
 }
 
 /// The locals of the function of the body.

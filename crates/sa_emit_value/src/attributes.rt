@@ -100,7 +100,7 @@ fn add_set_of_value(
         Op::I32(plan.class),
         Op::I32(attributes),
         Op::I32(attribute_at(place)),
-        Op::Call(CHANGED),
+        around.runtime(CHANGED)?,
         Op::Tee(around.status()),
     ];
     add_line(code, &line)?;

@@ -330,7 +330,7 @@ fn add_called(
     add_operands(code, around, plan)?;
     add_layout(code, around, plan, feature)?;
     let line = [
-        Op::Call(FIRST_BUILTIN + u32::from(feature.number())),
+        around.runtime(FIRST_BUILTIN + u32::from(feature.number()))?,
         Op::Tee(around.status()),
     ];
     add_line(code, &line)?;

@@ -75,7 +75,7 @@ fn add_fault(
         kind,
         Op::I32(fail.place),
         Op::I32(fail.line),
-        Op::Call(FAULT),
+        around.runtime(FAULT)?,
     ];
     add_line(code, &line)?;
     add_raise(code, around, &fail.raised)

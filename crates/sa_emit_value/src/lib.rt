@@ -21,7 +21,7 @@ pub use area::{
     add_passed, add_prologue, is_copied_back, is_once, parameters,
 };
 pub use around::{
-    Around, Program, Role, address_local, block_local, frame_local, function_of, held, local_of,
+    Around, Program, Role, address_local, block_local, frame_local, held, local_of,
     locals_of, me_local, parameters_of, site_local,
 };
 pub use attributes::{

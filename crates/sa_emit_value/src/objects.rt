@@ -50,7 +50,7 @@ pub fn add_new(
     let line = [
         Op::I64(header(ty, OBJECT, 0)),
         Op::I64(u64::from(size)),
-        Op::Call(ALLOCATE),
+        around.runtime(ALLOCATE)?,
         Op::Tee(around.address()),
         Op::Do(I32_EQZ),
     ];
@@ -78,7 +78,7 @@ pub fn add_new_array(
         around.operand(array.count),
         Op::I32(array.ty),
         Op::I32(first),
-        Op::Call(CREATE),
+        around.runtime(CREATE)?,
         Op::Tee(around.status()),
     ];
     add_line(code, &line)?;
@@ -213,7 +213,7 @@ pub fn add_widened(
         let line = [
             around.operand(from),
             Op::I32(ty),
-            Op::Call(BOXED),
+            around.runtime(BOXED)?,
             Op::Tee(around.status()),
         ];
         return add_line(code, &line);
@@ -223,7 +223,7 @@ pub fn add_widened(
         around.operand(from),
         Op::I32(ty),
         Op::I32(attributes),
-        Op::Call(WIDENED),
+        around.runtime(WIDENED)?,
         Op::Tee(around.status()),
     ];
     add_line(code, &line)
@@ -247,7 +247,7 @@ pub fn add_unwrap(
     let line = [
         around.operand(from),
         Op::I32(attributes),
-        Op::Call(UNWRAPPED),
+        around.runtime(UNWRAPPED)?,
         around.put(Some(to)),
     ];
     add_line(code, &line)
