@@ -7,6 +7,7 @@ mod function;
 mod globals;
 mod memory;
 mod module;
+mod negation;
 mod places;
 mod pool;
 mod predecessors;

@@ -1,5 +1,6 @@
 //! The code of a body that has a shape: blocks, loops and conditions as the shape has them.
 
+use crate::negation::add_negation;
 use crate::resuming::{add_choice, add_choice_again};
 use crate::steps::{Turn, Writer};
 use sa_emit_step::add_leaving;
@@ -8,7 +9,7 @@ use sa_flat::FlatExit;
 use sa_shape::{Jump, Shape, Shaped, block_behind};
 use sqlite_items::Items;
 use std::alloc::Global;
-use wa_syntax::{Instr, NoMemory, opcode};
+use wa_syntax::{Instr, NoMemory};
 
 /// Where a piece of a shape stands.
 #[derive(Clone, Copy)]
@@ -164,7 +165,7 @@ fn add_branch(
     no: u32,
 ) -> Result<(), NoMemory> {
     if spot.behind == Some(yes) {
-        code.push(Instr::Plain(opcode::I32_EQZ))?;
+        add_negation(code)?;
         return add_jump_where(alloc, code, spot, no);
     }
     add_jump_where(alloc, code, spot, yes)?;
