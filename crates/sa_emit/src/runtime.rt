@@ -54,7 +54,7 @@ fn kept(
         types: own,
         funcs: mut waiting,
     } = all;
-    let mut kept = Kept {
+    let mut kept = TypeNumbers {
         types: vec![in alloc; None; own.len()]?,
     };
     let mut funcs = Items::new(alloc);
@@ -74,11 +74,11 @@ fn kept(
 
 /// For each type of the runtime its number in the module, if a kept function has it.
 #[derive(Drop)]
-struct Kept {
+struct TypeNumbers {
     types: Vec<Option<u32>>,
 }
 
-impl Kept {
+impl TypeNumbers {
     /// The number of a type in the module, which gets the type where it isn't there yet.
     fn type_of(
         &mut self,

@@ -28,7 +28,7 @@ pub(crate) enum Built {
 }
 
 /// The shape of a body, which nests at most this deep. Without a choice it begins with the first block, the one behind the entry.
-pub(crate) fn built(alloc: Global, plan: Plan<'_>, depth: u32) -> Result<Built, NoMemory> {
+pub(crate) fn build_list(alloc: Global, plan: Plan<'_>, depth: u32) -> Result<Built, NoMemory> {
     let rank = u32::from(!plan.chooses);
     list_of(alloc, plan, rank, plan.placing.first_stage(rank), depth)
 }
@@ -48,7 +48,7 @@ fn list_of(
         let Some((rank, stage)) = next else {
             break;
         };
-        match piece(alloc, plan, rank, stage, depth)? {
+        match stage_piece(alloc, plan, rank, stage, depth)? {
             Piece::Only(shape) => {
                 list.push(shape)?;
                 next = None;
@@ -75,7 +75,7 @@ enum Piece {
 
 /// A stage of a node.
 #[cycle(building)]
-fn piece(
+fn stage_piece(
     alloc: Global,
     plan: Plan<'_>,
     rank: u32,

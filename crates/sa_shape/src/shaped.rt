@@ -1,6 +1,6 @@
 //! The shape of a body, found and tried.
 
-use crate::building::{Built, Plan, built};
+use crate::building::{Built, Plan, build_list};
 use crate::dominators::{Dominators, Order, Tree};
 use crate::flow::{Flow, flow_of};
 use crate::jumps::{jumps_of, labels_of};
@@ -126,7 +126,7 @@ fn shape_found(
         placing: &placing,
         chooses: entries.len() > 1,
     };
-    let Built::List(list) = built(alloc, plan, DEEPEST)? else {
+    let Built::List(list) = build_list(alloc, plan, DEEPEST)? else {
         return Ok(None);
     };
     let list = in_loop(alloc, list, repeats)?;
@@ -138,7 +138,7 @@ fn shape_found(
     if !stands(alloc, against, list.as_slice())? {
         return Ok(None);
     }
-    Ok(Some(shaped(alloc, body, list, against, repeats)?))
+    Ok(Some(described(alloc, body, list, against, repeats)?))
 }
 
 /// A shape whose choice is jumped back to, as a loop.
@@ -152,7 +152,7 @@ fn in_loop(alloc: Global, list: Items<Shape>, repeats: bool) -> Result<Items<Sha
 }
 
 /// What has to be known of a shape where it is written.
-fn shaped(
+fn described(
     alloc: Global,
     body: &FlatBody,
     list: Items<Shape>,
