@@ -8,13 +8,13 @@ use crate::resuming::add_before_choice;
 use crate::steps::Writer;
 use crate::structured::add_shaped;
 use crate::sums::held_graph;
-use crate::targets::{DispatchTargets, targets_of};
+use crate::targets::targets_of;
 use sa_emit_step::add_suspension;
 use sa_emit_value::{Around, Nesting, Program, Role, add_prologue, locals_of, parameters_of};
 use sa_flat::FlatBody;
 use sa_operands::{Given, Keeping};
 use sa_runtime::layout::BODY_TYPE;
-use sa_shape::{Jump, Shaped, shape_of};
+use sa_shape::{Shaped, shape_of};
 use sqlite_items::Items;
 use std::alloc::Global;
 use wa_syntax::{Func, Instr, NoMemory};
@@ -58,7 +58,8 @@ fn function(
         program,
         body,
         role,
-        jumps: &[],
+        labels: &[],
+        again: &[],
         numbers: &[],
         nesting: Nesting::outermost(),
         readings: &[],
@@ -84,7 +85,7 @@ fn shaped_code(
     shaped: &Shaped,
 ) -> Result<Items<Instr>, NoMemory> {
     let around = Around {
-        jumps: shaped.jumps.as_slice(),
+        again: shaped.again.as_slice(),
         numbers: shaped.numbers.as_slice(),
         ..*around
     };
@@ -103,9 +104,8 @@ fn shaped_code(
 fn dispatched_code(alloc: Global, around: &Around<'_>) -> Result<Items<Instr>, NoMemory> {
     let predecessors = predecessors_of(alloc, around.body)?;
     let targets = targets_of(alloc, around.body, predecessors.as_slice())?;
-    let jumps = jumps_of(alloc, &targets)?;
     let around = Around {
-        jumps: jumps.as_slice(),
+        again: targets.numbers.as_slice(),
         numbers: targets.numbers.as_slice(),
         ..*around
     };
@@ -123,18 +123,6 @@ fn dispatched_code(alloc: Global, around: &Around<'_>) -> Result<Items<Instr>, N
     };
     add_loop(alloc, &mut code, &mut writer, &dispatch)?;
     Ok(code)
-}
-
-/// How each block is jumped to: each dispatch target by its number.
-fn jumps_of(
-    alloc: Global,
-    targets: &DispatchTargets,
-) -> Result<Items<Option<Jump>>, NoMemory> {
-    let mut jumps = Items::new(alloc);
-    for number in targets.numbers.as_slice() {
-        jumps.push(number.map(Jump::Choice))?;
-    }
-    Ok(jumps)
 }
 
 /// The code of a body with what its suspensions go to, where there are several.

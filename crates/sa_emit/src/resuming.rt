@@ -73,7 +73,7 @@ fn add_table(
     let mut labels = Items::new(alloc);
     let mut last = 0;
     for block in shaped.entries.as_slice() {
-        last = label_of(around, shaped, *block, behind)?;
+        last = label_of(around, *block, behind)?;
         labels.push(last)?;
     }
     code.push(Instr::LocalGet(around.block()))?;
@@ -82,16 +82,11 @@ fn add_table(
 }
 
 /// The label of a block in the table. Block 0 has none where a start doesn't come to the table.
-fn label_of(
-    around: &Around<'_>,
-    shaped: &Shaped,
-    block: u32,
-    behind: Option<u32>,
-) -> Result<u32, NoMemory> {
+fn label_of(around: &Around<'_>, block: u32, behind: Option<u32>) -> Result<u32, NoMemory> {
     if behind == Some(block) {
         return Ok(0);
     }
-    match held(shaped.labels.get(block as usize).copied())? {
+    match held(around.labels.get(block as usize).copied())? {
         Some(depth) => around.nesting.label(depth),
         None if block == 0 => Ok(0),
         None => Err(NoMemory),

@@ -28,6 +28,8 @@ pub(crate) struct Writer<'a> {
     elsewhere: Vec<u32>,
     /// The variables that the step at hand sets.
     set: Vec<u32>,
+    /// For each block whose label can be seen how much stands around what the label is of.
+    labels: Vec<Option<u32>>,
 }
 
 impl<'a> Writer<'a> {
@@ -38,7 +40,27 @@ impl<'a> Writer<'a> {
             readings: vec![in alloc; Reading::Local; temporaries]?,
             elsewhere: Vec::new(alloc),
             set: Vec::new(alloc),
+            labels: vec![in alloc; None; body.blocks.len()]?,
         })
+    }
+
+    /// The label of a block can be seen from now on, around which so much stands; or it can't. The answer is what was so before.
+    pub(crate) fn set_label(
+        &mut self,
+        block: Option<u32>,
+        label: Option<u32>,
+    ) -> Result<Option<u32>, NoMemory> {
+        let Some(block) = block else {
+            return Ok(None);
+        };
+        match self.labels.get_mut(block as usize) {
+            Some(place) => {
+                let before = *place;
+                *place = label;
+                Ok(before)
+            }
+            None => Err(NoMemory),
+        }
     }
 
     /// Adds the steps of a block, of which the exit is left. `turn` is what instruction a turn has that is the first of them; each
@@ -61,7 +83,7 @@ impl<'a> Writer<'a> {
                 code.push(Instr::Plain(opcode::NOP))?;
             }
             turn = Turn::Nop;
-            let left = left_to(around, block, *given);
+            let left = left_to(&self.at_exit(around), block, *given);
             decided = left.is_some();
             self.add_step(alloc, code, around, step, *given, left)?;
         }
@@ -89,10 +111,9 @@ impl<'a> Writer<'a> {
     ) -> Result<(), NoMemory> {
         if given != Given::Read && given != Given::Done {
             let here = Around {
-                readings: self.readings.as_slice(),
                 given,
                 left,
-                ..*around
+                ..self.at_exit(around)
             };
             add_step(alloc, code, &here, step)?;
         }
@@ -117,10 +138,11 @@ impl<'a> Writer<'a> {
         Ok(())
     }
 
-    /// Around the exit of the block whose steps were added last.
+    /// Around what stands behind the steps that were added last.
     pub(crate) fn at_exit<'b>(&'b self, around: &Around<'b>) -> Around<'b> {
         Around {
             readings: self.readings.as_slice(),
+            labels: self.labels.as_slice(),
             ..*around
         }
     }
@@ -177,7 +199,7 @@ fn left_to(around: &Around<'_>, block: &FlatBlock, given: Given) -> Option<u32> 
         return None;
     };
     match jump_to(around, yes) {
-        Ok(_) => Some(yes),
-        Err(_) => None,
+        Some(_) => Some(yes),
+        None => None,
     }
 }

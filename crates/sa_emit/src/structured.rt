@@ -4,9 +4,9 @@ use crate::negation::add_negation;
 use crate::resuming::{add_choice, add_choice_again};
 use crate::steps::{Turn, Writer};
 use sa_emit_step::add_leaving;
-use sa_emit_value::{Around, add_jump, add_test, held, jump_to};
+use sa_emit_value::{Around, Jump, add_jump, add_test, held, jump_to};
 use sa_flat::FlatExit;
-use sa_shape::{Jump, Shape, Shaped, block_behind};
+use sa_shape::{Shape, Shaped, block_behind, first_of};
 use sqlite_items::Items;
 use std::alloc::Global;
 use wa_syntax::{Instr, NoMemory};
@@ -75,15 +75,34 @@ fn add_piece(
         Shape::Block(block) => add_block(alloc, code, writer, spot, *block),
         Shape::If(block, list) => add_if(alloc, code, writer, spot, *block, list.as_slice()),
         Shape::Part(list) => {
-            let body = inside(alloc, writer, spot, spot.behind, list.as_slice())?;
+            let list = list.as_slice();
+            let body = labelled(alloc, writer, spot, spot.behind, spot.behind, list)?;
             Ok(code.push(Instr::Block(None, body))?)
         }
         Shape::Loop(list) => {
-            let body = inside(alloc, writer, spot, None, list.as_slice())?;
+            let list = list.as_slice();
+            let body = labelled(alloc, writer, spot, first_of(list), None, list)?;
             Ok(code.push(Instr::Loop(None, body))?)
         }
-        Shape::Choice => add_entries(alloc, code, spot),
+        Shape::Choice => add_entries(alloc, code, writer, spot),
     }
+}
+
+/// The code of a list inside something whose label is that of a block.
+#[cycle(structured)]
+fn labelled(
+    alloc: Global,
+    writer: &mut Writer<'_>,
+    spot: Spot<'_>,
+    label: Option<u32>,
+    behind: Option<u32>,
+    list: &[Shape],
+) -> Result<Items<Instr>, NoMemory> {
+    let depth = spot.around.nesting.depth();
+    let before = writer.set_label(label, Some(depth))?;
+    let code = inside(alloc, writer, spot, behind, list)?;
+    writer.set_label(label, before)?;
+    Ok(code)
 }
 
 /// The code of a list one block of code further in.
@@ -124,7 +143,7 @@ fn add_if(
     add_test(code, &writer.at_exit(&spot.around), test)?;
     let side = inside(alloc, writer, spot, None, list)?;
     code.push(Instr::If(None, side, Items::new(alloc)))?;
-    add_going_on(code, spot, no)
+    add_going_on(code, writer, spot, no)
 }
 
 /// Adds a block.
@@ -138,52 +157,58 @@ fn add_block(
     let block = held(spot.around.body.blocks.get(number as usize))?;
     let decided = writer.add_steps(alloc, code, &spot.around, number, block, spot.turn)?;
     match &block.exit {
-        FlatExit::Jump(to) => add_going_on(code, spot, *to),
-        FlatExit::Branch { no, .. } if decided => add_going_on(code, spot, *no),
+        FlatExit::Jump(to) => add_going_on(code, writer, spot, *to),
+        FlatExit::Branch { no, .. } if decided => add_going_on(code, writer, spot, *no),
         FlatExit::Branch { test, yes, no } => {
             add_test(code, &writer.at_exit(&spot.around), *test)?;
-            add_branch(alloc, code, spot, *yes, *no)
+            add_branch(alloc, code, writer, spot, *yes, *no)
         }
         exit => add_leaving(alloc, code, &writer.at_exit(&spot.around), exit),
     }
 }
 
 /// Adds what goes on in a block: nothing where it begins behind, and else a jump.
-fn add_going_on(code: &mut Items<Instr>, spot: Spot<'_>, block: u32) -> Result<(), NoMemory> {
+fn add_going_on(
+    code: &mut Items<Instr>,
+    writer: &Writer<'_>,
+    spot: Spot<'_>,
+    block: u32,
+) -> Result<(), NoMemory> {
     if spot.behind == Some(block) {
         return Ok(());
     }
-    add_jump(code, &spot.around, block)
+    add_jump(code, &writer.at_exit(&spot.around), block)
 }
 
 /// Adds what follows the test of a branch: a jump for a side, so that the other one goes on.
 fn add_branch(
     alloc: Global,
     code: &mut Items<Instr>,
+    writer: &Writer<'_>,
     spot: Spot<'_>,
     yes: u32,
     no: u32,
 ) -> Result<(), NoMemory> {
     if spot.behind == Some(yes) {
         add_negation(code)?;
-        return add_jump_where(alloc, code, spot, no);
+        return add_jump_where(alloc, code, &writer.at_exit(&spot.around), no);
     }
-    add_jump_where(alloc, code, spot, yes)?;
-    add_going_on(code, spot, no)
+    add_jump_where(alloc, code, &writer.at_exit(&spot.around), yes)?;
+    add_going_on(code, writer, spot, no)
 }
 
 /// Adds a jump to a block, for where the test holds.
 fn add_jump_where(
     alloc: Global,
     code: &mut Items<Instr>,
-    spot: Spot<'_>,
+    around: &Around<'_>,
     block: u32,
 ) -> Result<(), NoMemory> {
-    if let Jump::Label(depth) = jump_to(&spot.around, block)? {
-        return Ok(code.push(Instr::BrIf(spot.around.nesting.label(depth)?))?);
+    if let Some(Jump::Label(depth)) = jump_to(around, block) {
+        return Ok(code.push(Instr::BrIf(around.nesting.label(depth)?))?);
     }
     let mut jump = Items::new(alloc);
-    add_jump(&mut jump, &spot.around.further_in()?, block)?;
+    add_jump(&mut jump, &around.further_in()?, block)?;
     code.push(Instr::If(None, jump, Items::new(alloc)))?;
     Ok(())
 }
@@ -192,11 +217,13 @@ fn add_jump_where(
 fn add_entries(
     alloc: Global,
     code: &mut Items<Instr>,
+    writer: &Writer<'_>,
     spot: Spot<'_>,
 ) -> Result<(), NoMemory> {
+    let around = writer.at_exit(&spot.around);
     if spot.shaped.repeats {
-        return add_choice_again(alloc, code, &spot.around, spot.shaped, spot.behind);
+        return add_choice_again(alloc, code, &around, spot.shaped, spot.behind);
     }
-    add_choice(alloc, code, &spot.around, spot.shaped)?;
-    add_going_on(code, spot, 0)
+    add_choice(alloc, code, &around, spot.shaped)?;
+    add_going_on(code, writer, spot, 0)
 }

@@ -13,7 +13,6 @@ use sa_flat::{FIRST_TEMPORARY, FlatBody, FlatProgram};
 use sa_operands::{Given, Keeping};
 use sa_runtime::layout::PARAMETERS;
 use sa_runtime::line::Op;
-use sa_shape::Jump;
 use std::alloc::Global;
 use wa_syntax::{Locals, NoMemory, ValTy};
 
@@ -92,8 +91,10 @@ pub struct Around<'a> {
     pub body: &'a FlatBody,
     /// What this body was made for.
     pub role: Role,
-    /// For each block of the body how it is jumped to, if it is.
-    pub jumps: &'a [Option<Jump>],
+    /// For each block of the body whose label can be seen how much stands around what the label is of.
+    pub labels: &'a [Option<u32>],
+    /// For each block of the body its number, if jumps to it go by way of the choice.
+    pub again: &'a [Option<u32>],
     /// For each block of the body the number by which it is gone on in, if it is.
     pub numbers: &'a [Option<u32>],
     /// How deep the step stands in the code of the body.

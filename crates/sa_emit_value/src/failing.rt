@@ -8,7 +8,7 @@ use sa_runtime::layout::{
     EXCEPTION, EXCEPTION_KIND, EXCEPTION_PLACE, FAULT, FAULT_KIND, HANDED_ON, RAISED,
 };
 use sa_runtime::line::{Op, add_line};
-use sa_shape::{Jump, leaves};
+use sa_shape::leaves;
 use sqlite_items::Items;
 use std::alloc::Global;
 use wa_syntax::opcode::{I64_EQZ, I64_EXTEND_I32_U, RETURN};
@@ -111,7 +111,7 @@ pub fn add_raise(
 ///
 /// `NoMemory`, also where the block isn't jumped to.
 pub fn add_jump(code: &mut Items<Instr>, around: &Around<'_>, block: u32) -> Result<(), NoMemory> {
-    match jump_to(around, block)? {
+    match held(jump_to(around, block))? {
         Jump::Label(depth) => add_line(code, &[Op::Br(around.nesting.label(depth)?)]),
         Jump::Choice(number) => {
             let line = [
@@ -125,13 +125,21 @@ pub fn add_jump(code: &mut Items<Instr>, around: &Around<'_>, block: u32) -> Res
 }
 
 /// How a block is jumped to.
-///
-/// # Errors
-///
-/// `NoMemory` where it isn't.
-pub fn jump_to(around: &Around<'_>, block: u32) -> Result<Jump, NoMemory> {
-    let jump = held(around.jumps.get(block as usize).copied())?;
-    held(jump)
+#[derive(Clone, Copy, Debug, PartialEq, Eq)]
+pub enum Jump {
+    /// To its label, around which so much stands.
+    Label(u32),
+    /// By way of the choice, by its number there.
+    Choice(u32),
+}
+
+/// How a block is jumped to, if it is.
+pub fn jump_to(around: &Around<'_>, block: u32) -> Option<Jump> {
+    let place = block as usize;
+    if let Some(number) = around.again.get(place).copied().flatten() {
+        return Some(Jump::Choice(number));
+    }
+    around.labels.get(place).copied().flatten().map(Jump::Label)
 }
 
 /// The number by which a block is gone on in.

@@ -31,7 +31,8 @@ pub use below::{Below, TypeSpan, spans_of};
 pub use builtins::add_builtin;
 pub use choice::{add_if, add_if_else};
 pub use failing::{
-    add_fail, add_fail_if, add_handed_on, add_jump, add_raise, add_void_test, jump_to, target_number,
+    Jump, add_fail, add_fail_if, add_handed_on, add_jump, add_raise, add_void_test, jump_to,
+    target_number,
 };
 pub use nesting::Nesting;
 pub use reading::Reading;

@@ -19,6 +19,11 @@ impl Nesting {
         Ok(Nesting(held(self.0.checked_add(blocks))?))
     }
 
+    /// How much stands around the place.
+    pub fn depth(self) -> u32 {
+        self.0
+    }
+
     /// The label at this place of what so many others stand around. The answer is `NoMemory` where the place isn't inside that.
     pub fn label(self, around: u32) -> Result<u32, NoMemory> {
         held(held(self.0.checked_sub(around))?.checked_sub(1))

@@ -6,7 +6,6 @@
 mod building;
 mod dominators;
 mod flow;
-mod jumps;
 mod loops;
 mod placing;
 mod raises;
@@ -15,5 +14,5 @@ mod shaped;
 mod trial;
 
 pub use raises::{leaves, raised_of};
-pub use shape::{Jump, Shape, block_behind};
+pub use shape::{Shape, block_behind, first_of};
 pub use shaped::{Shaped, shape_of};

@@ -17,19 +17,9 @@ pub enum Shape {
     Choice,
 }
 
-/// How a block is jumped to.
-#[derive(Clone, Copy, Debug, PartialEq, Eq)]
-pub enum Jump {
-    /// Out of the part before it, or back to the beginning of the loop that begins with it: so many parts, loops and conditions
-    /// stand around that one.
-    Label(u32),
-    /// Back to the choice, by this number.
-    Choice(u32),
-}
-
 /// The block that a list begins with. A list that begins with the choice begins with none.
 #[cycle(first)]
-pub(crate) fn first_of(list: &[Shape]) -> Option<u32> {
+pub fn first_of(list: &[Shape]) -> Option<u32> {
     match list.first() {
         Some(shape) => first_of_shape(shape),
         None => None,

@@ -3,10 +3,9 @@
 use crate::building::{Built, Plan, build_list};
 use crate::dominators::{Dominators, Order, Tree};
 use crate::flow::{Flow, flow_of};
-use crate::jumps::{jumps_of, labels_of};
 use crate::loops::{EdgesBack, Loops, edges_back};
 use crate::placing::placing_of;
-use crate::shape::{Jump, Shape};
+use crate::shape::Shape;
 use crate::trial::{Against, stands};
 use sa_flat::FlatBody;
 use sa_graph::{Graph, put, word};
@@ -28,10 +27,8 @@ pub struct Shaped {
     pub entries: Items<u32>,
     /// For each block its number in the choice, if it has one.
     pub numbers: Items<Option<u32>>,
-    /// For each block how it is jumped to, if it is.
-    pub jumps: Items<Option<Jump>>,
-    /// For each block that has a label how many parts, loops and conditions stand around what the label is of.
-    pub labels: Items<Option<u32>>,
+    /// For each block its number in the choice, if jumps to it go by way of that.
+    pub again: Items<Option<u32>>,
     /// Whether jumps go back to the choice, which stands in a loop then.
     pub repeats: bool,
 }
@@ -159,9 +156,6 @@ fn described(
     against: Against<'_>,
     repeats: bool,
 ) -> Result<Shaped, NoMemory> {
-    let labels = labels_of(alloc, body.blocks.len(), list.as_slice())?;
-    let mut jumps = Vec::new(alloc);
-    jumps_of(&labels, against.again, &mut jumps)?;
     let mut numbers = vec![in alloc; None; body.blocks.len()]?;
     for (place, block) in against.entries.iter().enumerate() {
         put(&mut numbers, *block as usize, Some(word(place)?))?;
@@ -170,8 +164,7 @@ fn described(
         list,
         entries: Items::from_slice(alloc, against.entries)?,
         numbers: Items::from_vec(numbers),
-        jumps: Items::from_vec(jumps),
-        labels: Items::from_vec(labels),
+        again: Items::from_slice(alloc, against.again)?,
         repeats,
     })
 }
