@@ -189,7 +189,7 @@ impl<'a> Planner<'a> {
             }
         }
         match other_operand(step) {
-            Some(var) => self.take_top(var),
+            Some(var) => self.take_other(block, var),
             None => Ok(None),
         }
     }
@@ -225,6 +225,16 @@ impl<'a> Planner<'a> {
         let last = self.stack.last().copied();
         self.stack.truncate(at);
         Ok(last)
+    }
+
+    /// Takes the second operand alone, unless it can be read where it is needed.
+    fn take_other(&mut self, block: &FlatBlock, var: u32) -> Result<Option<u32>, NoMemory> {
+        if let Some(step) = self.setter(var) {
+            if is_free(step_at(block, step)?) {
+                return Ok(None);
+            }
+        }
+        self.take_top(var)
     }
 
     /// Takes a value that lies on the top.
