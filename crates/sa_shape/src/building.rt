@@ -105,29 +105,29 @@ fn stage_piece(
 fn block_of(alloc: Global, plan: Plan<'_>, rank: u32, depth: u32) -> Result<Piece, NoMemory> {
     let node = entry(&plan.order.nodes, rank as usize)?;
     if node == ENTRY {
-        return before(plan, Shape::Choice, 0);
+        return before(plan, rank, Shape::Choice, 0);
     }
     let number = node - 1;
     let block = plan.body.blocks.get(number as usize).ok_or(NoMemory)?;
     match &block.exit {
-        FlatExit::Jump(to) => before(plan, Shape::Block(number), *to),
-        FlatExit::Branch { test: _, yes, no } => branch_of(alloc, plan, number, *yes, *no, depth),
+        FlatExit::Jump(to) => before(plan, rank, Shape::Block(number), *to),
+        FlatExit::Branch { test: _, yes, no } => branch_of(alloc, plan, rank, *yes, *no, depth),
         _ => Ok(Piece::Only(Shape::Block(number))),
     }
 }
 
 /// A piece, with the block behind it whose code stands there, where it does.
-fn before(plan: Plan<'_>, shape: Shape, block: u32) -> Result<Piece, NoMemory> {
-    Ok(match stands_there(plan, block)? {
+fn before(plan: Plan<'_>, from: u32, shape: Shape, block: u32) -> Result<Piece, NoMemory> {
+    Ok(match stands_there(plan, from, block)? {
         Some(rank) => Piece::Before(shape, rank),
         None => Piece::Only(shape),
     })
 }
 
-/// The node of a block whose code stands at the exit that leads to it.
-fn stands_there(plan: Plan<'_>, block: u32) -> Result<Option<u32>, NoMemory> {
+/// The node of a block whose code stands at the exit of a node that leads to it. An edge back doesn't lead on.
+fn stands_there(plan: Plan<'_>, from: u32, block: u32) -> Result<Option<u32>, NoMemory> {
     let rank = plan.order.rank(node_of(block)?).ok_or(NoMemory)?;
-    if plan.placing.follows(rank) {
+    if rank <= from || plan.placing.follows(rank) {
         return Ok(None);
     }
     Ok(Some(rank))
@@ -138,15 +138,16 @@ fn stands_there(plan: Plan<'_>, block: u32) -> Result<Option<u32>, NoMemory> {
 fn branch_of(
     alloc: Global,
     plan: Plan<'_>,
-    number: u32,
+    rank: u32,
     yes: u32,
     no: u32,
     depth: u32,
 ) -> Result<Piece, NoMemory> {
-    let Some(behind) = stands_there(plan, no)? else {
-        return before(plan, Shape::Block(number), yes);
+    let number = entry(&plan.order.nodes, rank as usize)?.saturating_sub(1);
+    let Some(behind) = stands_there(plan, rank, no)? else {
+        return before(plan, rank, Shape::Block(number), yes);
     };
-    let Some(inside) = stands_there(plan, yes)? else {
+    let Some(inside) = stands_there(plan, rank, yes)? else {
         return Ok(Piece::Before(Shape::Block(number), behind));
     };
     if depth == 0 {
