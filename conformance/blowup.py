@@ -2,7 +2,7 @@
 import dataclasses
 import typing
 
-import verdicts
+import source_answers
 from report import Left
 
 NO_MEMORY = [Left(lines=b'out of memory\n', status=125)]
@@ -51,7 +51,7 @@ def printed(output, status=0):
 
 def refused(line, code):
     """The answer where a source is refused."""
-    return [Left(lines=b'f.sa:%d: %s: %s\n' % (line, code.encode(), verdicts.CODES[code].encode()), status=120)]
+    return [Left(lines=b'f.sa:%d: %s: %s\n' % (line, code.encode(), source_answers.CODES[code].encode()), status=120)]
 
 
 def faulted(line, kind):

@@ -1,17 +1,19 @@
 #!/usr/bin/env python3
-"""editors.py: tries what stands in editors/.
+"""editors.py: tries what stands in editors/, and the editor of the page of hosts/web.
 
-- The words of the syntax file of Vim and of the TextMate grammar are exactly those of the lexer, and the words that the lexer
-  refuses are marked as such; the words of the indent file are among them.
-- Both give each byte of the samples here the kind that stands below it, and agree on each byte of the examples.
+- The words of the syntax file of Vim, of the TextMate grammar and of the page are exactly those of the lexer, and the words that the
+  lexer refuses are marked as such; the words of the indent file are among them.
+- All three give each byte of the samples here the kind that stands below it, and agree on each byte of the examples.
 - The examples, with the blanks at the front of their lines taken away, are indented by Vim as they were.
 
-Vim is run where it is there. The grammar is read here as an editor reads it, by Python's regular expressions."""
+Vim is run where it is there, and the page's script where node is. The grammar is read here as an editor reads it, by Python's
+regular expressions."""
 import collections
 import json
 import os
 import re
 import shutil
+import subprocess
 import sys
 
 import examples
@@ -19,6 +21,7 @@ import report
 
 TOP = os.path.join(os.path.dirname(os.path.abspath(__file__)), '..')
 VIM = os.path.join(TOP, 'editors', 'vim')
+PAGE = os.path.join(TOP, 'hosts', 'web', 'sather.js')
 # The kinds: the letter that stands for one in the samples, its group in Vim, and its scope in the grammar without `.sather`.
 KINDS = [
     ('c', 'satherConditional', 'keyword.control.conditional'),
@@ -48,6 +51,8 @@ KINDS = [
 ]
 OF_GROUP = {group: letter for letter, group, _ in KINDS}
 OF_SCOPE = {scope: letter for letter, _, scope in KINDS}
+# The page has the kinds of Vim, in small letters.
+OF_PAGE = {group.removeprefix('sather').lower(): letter for letter, group, _ in KINDS}
 # Lines of source, each with the kinds of its bytes below it.
 SAMPLES = r'''
 abstract class $SEQ{T} < $OB, $A1 is elt!:T; end;
@@ -81,6 +86,13 @@ for file in argv()
   edit!
 endfor
 quitall!
+'''
+
+# Writes the words of the page by their kinds, and for each line of the input its pieces, each as its kind and its text.
+IN_NODE = '''
+const {WORDS, piecesOfLine} = require(process.argv[1]);
+const lines = JSON.parse(require('fs').readFileSync(0, 'utf8'));
+console.log(JSON.stringify([WORDS, lines.map(piecesOfLine)]));
 '''
 
 
@@ -197,6 +209,20 @@ def try_vim(told, grammar):
         told.count('examples/%s.sa, indented by Vim' % name, report.difference(report.Left(source), report.Left(indented)))
 
 
+def try_page(told, grammar):
+    """Compares what the page's script says with the samples and with the examples."""
+    sources = {'examples/%s.sa' % name: examples.bytes_of(name + '.sa').decode().splitlines() for name in examples.names()}
+    tried = {'the samples': (SAMPLES[::2], SAMPLES[1::2])}
+    tried.update({name: (lines, [grammar.kinds(line) for line in lines]) for name, lines in sources.items()})
+    lines = json.dumps([line for found, _ in tried.values() for line in found])
+    words, pieces = json.loads(subprocess.run(['node', '-e', IN_NODE, PAGE], input=lines, stdout=subprocess.PIPE, text=True,
+                                              timeout=report.SECONDS, check=True).stdout)
+    told.count('the words of hosts/web', words_differ([(OF_PAGE[kind], words[kind].split()) for kind in words]))
+    kinds = iter(''.join(OF_PAGE[kind] * len(text) for kind, text in line) for line in pieces)
+    for name, (lines, wanted) in tried.items():
+        told.count('%s, in the page' % name, lines_differ(lines, wanted, [next(kinds) for _ in lines]))
+
+
 def try_all(told):
     """Tries the words, the samples and the examples."""
     grammar = Grammar()
@@ -210,6 +236,10 @@ def try_all(told):
         try_vim(told, grammar)
     else:
         told.lacks('vim', 'what stands in editors/vim was not run')
+    if shutil.which('node'):
+        try_page(told, grammar)
+    else:
+        told.lacks('node', 'the highlighting of hosts/web was not run')
 
 
 def main():

@@ -2,15 +2,18 @@
 """examples.py PROGRAM [--only WORD]
 
 Runs the examples: examples/NAME.sa, with examples/NAME.in as its input where that is there, has to print examples/NAME.out, tell
-nothing on err and end with status 0. --only takes the examples whose names hold a word."""
+nothing on err and end with status 0. Where it has contracts it has to do the same with `--contracts`. --only takes the examples
+whose names hold a word."""
 import functools
 import glob
 import os
+import re
 import sys
 
 import report
 
 EXAMPLES = os.path.join(os.path.dirname(os.path.abspath(__file__)), '..', 'examples')
+HAS_CONTRACTS = re.compile(rb'^(?:[^-\n]|-[^-\n])*\b(?:pre|post|invariant)\b', re.M)
 
 
 def names():
@@ -32,9 +35,14 @@ def tried(program, name):
     wanted = bytes_of(name + '.out')
     if wanted is None:
         return 'examples/%s.out, what it has to print, is missing' % name
-    with report.folder_with({name + '.sa': bytes_of(name + '.sa')}) as folder:
-        left = report.run([program, 'run', name + '.sa'], folder, input=bytes_of(name + '.in') or b'')
-    return report.difference(report.Left(wanted), left)
+    source, given = bytes_of(name + '.sa'), bytes_of(name + '.in') or b''
+    with report.folder_with({name + '.sa': source}) as folder:
+        for options in ([], ['--contracts']) if HAS_CONTRACTS.search(source) else ([],):
+            left = report.run([program, 'run', *options, name + '.sa'], folder, input=given)
+            wrong = report.difference(report.Left(wanted), left)
+            if wrong:
+                return ' '.join([*options, wrong])
+    return None
 
 
 def try_all(program, told, word=''):

@@ -1,23 +1,19 @@
 #!/usr/bin/env python3
-"""fuzz.py PROGRAM [SECONDS] [--count N] [--seed N] [--sources | --modules] [--jobs N] [--tree TREE] [--keep FOLDER]
+"""fuzz.py PROGRAM [SECONDS] [--count N] [--seed N] [--sources | --modules] [--jobs N] [--tree TREE] [--keep FOLDER] [--log FILE]
 fuzz.py PROGRAM --again FILE.. [--tree TREE]
 
-Makes sources and modules without end, for so many seconds or N of them, and judges what PROGRAM answers by what the pages promise
-of every input: verdicts.py has the list.
-
-- Sources: random files of the grammar (sentences.py), well-typed random programs (random_programs.py), and changed ones
-  (mutants.py) of these, of the table's and of the examples.
-- Modules: valid random ones (maker.py), and changed ones of these, of those written by hand (handmade.py) and of those that
-  PROGRAM builds of the table's programs.
+Makes sources and modules without end (inputs.py), for so many seconds or N of them, and judges what PROGRAM answers by what the pages
+promise of every input: source_verdicts.py, contract_verdicts.py and module_verdicts.py have the lists.
 
 The seed, which is printed at the start, and the number of an input are all that it is made of. What breaks a promise is told, and
 kept in FOLDER, as it was and made smaller (shrinking.py), with what to type to see it again. N jobs work side by side, one a
-processor without --jobs. TREE is the program `typed_tree`; where it is given, programs are run by the written meaning too."""
+processor without --jobs. TREE is the program `typed_tree`; where it is given, programs are run by the written meaning too. A line of
+FILE tells each run: the seed, and how many inputs of each sort were judged."""
 import argparse
+import collections
 import concurrent.futures
 import dataclasses
 import functools
-import glob
 import itertools
 import os
 import random
@@ -25,128 +21,47 @@ import subprocess
 import sys
 import time
 
-import cases
-import handmade
+import inputs
 import judges
-import maker
-import mutants
-import programs
-import random_programs
+import kept
+import meaning
+import module_verdicts
 import report
-import sentences
 import shrinking
+import source_verdicts
 import verdicts
+from inputs import MODULES, SOURCES, make_module, make_source
 from verdicts import Wrong
 
 TOP = os.path.join(os.path.dirname(os.path.abspath(__file__)), '..')
 KEPT = os.path.join(TOP, 'out', 'fuzz')
-LONGEST = 4000      # bytes of a source that is changed
-BUILT = 60          # programs of the table whose modules are changed
-BATCH = 20          # inputs that one process of V8 judges
-SOURCES, MODULES = 'sa', 'wasm'
-
-
-@dataclasses.dataclass
-class Input:
-    """A source or a module: how it was made, the ending of its file, and its bytes."""
-    kind: str
-    ending: str
-    content: bytes
-
-    def with_content(self, content):
-        return Input(self.kind, self.ending, content)
-
-
-# ---- making
-
-@functools.cache
-def known_sources():
-    """The sources that are changed: those of the table and the examples, but for very long ones."""
-    found = {text for case in cases.read() for name, text in case.files.items() if name.endswith('.sa')}
-    for path in glob.glob(os.path.join(TOP, 'examples', '*.sa')):
-        with open(path, 'rb') as file:
-            found.add(file.read())
-    return sorted(text for text in found if len(text) <= LONGEST)
-
-
-@functools.cache
-def known_modules(program):
-    """The modules that are changed: those written by hand, and those that the program builds of some of the table's."""
-    made = [row.module for row in handmade.rows()]
-    table = list(programs.programs(''))
-    for one in table[::max(len(table) // BUILT, 1)]:
-        with report.folder_with(one.files) as folder:
-            if report.run([program, 'build', *one.words_of_build()], folder).status == 0:
-                with open(os.path.join(folder, 'm'), 'rb') as file:
-                    made.append(file.read())
-    return made
-
-
-def random_program(rng):
-    return random_programs.program(rng.randrange(1 << 32)).encode()
-
-
-def a_source(rng):
-    """A source that may be changed."""
-    return random_program(rng) if rng.random() < 0.15 else rng.choice(known_sources())
-
-
-def a_module(rng, program):
-    """A module that may be changed."""
-    return maker.valid_module(rng) if rng.random() < 0.4 else rng.choice(known_modules(program))
-
-
-def make_source(rng, _program):
-    """A random source."""
-    way = rng.random()
-    if way < 0.2:
-        return Input('sentence', SOURCES, sentences.sentence(rng))
-    if way < 0.35:
-        return Input('typed', SOURCES, random_program(rng))
-    return Input('changed', SOURCES, mutants.changed_source(rng, a_source(rng), a_source(rng)))
-
-
-def make_module(rng, program):
-    """A random module."""
-    if rng.random() < 0.25:
-        return Input('valid', MODULES, maker.valid_module(rng))
-    module = mutants.changed_module(rng, a_module(rng, program), a_module(rng, program))
-    return Input('changed', MODULES, module)
-
-
-def made(program, seed, number, ways):
-    """The input with this number."""
-    return ways[number % len(ways)](random.Random('%d %d' % (seed, number)), program)
+BATCH = 40          # inputs that are judged before they are told
 
 
 # ---- judging
 
-def asked(program, tree, one):
-    """What V8 is asked of an input, or what is wrong with it."""
+def judged(host, one):
+    """What is wrong with an input, or None."""
     try:
         if one.ending == SOURCES:
-            return verdicts.of_source(program, tree, one.content, one.kind == 'typed')
-        return verdicts.of_module(program, one.content, one.kind == 'valid')
+            source_verdicts.of_source(host, one)
+        else:
+            module_verdicts.of_module(host, one)
     except verdicts.Breach as breach:
         return breach.wrong
     except subprocess.TimeoutExpired as late:
         return Wrong('an answer comes in time', str(late))
+    return None
 
 
-def judged(program, tree, inputs):
-    """What is wrong with each of the inputs, or None."""
-    first = [asked(program, tree, one) for one in inputs]
-    of_v8 = verdicts.compared_with_v8([None if isinstance(one, Wrong) else one for one in first])
-    return [one if isinstance(one, Wrong) else other for one, other in zip(first, of_v8)]
-
-
-def smaller(program, tree, one, wrong):
+def smaller(host, one, wrong):
     """A smaller input that breaks the same promise. What is made to be well typed or valid is small as it is."""
     def shows(content):
-        found = judged(program, tree, [one.with_content(content)])[0]
+        found = judged(host, one.with_content(content))
         return found is not None and found.promise == wrong.promise
 
-    if one.kind in ('typed', 'valid') and not shows(one.content):
+    one = dataclasses.replace(one, kind='changed')
+    if not shows(one.content):
         return one
     shrunk = shrinking.of_source if one.ending == SOURCES else shrinking.of_module
     return one.with_content(shrunk(one.content, shows))
@@ -156,19 +71,34 @@ def smaller(program, tree, one, wrong):
 class Found:
     """An input that breaks a promise: its number, itself and a smaller one, and what is wrong."""
     number: int
-    input: Input
-    small: Input
+    input: inputs.Input
+    small: inputs.Input
     wrong: Wrong
 
 
-def batch(program, tree, seed, ways, numbers):
+@functools.cache
+def host_of(program, tree, folder, library):
+    """What judges in this process."""
+    own = os.path.join(folder, str(os.getpid()))
+    os.mkdir(own)
+    return verdicts.Host(program, tree, own, library)
+
+
+def batch(judging, seed, ways, numbers):
     """How many inputs of each kind were judged, and those that break a promise."""
-    inputs, counts = [made(program, seed, number, ways) for number in numbers], {}
-    for one in inputs:
-        counts[one.kind, one.ending] = counts.get((one.kind, one.ending), 0) + 1
-    wrongs = judged(program, tree, inputs)
-    return counts, [Found(number, one, smaller(program, tree, dataclasses.replace(one, kind='changed'), wrong), wrong)
-                    for number, one, wrong in zip(numbers, inputs, wrongs) if wrong is not None]
+    host, counts, founds = host_of(*judging), collections.Counter(), []
+    for number in numbers:
+        one = inputs.made(host, seed, number, ways)
+        wrong = judged(host, one)
+        counts[one.kind, one.ending] += 1
+        if wrong is not None:
+            founds.append(Found(number, one, smaller(host, one, wrong), wrong))
+    return counts, founds
+
+
+def work(judging, seed, ways, numbers):
+    """The same, with a stack on which the written meaning can run."""
+    return meaning.with_large_stack(lambda: batch(judging, seed, ways, numbers))
 
 
 # ---- telling
@@ -176,9 +106,9 @@ def batch(program, tree, seed, ways, numbers):
 class Fuzzing:
     """The report, the seed, and the folder in which is kept what breaks a promise."""
 
-    def __init__(self, told, program, seed, folder, tree):
-        self.told, self.program, self.seed, self.folder, self.tree = told, program, seed, folder, tree
-        self.counts = {}
+    def __init__(self, told, program, tree, seed, folder):
+        self.told, self.program, self.tree, self.seed, self.folder = told, program, tree, seed, folder
+        self.counts = collections.Counter()
 
     def keep(self, found, name, one):
         """Writes an input, and gives the path of its file."""
@@ -199,18 +129,29 @@ class Fuzzing:
 
     def take(self, counts, founds):
         """Counts a batch."""
-        for kind, count in counts.items():
-            self.counts[kind] = self.counts.get(kind, 0) + count
+        self.counts.update(counts)
         self.told.passed += sum(counts.values()) - len(founds)
         for found in founds:
             self.tell(found)
         self.told.tell()
 
+    def lines(self):
+        """How many inputs of each kind there were."""
+        return ['%s %s: %d' % (kind, 'sources' if ending == SOURCES else 'modules', count)
+                for (kind, ending), count in sorted(self.counts.items())]
+
     def close(self):
-        """Tells how many inputs of each kind there were."""
+        """Tells how many inputs there were."""
         self.told.close_part()
-        for (kind, ending), count in sorted(self.counts.items()):
-            self.told.line('%s %s: %d' % (kind, 'sources' if ending == SOURCES else 'modules', count))
+        for line in self.lines():
+            self.told.line(line)
+
+    def log(self, path):
+        """Adds a line to a file that tells of the whole run."""
+        of = {ending: sum(count for (_, one), count in self.counts.items() if one == ending) for ending in (SOURCES, MODULES)}
+        with open(path, 'a', encoding='utf-8') as file:
+            file.write('%s seed %d: %d sources, %d modules, %d wrong (%s)\n' % (
+                time.strftime('%H:%M:%S'), self.seed, of[SOURCES], of[MODULES], self.told.failed, ', '.join(self.lines())))
 
 
 def batches(count, until):
@@ -222,34 +163,37 @@ def batches(count, until):
         yield range(first, end)
 
 
-def run_batches(fuzzing, ways, jobs, count, until):
+def run_batches(fuzzing, judging, ways, jobs, left):
     """Judges batches side by side, and waits for each that was begun."""
-    work = functools.partial(batch, fuzzing.program, fuzzing.tree, fuzzing.seed, ways)
-    left = batches(count, until)
+    one = functools.partial(work, judging, fuzzing.seed, ways)
     with concurrent.futures.ProcessPoolExecutor(jobs) as pool:
-        waiting = {pool.submit(work, numbers) for numbers in itertools.islice(left, jobs)}
+        waiting = {pool.submit(one, numbers) for numbers in itertools.islice(left, jobs)}
         while waiting:
             done, waiting = concurrent.futures.wait(waiting, return_when=concurrent.futures.FIRST_COMPLETED)
-            waiting |= {pool.submit(work, numbers) for numbers in itertools.islice(left, len(done))}
+            waiting |= {pool.submit(one, numbers) for numbers in itertools.islice(left, len(done))}
             for future in done:
                 fuzzing.take(*future.result())
 
 
 def try_all(program, told, count=None, seconds=None, seed=1, ways=(make_source, make_module), jobs=None, folder=KEPT, tree=None):
-    """Judges so many inputs, or for so many seconds."""
+    """Judges so many inputs, or for so many seconds, and gives what came of them."""
     judges.tell_missing(told)
     told.part('sources and modules without end, seed %d' % seed, count or 0)
-    fuzzing = Fuzzing(told, program, seed, folder, tree)
+    fuzzing = Fuzzing(told, program, tree, seed, folder)
     until = None if seconds is None else time.monotonic() + seconds
-    run_batches(fuzzing, ways, jobs or report.processors(), count, until)
+    with kept.folders() as (quick, library):
+        judging = program, tree, quick, library
+        run_batches(fuzzing, judging, ways, jobs or report.processors(), batches(count, until))
     fuzzing.close()
+    return fuzzing
 
 
-def again(program, tree, path):
-    """What is wrong with the input in a file, or None."""
-    with open(path, 'rb') as file:
-        content = file.read()
-    return judged(program, tree, [Input('changed', MODULES if path.endswith('.wasm') else SOURCES, content)])[0]
+def try_again(program, tree, told, paths):
+    """Judges the inputs in these files."""
+    with kept.folders() as (quick, library):
+        host = host_of(program, tree, quick, library)
+        for path in paths:
+            told.count(path, meaning.with_large_stack(lambda: judged(host, inputs.again(path))))
 
 
 def given_words():
@@ -261,6 +205,7 @@ def given_words():
     words.add_argument('--jobs', type=int)
     words.add_argument('--tree')
     words.add_argument('--keep', default=KEPT)
+    words.add_argument('--log')
     words.add_argument('--again', nargs='+')
     half = words.add_mutually_exclusive_group()
     half.add_argument('--sources', action='store_true')
@@ -275,13 +220,14 @@ def main():
     given = given_words()
     program, tree, told = os.path.abspath(given.program), given.tree and os.path.abspath(given.tree), report.Report()
     if given.again:
-        for path in given.again:
-            told.count(path, again(program, tree, path))
+        try_again(program, tree, told, given.again)
         return told.close()
     ways = [make_source] * (not given.modules) + [make_module] * (not given.sources)
     seed = random.SystemRandom().randrange(1 << 32) if given.seed is None else given.seed
     told.line('seed %d' % seed)
-    try_all(program, told, given.count, given.seconds, seed, ways, given.jobs, given.keep, tree)
+    fuzzing = try_all(program, told, given.count, given.seconds, seed, ways, given.jobs, given.keep, tree)
+    if given.log:
+        fuzzing.log(given.log)
     return told.close()
 
 

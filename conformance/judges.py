@@ -7,12 +7,15 @@ import json
 import os
 import re
 import resource
+import select
 import shutil
 import subprocess
+import time
 
 HERE = os.path.dirname(os.path.abspath(__file__))
 SECONDS = 60
 BUSY = 20           # how many times longer than its seconds of a processor a process may take on a busy machine
+V8_SECONDS = 30     # that V8 may take for a module
 OWN_LINE = re.compile(rb'm: (malformed|invalid|unlinked \d+|segment|trap|too deep)\n')
 STOPPED = re.compile(rb'm: (stop \d+ at \d+)\n')
 STATS = re.compile(rb'steps (\d+), bytes (\d+)\n$')
@@ -67,6 +70,7 @@ def sather(program, folder, module, given=b'', words=()):
     return Run(end_of(line, ended.returncode), ended.stdout, steps)
 
 
+@functools.cache
 def has_node():
     """Whether V8 is there."""
     return shutil.which('node') is not None
@@ -99,9 +103,67 @@ def node(script, tasks, stack=None):
 def v8(tasks, stack=None):
     """Judges modules by one process of node, with so many bytes of stack where they are given. A task is a module, an input,
     and whether to run it. Gives for each whether it is valid, and its run or None; or None for all where node is missing."""
-    answers = node('v8.js', [{'module': module.hex(), 'input': given.hex(), 'run': run} for module, given, run in tasks], stack)
-    return answers and [(answer['valid'], Run(answer['end'], bytes.fromhex(answer['output'])) if 'end' in answer else None)
-                        for answer in answers]
+    answers = node('v8.js', [asked_of_v8(*task) for task in tasks], stack)
+    return answers and [answer_of_v8(answer) for answer in answers]
+
+
+def asked_of_v8(module, given, run):
+    """What the script asks for: a module, an input, and whether to run it."""
+    return {'module': module.hex(), 'input': given.hex(), 'run': run}
+
+
+def answer_of_v8(answer):
+    """Whether a module is valid, and its run or None, by an answer of the script."""
+    return answer['valid'], Run(answer['end'], bytes.fromhex(answer['output'])) if 'end' in answer else None
+
+
+class V8:
+    """V8, asked of one module after the other, with so many bytes of stack. Its process stays as long as it answers: to start one
+    takes longer than to judge a hundred modules."""
+
+    def __init__(self, stack):
+        self.stack, self.process, self.judged = stack, None, 0
+
+    def ask(self, module, given, run):
+        """Whether a module is valid, and its run or None. What goes wrong is no answer of a process that has judged others before
+        it: a new one is asked then. None where that gives no answer either."""
+        for _ in range(1 if self.judged == 0 else 2):
+            try:
+                return answer_of_v8(json.loads(self.line(json.dumps(asked_of_v8(module, given, run)))))
+            except (OSError, ValueError, subprocess.TimeoutExpired):
+                self.end()
+        return None
+
+    def line(self, task):
+        """The line that the process writes for a line."""
+        if self.process is None:
+            self.begin()
+        self.judged += 1
+        self.process.stdin.write(task.encode() + b'\n')
+        self.process.stdin.flush()
+        line, late = b'', time.monotonic() + BUSY * V8_SECONDS
+        while not line.endswith(b'\n'):
+            if not select.select([self.process.stdout], [], [], max(late - time.monotonic(), 0))[0]:
+                raise subprocess.TimeoutExpired('node', BUSY * V8_SECONDS)
+            more = os.read(self.process.stdout.fileno(), 1 << 16)
+            if not more:
+                raise ValueError('node has ended')
+            line += more
+        return line
+
+    def begin(self):
+        """Starts a process."""
+        words = ['node', '--expose-gc', '--stack-size=%d' % (stack_within(self.stack) // 1024), os.path.join(HERE, 'v8.js')]
+        self.process = subprocess.Popen(words, stdin=subprocess.PIPE, stdout=subprocess.PIPE, stderr=subprocess.DEVNULL, bufsize=0,
+                                        preexec_fn=functools.partial(limited, None, self.stack))
+        self.judged = 0
+
+    def end(self):
+        """Ends the process."""
+        if self.process is not None:
+            self.process.kill()
+            self.process.communicate()
+        self.process, self.judged = None, 0
 
 
 def stack_within(stack):
@@ -111,13 +173,16 @@ def stack_within(stack):
 
 
 def limited(seconds, stack):
-    """Lets the process have so many seconds of a processor, and where one is given as large a stack as the system allows."""
-    resource.setrlimit(resource.RLIMIT_CPU, (seconds, seconds + 5))
+    """Lets the process have so many seconds of a processor, where they are given, and as large a stack as the system allows, where
+    one is given."""
+    if seconds is not None:
+        resource.setrlimit(resource.RLIMIT_CPU, (seconds, seconds + 5))
     if stack is not None:
         _, most = resource.getrlimit(resource.RLIMIT_STACK)
         resource.setrlimit(resource.RLIMIT_STACK, (most, most))
 
 
+@functools.cache
 def has_wabt():
     """Whether wabt is there."""
     return shutil.which('wasm-validate') is not None and shutil.which('wasm-interp') is not None

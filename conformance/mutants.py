@@ -1,4 +1,6 @@
 """Makes changed sources and changed modules: texts and bytes that differ in a few places from those that they are made of."""
+import functools
+
 import source_reader
 from source_reader import GAP, Refused
 
@@ -7,17 +9,24 @@ OTHERS = b'''; ; , . : := ::= :: ( ) [ ] { } | _ -> = < > + - * / % ^ ~ # and or
 is class abstract immutable partial include private readonly attr shared const stub in out inout once return yield quit raise assert
 void new self exception true false bind SAME ROUT ITER INT STR BOOL CHAR $OB $STR ARRAY MAIN FAULT AREF FLIST main create str
 while!(true) until!(false) break! 0 1 2147483647 2147483648 'a' "" x f g #OUT'''.split()
+OF_CONTRACTS = b'pre post invariant initial result initial( pre(true) post(result) invariant:BOOL'.split()
 
 
 # ---- sources
 
 def tokens_of(text):
     """The source as tokens, each with the blanks before it. A byte that begins no token is one of its own."""
+    return list(tokens_in(text))
+
+
+@functools.lru_cache(maxsize=4_000)
+def tokens_in(text):
+    """The same, kept for a source that is asked for again."""
     pieces, at, begun = [], 0, 0
     while True:
         at = GAP.match(text, begun).end()
         if at == len(text):
-            return pieces + ([text[begun:]] if begun < at else [])
+            return tuple(pieces + ([text[begun:]] if begun < at else []))
         try:
             end = source_reader.token_at(text, at).end
         except Refused:
@@ -56,12 +65,14 @@ def changed_pieces(rng, pieces, others):
     return pieces[:other] + pieces[at:end] + pieces[other:]
 
 
-def changed_source(rng, text, donor):
-    """The source with one to four changes of tokens, lines or bytes. The donor's tokens and lines may be put in."""
+def changed_source(rng, text, donor, contracts):
+    """The source with one to four changes of tokens, lines or bytes. The donor's tokens and lines may be put in, and words of
+    contracts where they are taken."""
+    words = OTHERS + OF_CONTRACTS if contracts else OTHERS
     for _ in range(rng.choice((1, 1, 1, 2, 2, 3, 4))):
         way = rng.random()
         if way < 0.7:
-            pieces, others = tokens_of(text), [b' ' + other for other in OTHERS]
+            pieces, others = tokens_of(text), [b' ' + other for other in words]
             others = tokens_of(donor) if rng.random() < 0.4 else others
         elif way < 0.9:
             pieces, others = lines_of(text), lines_of(donor)

@@ -8,6 +8,7 @@ with a smaller number, and what a call may cost is bounded where it stands in lo
 Each program has an abstract class, reference classes and an immutable class below it, and a class `MAIN` with shareds, routines,
 iters and `main`. A text is made from the last feature to the first, so that each knows what it may call."""
 import random
+import re
 import sys
 
 MOST_NAMES = 60          # how many variables a body declares before its last statements
@@ -455,7 +456,17 @@ end;
 """
 
 
-def routine(chance, features, number):
+class NoClauses:
+    """The contracts of a program that has none."""
+
+    def invariant(self, _name):
+        return ''
+
+    def of_routine(self, _args, _result):
+        return ''
+
+
+def routine(chance, features, number, clauses):
     """A routine or an iter of MAIN, and its text."""
     recursive = chance.random() < 0.2
     is_iter = not recursive and chance.random() < 0.35
@@ -473,16 +484,22 @@ def routine(chance, features, number):
         text += ' return %s;' % body.value_for(result, Place())
     cost = body.cost * (8 if recursive else 1)
     head = ', '.join('%s%s:%s' % ('' if mode == 'in' else mode + ' ', arg, ty) for mode, ty, arg in args)
-    made = '  %s%s%s is%s end;\n' % (name, '(%s)' % head if head else '', ':' + result if result else '', text)
+    made = '  %s%s%s%s is%s end;\n' % (name, '(%s)' % head if head else '', ':' + result if result else '',
+                                   clauses.of_routine(args, result), text)
     return Feature(name, [(mode, ty) for mode, ty, _ in args], result, cost, recursive), made
 
 
-def program(seed):
-    """The text of the random program with this number."""
+def classes(clauses):
+    """The texts of the classes beside MAIN, each with its invariant."""
+    return re.sub(r'class ([CDP])(?: < \$A)? is ', lambda head: head.group() + clauses.invariant(head.group(1)), CLASSES)
+
+
+def program(seed, clauses=NoClauses()):
+    """The text of the random program with this number, with these contracts."""
     chance = random.Random(seed)
     features, texts = [], []
     for number in range(2 + chance.randrange(7)):
-        feature, text = routine(chance, features, number)
+        feature, text = routine(chance, features, number, clauses)
         features.append(feature)
         texts.append(text)
     result = chance.choice((None, 'INT'))
@@ -490,7 +507,7 @@ def program(seed):
     texts.append('  main%s is%s%s end;\n' % (':INT' if result else '', main, ' return g;' if result else ''))
     shareds = '  shared g:INT := %d; shared h:$A := #C(4); shared q:P; const k:INT := 5;\n' % chance.randrange(50)
     twice = '  twice(x, y:INT):INT is return (x + y) % 1000; end;\n'
-    return CLASSES + 'class MAIN is\n' + shareds + twice + ''.join(texts) + 'end\n'
+    return classes(clauses) + 'class MAIN is\n' + shareds + twice + ''.join(texts) + 'end\n'
 
 
 if __name__ == '__main__':

@@ -18,8 +18,9 @@ DEEPEST = 5     # expressions, types and statements inside one another
 class Sentence:
     """A source while it is made. A method gives the tokens of its production. `deep` says how many of the kind are around it."""
 
-    def __init__(self, rng):
+    def __init__(self, rng, contracts):
         self.rng, self.params = rng, ()
+        self.of_contracts = 10 if contracts else 0      # of a hundred places so many have one
         self.in_post = False    # whether `result` and `initial` may stand
         self.classes = [name for name in CLASSES if self.some(50)]
 
@@ -61,7 +62,7 @@ class Sentence:
             above = self.maybe(5, self.types_behind, '>')
             return ['abstract', 'class', *self.head(name), *above, 'is', *self.listed(3, self.sig), 'end']
         kind = [self.pick(('immutable', 'partial'))] if name != 'MAIN' and self.some(30) else []
-        features = self.maybe(10, lambda: [*self.invariant(), ';']) + self.listed(3, self.feature, kind == ['partial'])
+        features = self.maybe(self.of_contracts, lambda: [*self.invariant(), ';']) + self.listed(3, self.feature, kind == ['partial'])
         if name == 'MAIN':
             features = ['main', 'is', *self.stmts(0), 'end', ';', *features]
         return [*kind, 'class', *self.head(name), 'is', *features, 'end']
@@ -136,8 +137,8 @@ class Sentence:
         return [*self.access('private'), *self.sig(), *self.clauses(), 'is', *self.stmts(0), 'end']
 
     def clauses(self):
-        pre = self.maybe(10, lambda: ['pre', *self.expr(2)])
-        return pre + self.maybe(10, lambda: ['post', *self.condition(2, True)])
+        pre = self.maybe(self.of_contracts, lambda: ['pre', *self.expr(2)])
+        return pre + self.maybe(self.of_contracts, lambda: ['post', *self.condition(2, True)])
 
     def condition(self, deep, in_post):
         """An expression in which `result` and `initial` may stand, or may not."""
@@ -313,6 +314,6 @@ def spelled(rng, tokens):
     return made.encode() + rng.choice((b'', b'\n', b';\n'))
 
 
-def sentence(rng):
-    """A random source."""
-    return spelled(rng, Sentence(rng).file())
+def sentence(rng, contracts):
+    """A random source, in which contracts may stand where they are taken."""
+    return spelled(rng, Sentence(rng, contracts).file())

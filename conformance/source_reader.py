@@ -5,10 +5,13 @@ import sys
 
 LARGEST = 4_194_304
 DEEPEST = 200
+RECURSION = 20_000      # calls of Python inside one another, for the deepest source
 WORDS = set(b"""abstract and assert attr bind builtin case class const else elsif end exception false if immutable in include inout is
     loop new once or out partial private protect quit raise readonly return self shared stub then true typecase void when yield
     ITER ROUT SAME pre post initial result invariant""".split())
 REFUSED_WORDS = set(b'external spread fork par parloop lock unlock guard cohort sync near far'.split())
+SYMBOLS = {word: word.decode() for word in WORDS | REFUSED_WORDS}
+NOT_TAKEN = {SYMBOLS[word] for word in REFUSED_WORDS}
 SIGNS = rb'::=|:=|::|/=|<=|>=|->|[()\[\]{},;:.=<>+\-*/%^~#|_]'
 
 GAP = re.compile(rb'(?:[ \t\n\f\r]|--[^\n]*)*')
@@ -21,11 +24,14 @@ PREFIX = re.compile(rb'0[xob]')
 GOES_ON = re.compile(rb'[A-Za-z0-9]|\.[0-9]')
 LITERALS = {quote: re.compile(rb'%b((?:[^%b\\\n]|\\[^\n])*)%b' % (quote, quote, quote)) for quote in (b"'", b'"')}
 ITEM = re.compile(rb'\\[0-7]{1,3}|\\.|[^\\]', re.S)
-SIGN = re.compile(SIGNS)
+BEGINNING = re.compile(b'|'.join(rb'(?P<%b>%b)' % one for one in (
+    (b'INAME', ITER_NAME.pattern), (b'name', NAME.pattern), (b'ANAME', ABSTRACT_NAME.pattern), (b'number', b'[0-9]'),
+    (b'character', b"'"), (b'text', b'"'), (b'sign', SIGNS))))
 ESCAPED = b'abfnrtv\\\'"'
 
 MODES = ('in', 'out', 'inout', 'once')
 LOGICAL, COMPARING, ADDING, MULTIPLYING = ('and', 'or'), ('=', '/=', '<', '<=', '>', '>='), ('+', '-'), ('*', '/', '%')
+INFIX = {*LOGICAL, *COMPARING, *ADDING, *MULTIPLYING}
 TYPES = ('CNAME', 'ANAME', 'SAME', 'ROUT', 'ITER')
 FEATURES = ('LNAME', 'INAME')
 EXPRESSIONS = ('-', '~', 'number', 'character', 'text', 'true', 'false', 'self', 'exception', '(', 'void', 'new', '#', '|', 'bind', '[',
@@ -48,6 +54,7 @@ class Refused(Exception):
 
 class Token:
     """A token: its symbol in the grammar, which is its kind, or itself where it is a word or a sign, and the bytes it spans."""
+    __slots__ = ('symbol', 'at', 'end')
 
     def __init__(self, symbol, at, end):
         self.symbol, self.at, self.end = symbol, at, end
@@ -88,24 +95,20 @@ def literal_end(text, at):
 
 def token_at(text, at):
     """The longest token at a place."""
-    first = text[at:at + 1]
-    iter_name, name, abstract = ITER_NAME.match(text, at), NAME.match(text, at), ABSTRACT_NAME.match(text, at)
-    if iter_name:
-        return Token('INAME', at, iter_name.end())
-    if name:
-        spelled = name.group()
-        kind = 'LNAME' if re.search(rb'[a-z]', spelled) else 'CNAME'
-        return Token(spelled.decode() if spelled in WORDS | REFUSED_WORDS else kind, at, name.end())
-    if abstract:
-        return Token('ANAME', at, abstract.end())
-    if first.isdigit():
-        return Token('number', at, number_end(text, at))
-    if first in LITERALS:
-        return Token('character' if first == b"'" else 'text', at, literal_end(text, at))
-    sign = SIGN.match(text, at)
-    if not sign:
+    found = BEGINNING.match(text, at)
+    if not found:
         raise Refused('E01', at)
-    return Token(sign.group().decode(), at, sign.end())
+    kind = found.lastgroup
+    if kind == 'name':
+        spelled = found.group()
+        return Token(SYMBOLS.get(spelled) or ('CNAME' if spelled.isupper() else 'LNAME'), at, found.end())
+    if kind == 'sign':
+        return Token(found.group().decode(), at, found.end())
+    if kind == 'number':
+        return Token(kind, at, number_end(text, at))
+    if kind in ('character', 'text'):
+        return Token(kind, at, literal_end(text, at))
+    return Token(kind, at, found.end())
 
 
 def tokens_of(text):
@@ -119,29 +122,41 @@ def tokens_of(text):
 
 # ---- words and levels
 
-OPENING = ('(', '[', '{', 'is', *BLOCKS)
-CLOSING = (')', ']', '}', 'end')
-COUNTED = ('[', '.', '::', '#', '^', '~', 'ROUT', 'ITER', *LOGICAL, *COMPARING, *ADDING, *MULTIPLYING)
-SETTING_BACK = (',', ';', ':=', '::=', 'then', 'else', 'elsif', 'when')
+OPENING = {'(', '[', '{', 'is', *BLOCKS}
+CLOSING = {')', ']', '}', 'end'}
+COUNTED = {'[', '.', '::', '#', '^', '~', 'ROUT', 'ITER', *LOGICAL, *COMPARING, *ADDING, *MULTIPLYING}
+SETTING_BACK = {',', ';', ':=', '::=', 'then', 'else', 'elsif', 'when'}
 
 
 class Levels:
     """The levels that are open, the innermost one last: each has a count, and tells whether a `|` has opened it."""
 
     def __init__(self):
-        self.open = []
+        self.open, self.level = [], 0
+
+    def begin(self, by_bar):
+        """Opens a level."""
+        self.open.append((1, by_bar))
+        self.level += 1
+
+    def close(self):
+        """Closes the innermost level."""
+        if self.open:
+            self.level -= self.open.pop()[0]
 
     def set(self, count):
         """Gives the innermost level a count."""
         if self.open:
-            self.open[-1] = (count, self.open[-1][1])
+            before, by_bar = self.open[-1]
+            self.open[-1] = (count, by_bar)
+            self.level += count - before
 
     def bar(self):
         """A `|` closes the level of another one, and else opens its own."""
         if self.open and self.open[-1][1]:
-            self.open.pop()
+            self.close()
         else:
-            self.open.append((1, True))
+            self.begin(True)
 
     def take(self, symbol):
         """Counts a token."""
@@ -149,30 +164,27 @@ class Levels:
             if self.open:
                 self.set(self.open[-1][0] + 1)
             else:
-                self.open.append((1, False))
+                self.begin(False)
         if symbol in OPENING:
-            self.open.append((1, False))
+            self.begin(False)
         elif symbol in CLOSING:
-            del self.open[-1:]
+            self.close()
         elif symbol == '|':
             self.bar()
         elif symbol == 'class':
-            self.open.clear()
+            self.open, self.level = [], 0
         elif symbol in SETTING_BACK:
             self.set(1)
-
-    def level(self):
-        return sum(count for count, _ in self.open)
 
 
 def scan(tokens):
     """Refuses the first word that isn't taken, or the first token behind which the level is too great."""
     levels = Levels()
     for token in tokens:
-        if token.symbol.encode() in REFUSED_WORDS:
+        if token.symbol in NOT_TAKEN:
             raise Refused('E08', token.at)
         levels.take(token.symbol)
-        if levels.level() > DEEPEST:
+        if levels.level > DEEPEST:
             raise Refused('E07', token.at)
 
 
@@ -193,13 +205,15 @@ class Grammar:
 
     def has(self, *symbols):
         """Whether one of the symbols comes next, which is then read."""
-        found = self.next() in symbols
-        self.at += found
-        return found
+        if self.symbols[self.at] in symbols:
+            self.at += 1
+            return True
+        return False
 
     def need(self, *symbols):
-        if not self.has(*symbols):
+        if self.symbols[self.at] not in symbols:
             raise Refused('E06', self.places[self.at])
+        self.at += 1
 
     def several(self, part, *separators):
         """x {separator x}"""
@@ -460,19 +474,14 @@ class Grammar:
         self.stmts()
         self.branches(self.type)
 
-    # Expressions. In an array literal without a bracket between, a `|` ends it
+    # Expressions. How strongly infix signs bind changes nothing of which token may follow, so that they are read as one list. In an
+    # array literal without a bracket between, a `|` ends it
 
     def expr(self, in_array=False):
-        self.several(lambda: self.comp(in_array), *LOGICAL)
-
-    def comp(self, in_array):
-        self.several(lambda: self.sum(in_array), *COMPARING)
-
-    def sum(self, in_array):
-        self.several(lambda: self.prod(in_array), *ADDING)
-
-    def prod(self, in_array):
-        self.several(lambda: self.unary(in_array), *MULTIPLYING)
+        self.unary(in_array)
+        while self.symbols[self.at] in INFIX:
+            self.at += 1
+            self.unary(in_array)
 
     def unary(self, in_array):
         while self.has('-', '~'):
@@ -551,7 +560,7 @@ def line_of(text, at):
 
 def refusal(text):
     """The code and the line with which the source of one file is refused by these rules, or None."""
-    sys.setrecursionlimit(20_000)
+    sys.setrecursionlimit(max(RECURSION, sys.getrecursionlimit()))
     try:
         if len(text) > LARGEST:
             raise Refused('E50', LARGEST)

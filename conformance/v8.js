@@ -1,5 +1,6 @@
 // Judges modules with V8. Reads lines of JSON, {"module": hex, "input": hex, "run": true or false}, from the standard input,
-// and writes a line of JSON for each: {"valid": true or false} and, where it was run, how it ended and its output in hex.
+// and writes a line of JSON for each: {"valid": true or false} and, where it was run, how it ended and its output in hex. Where
+// node lets it, it gives back what the modules took after each hundred of them.
 'use strict';
 const readline = require('readline');
 
@@ -41,6 +42,9 @@ function judge(task) {
   return {valid: true, ...run(new WebAssembly.Module(bytes), Buffer.from(task.input, 'hex'))};
 }
 
+let judged = 0;
 readline.createInterface({input: process.stdin}).on('line', (line) => {
-  console.log(JSON.stringify(judge(JSON.parse(line))));
+  process.stdout.write(JSON.stringify(judge(JSON.parse(line))) + '\n');
+  judged += 1;
+  if (global.gc && judged % 100 === 0) global.gc();
 });

@@ -1,46 +1,20 @@
-"""Judges what the program answers for a source or a module that nobody has looked at, by what the pages promise of every one.
+"""What the judging of sources and of modules has in common: the program that is judged, the other judges, and what is wrong.
 
-Of any input: each call ends by itself within 10 seconds of a processor, in one of the ways of the tables of docs/LANGUAGE.md and
-docs/WEBASSEMBLY.md, and a second call answers alike. The steps are within the fuel; with as many steps as were made the answer is
-the same, and with one less the fuel is spent.
-
-Of a source: it is refused by E01 to E08 exactly where source_reader.py says so, a line above it moves the line of a refusal by one
-and changes nothing else, `check`, `build` and `run` agree, and the module that was built does in `exec` what `run` does; V8 and
-wabt take it, and V8 runs it alike. Where the program `typed_tree` is given, its tree has the same end by the written meaning.
-
-Of a module: it is malformed exactly where reader.py says so; a custom section behind it changes nothing; V8 and wabt judge its
-validity alike, and V8 runs it alike."""
+The program and the tools that it is compared with are kept started (kept.py), each process of the judging has its own, and they
+work in a folder in memory. Each call of the program has to end by itself within 10 seconds of a processor and 2 GiB of addresses."""
 import dataclasses
 import os
-import re
-import resource
-import subprocess
 
-import binary
 import judges
-import modules
+import kept
 import programs
-import report
-import source_reader
-import turns
-from grammar import PRELUDE_LINES
-from reader import Reading, Reader
-from report import Left
 
-PAGE = os.path.join(os.path.dirname(os.path.abspath(__file__)), '..', 'docs', 'LANGUAGE.md')
 SECONDS = 10                # of a processor
 MEMORY = 2 << 30            # bytes of addresses
 FUEL = 2_000_000
 GIVEN = b'some input\n\0\xff 12'
-OLD = b'what the file held'
-STACK = programs.STACK
-MOST_PAGES = 8192           # a module that may have more memory than this many pages may be answered by want of memory
-ACCEPTED = Left(b'accepted\n')
-REFUSAL = re.compile(rb'(f\.sa|prelude):([1-9][0-9]*): (E[0-9]{2}): ([^\n]*)\n')
-FAULT = re.compile(rb'(f\.sa|prelude):([1-9][0-9]*): fault: ([^\n]*)\n')
 SPENT = b'fuel spent\n'
-NO_MEMORY = (b'out of memory\n', 125)
-READ_FIRST = ('E01', 'E02', 'E03', 'E04', 'E05', 'E06', 'E07', 'E08', 'E50')
+WITH_CONTRACT = b'class MAIN is main pre true is end; end'
 
 
 @dataclasses.dataclass
@@ -51,15 +25,6 @@ class Wrong:
 
     def __str__(self):
         return '%s: %s' % (self.promise, self.text)
-
-
-@dataclasses.dataclass
-class Asked:
-    """A module of which V8 is asked: whether it is to be run, how it ended here, and what the reader says of its bytes."""
-    module: bytes
-    run: bool
-    wanted: judges.Run
-    reading: Reading | None = None
 
 
 class Breach(Exception):
@@ -76,39 +41,42 @@ def require(holds, promise, *shown):
         raise Breach(promise, ' / '.join(str(one) for one in shown))
 
 
-def texts_of_codes():
-    """The text of each code, from the table in docs/LANGUAGE.md."""
-    with open(PAGE, encoding='utf-8') as file:
-        rows = re.findall(r'^\| (E\d\d(?:, E\d\d)*) \| ([^|]*) \|', file.read(), re.M)
-    return {code: text for codes, texts in rows for code, text in zip(codes.split(', '), texts.split(', '))}
-
-
-CODES = texts_of_codes()
-
-
-def limited():
-    """Limits the process that is about to run."""
-    resource.setrlimit(resource.RLIMIT_CPU, (SECONDS, SECONDS + 2))
-    resource.setrlimit(resource.RLIMIT_AS, (MEMORY, MEMORY))
-
-
 class Host:
-    """The program, and a folder in which it runs."""
+    """The program and the other judges, in a folder. `tree` is the path of the program `typed_tree` or None, and `library` that of
+    the library that keeps programs started, or None."""
 
-    def __init__(self, program, folder):
-        self.program, self.folder = program, folder
+    def __init__(self, program, tree, folder, library):
+        limits = kept.Limits(SECONDS, MEMORY, judges.BUSY * SECONDS)
+        self.path, self.folder = program, folder
+        self.program = kept.program(program, folder, limits, library)
+        self.started = kept.Started(program, folder, limits)
+        self.tree = kept.program(tree, folder, limits, library) if tree else None
+        self.wabt = kept.program('wasm-validate', folder, limits, library) if judges.has_wabt() else None
+        self.v8 = judges.V8(programs.STACK) if judges.has_node() else None
+        self.put('f.sa', WITH_CONTRACT)
+        self.takes_contracts = self.call('check', 'f.sa').status == 0
 
     def call(self, *words):
         """What the program left, which has ended by itself."""
-        left = report.run([self.program, *words], self.folder, judges.BUSY * SECONDS, input=GIVEN, preexec_fn=limited)
+        return self.ended(self.program.call(words, GIVEN), words)
+
+    def call_anew(self, *words):
+        """The same, by a start of its own."""
+        return self.ended(self.started.call(words, GIVEN), words)
+
+    def ended(self, left, words):
         require(left.status >= 0, 'it ends by itself', 'signal %d at %s' % (-left.status, ' '.join(words)))
         return left
 
-    def twice(self, *words):
-        """The same, where a second call leaves the same."""
-        left = self.call(*words)
-        require(left == self.call(*words), 'a second call answers alike', ' '.join(words))
-        return left
+    def typed_tree(self, name):
+        """The text that the program `typed_tree` gives for a file."""
+        left = self.tree.call([name])
+        require(left.status == 0, 'the typed tree is told', left)
+        return left.output
+
+    def wabt_accepts(self, name):
+        """Whether wabt finds a module valid without the features that came after 1.0."""
+        return self.wabt.call([*judges.WABT_FEATURES, name]).status == 0
 
     def put(self, name, content):
         with open(os.path.join(self.folder, name), 'wb') as file:
@@ -117,56 +85,6 @@ class Host:
     def content(self, name):
         with open(os.path.join(self.folder, name), 'rb') as file:
             return file.read()
-
-
-# ---- sources
-
-def lines_of(text, name):
-    """How many lines a refusal or a fault may stand in."""
-    return PRELUDE_LINES if name == b'prelude' else text.count(b'\n') + 1
-
-
-def refusal_of(text, left):
-    """The file, the line and the code of a refusal, or None where the source is accepted. Another answer is none of `check`."""
-    if left == ACCEPTED:
-        return None
-    found = REFUSAL.fullmatch(left.lines)
-    require(found and left.status == 120 and not left.output, 'check accepts or refuses', left)
-    name, line, code, what = found.groups()
-    require(CODES.get(code.decode()) == what.decode('latin-1'), 'a refusal has the text of its code', left.lines)
-    require(int(line) <= lines_of(text, name), 'a refusal stands inside the text', left.lines)
-    return name, int(line), code.decode()
-
-
-def as_read(text, refused):
-    """The refusal is the one that the lexical rules, the levels and the grammar give, where they give one."""
-    read = source_reader.refusal(text)
-    own = None
-    if refused and refused[2] in READ_FIRST:
-        own = (refused[2], refused[1])
-    require(own == read, 'tokens, levels and grammar are as the page tells', 'expected %s' % (read,), 'came %s' % (refused,))
-
-
-def with_a_line_above(host, text, refused):
-    """A comment above the text moves what is told of it by a line. A program without MAIN is refused at the start of the file."""
-    host.put('f.sa', b'-- above\n' + text)
-    moved = refusal_of(b'\n' + text, host.call('check', 'f.sa'))
-    host.put('f.sa', text)
-    wanted = refused
-    if refused and refused[0] == b'f.sa' and not (refused[2] == 'E24' and moved == refused):
-        wanted = (refused[0], refused[1] + 1, refused[2])
-    require(moved == wanted, 'a comment above moves a refusal by a line', 'expected %s' % (wanted,), 'came %s' % (moved,))
-
-
-def is_end(text, ran):
-    """Whether a run of an accepted source ended in one of the ways of the table."""
-    if ran.line == b'':
-        return 0 <= ran.status <= 255
-    if ran.line == SPENT:
-        return ran.status == 122
-    found = FAULT.fullmatch(ran.line)
-    return bool(found) and ran.status == 121 and found.group(3).decode() in programs.KINDS and \
-        int(found.group(2)) <= lines_of(text, found.group(1))
 
 
 def steps_of(ended, length):
@@ -180,177 +98,27 @@ def steps_of(ended, length):
     return steps
 
 
+def enough(same, ended, steps):
+    """A run with fuel for all its steps is the same."""
+    require((same.output, same.line, same.status, told_steps(same)) == (ended.output, ended.line, ended.status, steps),
+            'the fuel of all steps is enough', steps, same.line, same.stats)
+
+
+def too_few(less, ended, steps):
+    """A run with a step less is spent, with a front of the output."""
+    require(less.line == SPENT and less.status == 122 and told_steps(less) == steps - 1 and ended.output.startswith(less.output),
+            'a step less is too few', steps, less.line, less.stats)
+
+
+def told_steps(ended):
+    """The steps that the statistics tell, or None."""
+    found = judges.STATS.search(ended.stats)
+    return int(found.group(1)) if found else None
+
+
 def as_fueled(call, ended, steps):
-    """A run with fuel for all its steps is the same, and one with a step less is spent, with a front of the output. `call` runs
-    with so much fuel."""
-    if ended.line == SPENT:
-        return
-    same = call(steps)
-    require((same.output, same.line, same.status, same.stats) == (ended.output, ended.line, ended.status, ended.stats),
-            'the fuel of all steps is enough', steps, same.line)
-    if steps > 0:
-        less = call(steps - 1)
-        require(less.line == SPENT and less.status == 122 and b'steps %d,' % (steps - 1) in less.stats
-                and ended.output.startswith(less.output), 'a step less is too few', steps, less.line, less.stats)
-
-
-def refused_alike(host, checked):
-    """`build` and `run` refuse as `check` does, and the file of `build -o` keeps what it held."""
-    require(host.call('build', '-o', 'm', '--room', '64', 'f.sa') == checked, 'build refuses as check does', checked.lines)
-    require(host.content('m') == OLD, 'a refused build leaves the file', host.content('m')[:40])
-    require(host.call('run', '--stats', 'f.sa') == checked, 'run refuses as check does', checked.lines)
-
-
-def compiled(host, text):
-    """The module of an accepted source and its run, where the program's ways agree."""
-    built = host.call('build', '-o', 'm', '--room', '64', 'f.sa')
-    require(built == Left(), 'build accepts as check does', built)
-    module = host.content('m')
-    ran = programs.Ended(host.twice('run', '--stats', '--room', '64', '--fuel', str(FUEL), 'f.sa'))
-    require(is_end(text, ran), 'a run ends in a way of the table', ran.line, ran.status)
-    steps = steps_of(ran, len(module))
-    executed = programs.Ended(host.call('exec', '--stats', '--fuel', str(FUEL), 'm'))
-    wrong = programs.difference(ran, executed)
-    require(wrong is None, 'exec does what run does', wrong)
-    as_fueled(lambda fuel: programs.Ended(host.call('run', '--stats', '--room', '64', '--fuel', str(fuel), 'f.sa')), ran, steps)
-    return module, ran, executed
-
-
-def as_meant(program, tree, text, ran):
-    """The end is that of the typed tree in the interpreter of the written meaning."""
-    if tree and ran.line != SPENT:
-        found = turns.try_one(program, tree, False, ('', {'f.sa': text}, ['--room', '64', 'f.sa'], GIVEN))
-        require(found.wrong is None, 'a run ends as the written meaning has it', found.wrong)
-
-
-def of_source(program, tree, text, must_be_accepted):
-    """What V8 is asked of a source's module, or None where it is refused. What is wrong comes as a Breach."""
-    with report.folder_with({'f.sa': text, 'm': OLD}) as folder:
-        host = Host(program, folder)
-        checked = host.twice('check', 'f.sa')
-        refused = refusal_of(text, checked)
-        require(not (refused and must_be_accepted), 'a program that is well typed is accepted', checked.lines)
-        as_read(text, refused)
-        with_a_line_above(host, text, refused)
-        if refused:
-            refused_alike(host, checked)
-            return None
-        module, ran, executed = compiled(host, text)
-        as_meant(program, tree, text, ran)
-        require(not judges.has_wabt() or judges.wabt_accepts(folder), 'wabt takes the module of a program', len(module))
-        return Asked(module, ran.line != SPENT, judges.Run(judges.end_of(executed.line, executed.status), executed.output))
-
-
-# ---- modules
-
-class Memory(Reader):
-    """A reader that notes the most pages of a memory, or elements of a table, that a module may have."""
-    most = 0
-
-    def limits(self):
-        least, most = super().limits()
-        self.most = max(self.most, 65536 if most is None else most)
-        return least, most
-
-
-def may_want_memory(module, reading):
-    """Whether a module may take more memory than there is: its memory is large, or its functions have many locals."""
-    reader = Memory(module)
-    reader.module()
-    return reader.most > MOST_PAGES or 'many locals' in reading.notes
-
-
-def ended_of(left):
-    """How a run of a module ended, and its statistics."""
-    ended = programs.Ended(left)
-    if (ended.line, ended.status) == NO_MEMORY:
-        return ended, 'want of memory'
-    return ended, judges.end_of(ended.line, ended.status)
-
-
-def end_is_told(module, reading, end):
-    """The end is one of the table, and malformed exactly where the reader says so."""
-    require(not end.startswith('status'), 'an end is one of the table', end)
-    malformed = reading.malformed is not None
-    require((end == 'malformed') == malformed, 'a module is malformed as the page tells', end, reading.malformed)
-    require(end != 'want of memory' or may_want_memory(module, reading), 'memory is there', end)
-
-
-def with_a_section_behind(host, module, ended):
-    """A custom section behind the module changes nothing but its length."""
-    host.put('m', module + binary.section(0, binary.counted(b'x') + b'any'))
-    other = programs.Ended(host.call('exec', '--stats', '--fuel', str(FUEL), 'm'))
-    host.put('m', module)
-    same = (other.output, other.line, other.status) == (ended.output, ended.line, ended.status)
-    steps = [found and found.group(1) for found in (judges.STATS.search(one.stats) for one in (ended, other))]
-    require(same and steps[0] == steps[1], 'a custom section changes nothing', ended.line, other.line)
-
-
-def wabt_agrees(folder, reading, end):
-    """wabt judges the validity alike, where it is known to judge by the same rules."""
-    unended = reading.malformed in (modules.BODY_WITHOUT_END, modules.INITIAL_WITHOUT_END)
-    if not judges.has_wabt() or unended or reading.notes & modules.WABT_JUDGES_OTHERWISE:
-        return
-    accepted = judges.wabt_accepts(folder)
-    if reading.malformed and reading.later and accepted:
-        return
-    require(accepted == (end not in modules.REFUSED), 'wabt judges a module alike', end, 'wabt %s' % modules.verdict(accepted))
-
-
-def of_module(program, module, must_be_valid):
-    """What V8 is asked of a module. What is wrong comes as a Breach."""
-    reading = Reading(module)
-    with report.folder_with({'m': module}) as folder:
-        host = Host(program, folder)
-        ended, end = ended_of(host.twice('exec', '--stats', '--fuel', str(FUEL), 'm'))
-        end_is_told(module, reading, end)
-        require(not must_be_valid or end not in modules.REFUSED, 'a module that is valid is accepted', end)
-        if ended.stats:
-            steps = steps_of(ended, len(module))
-            as_fueled(lambda fuel: programs.Ended(host.call('exec', '--stats', '--fuel', str(fuel), 'm')), ended, steps)
-        if end not in ('malformed', 'want of memory'):
-            with_a_section_behind(host, module, ended)
-        wabt_agrees(folder, reading, end)
-    return Asked(module, end not in ('spent', 'too deep', 'want of memory'), judges.Run(end, ended.output), reading)
-
-
-# ---- V8
-
-def v8_validity(asked, valid):
-    """What V8 says of the validity that it shouldn't, or None."""
-    reading = asked.reading
-    if reading and (reading.malformed and reading.later and valid or reading.notes & modules.V8_JUDGES_OTHERWISE):
-        return None
-    if valid != (asked.wanted.end not in modules.REFUSED):
-        return Wrong('V8 judges a module alike', 'here %s, V8 %s' % (asked.wanted.end, modules.verdict(valid)))
-    return None
-
-
-def v8_difference(asked, valid, run):
-    """Where V8 says something else of a module, or None. It doesn't tell imports by their types, has a stack of its own, and may
-    lack memory that is there here."""
-    wrong = v8_validity(asked, valid)
-    if wrong or run is None or asked.wanted.end.startswith('unlinked') or 'too deep' in (run.end, asked.wanted.end):
-        return wrong
-    return None if run == asked.wanted else Wrong('V8 runs a module alike', 'here %s; V8 %s' % (asked.wanted, run))
-
-
-def answers_of_v8(every):
-    """What V8 says of each module, or what is wrong where it doesn't answer."""
-    tasks = [(asked.module, GIVEN, asked.run and asked.wanted.end not in modules.REFUSED) for asked in every]
-    try:
-        return judges.v8(tasks, stack=STACK)
-    except (RuntimeError, subprocess.TimeoutExpired):
-        if len(every) > 1:
-            return [answer for asked in every for answer in answers_of_v8([asked])]
-        return [Wrong('V8 judges a module alike', 'it gives no answer')]
-
-
-def compared_with_v8(every):
-    """What is wrong with each by V8, or None, for a list of what V8 is asked, which may be None."""
-    found = [None] * len(every)
-    places = [place for place, asked in enumerate(every) if asked is not None]
-    if places and judges.has_node():
-        for place, answer in zip(places, answers_of_v8([every[place] for place in places])):
-            found[place] = answer if isinstance(answer, Wrong) else v8_difference(every[place], *answer)
-    return found
+    """What is spent, and what isn't. `call` runs the same with so much fuel."""
+    if ended.line != SPENT:
+        enough(call(steps), ended, steps)
+        if steps > 0:
+            too_few(call(steps - 1), ended, steps)

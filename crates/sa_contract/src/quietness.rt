@@ -7,7 +7,6 @@ ghost use Rattle.sa_contract.specs.Quiet.{is_quiet_target, reads_alone};
 
 use sa_core::{ArgCore, CalledCore, ExprCore, Target};
 use sa_prelude::BuiltinFeature;
-use sqlite_items::Boxed;
 
 /// Whether an expression is quiet: it is made of literals, void values, `self`, variables, reads of attributes and of shareds,
 /// tests for void, `and` and `or`, and calls of built-in features that make and change nothing.
@@ -25,7 +24,9 @@ pub fn quiet(e: &ExprCore) -> bool
         | ExprCore::Me
         | ExprCore::Var(_) => true,
         ExprCore::IsVoid(of) => quiet(of.get()),
-        ExprCore::And(first, second) | ExprCore::Or(first, second) => are_quiet(first, second),
+        ExprCore::And(first, second) | ExprCore::Or(first, second) => {
+            quiet(first.get()) && quiet(second.get())
+        }
         ExprCore::Call(called, on, args, _) => {
             if !is_quiet_call(*called) {
                 return false;
@@ -33,7 +34,10 @@ pub fn quiet(e: &ExprCore) -> bool
             quiet(on.get()) && are_quiet_args(args.as_slice())
         }
         ExprCore::Swapped(target, first, second, _) => {
-            is_quiet_builtin(*target) && are_quiet(first, second)
+            if !is_quiet_builtin(*target) {
+                return false;
+            }
+            quiet(first.get()) && quiet(second.get())
         }
         ExprCore::Exception
         | ExprCore::New(_, _)
@@ -43,15 +47,6 @@ pub fn quiet(e: &ExprCore) -> bool
         | ExprCore::Bind(_, _, _, _, _)
         | ExprCore::Widen(_, _, _) => false,
     }
-}
-
-/// Whether two expressions are quiet.
-#[tactic(auto, using(crate::proofs::QuietArgs::quiet))]
-#[cycle(quiet)]
-fn are_quiet(first: &Boxed<ExprCore>, second: &Boxed<ExprCore>) -> bool
-    ensures { result ≡ (is_quiet (expr_of first.now) && is_quiet (expr_of second.now)) }
-{
-    quiet(first.get()) && quiet(second.get())
 }
 
 /// Whether the arguments are quiet: all are values.

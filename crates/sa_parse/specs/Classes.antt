@@ -1,5 +1,5 @@
 -- Classes and files: a relation for each production of their grammar, with a case for each of its alternatives.
-use Rattle.std.specs.Prelude.{◌≡◌, ℕ, ◌+◌, ◌≤◌, List, [], ◌∷◌, ◌++◌, length, map, Some, None}
+use Rattle.std.specs.Prelude.{◌≡◌, ℕ, ◌+◌, ◌≤◌, List, [], ◌∷◌, ◌++◌, length, map, Option, Some, None}
 use Rattle.std.specs.List.{flat_map}
 use Rattle.sa_lex.specs.declared.token.Token.{Token}
 use Rattle.sa_lex.specs.declared.token.TokenKind.TheVariants.{ClassName, AbstractName}
@@ -22,7 +22,6 @@ use Rattle.sa_parse_expr.specs.Lexemes.{Lexeme, IsWord, IsSign, lexemes_of}
 use Rattle.sa_parse_expr.specs.Types.{IsType, IsTypes}
 use Rattle.sa_parse.specs.declared.class.DeclaredEdges.{DeclaredEdges}
 use Rattle.sa_parse.specs.declared.class.Head.{Head}
-use Rattle.sa_parse.specs.declared.contract.Clauses.{Clauses}
 use Rattle.sa_parse.specs.declared.file.FileKind.{FileKind}
 use Rattle.sa_parse.specs.declared.file.Parsed.{Parsed}
 use Rattle.sa_parse.specs.declared.member.Declaration.{Declaration}
@@ -180,16 +179,16 @@ pub data IsFile (file_kind : FileKind) : List Lexeme → List Written → Type 0
 
 -- ---- contracts
 
--- the contract of the feature at a place of the class at a place, if a clause of it is written
-abbrev pub contract_of : ℕ → ℕ → Clauses → List Contract
-contract_of class feature (record { pre = None; post = None }) = []
-contract_of class feature clauses = contract.Clauses class feature clauses.pre clauses.post ∷ []
+-- the contract of the feature at a place of the class at a place, if it has one of the two clauses
+abbrev pub contract_of : ℕ → ℕ → Option Condition → Option Condition → List Contract
+contract_of class feature None None = []
+contract_of class feature pre post = contract.Clauses class feature pre post ∷ []
 
 -- the clauses of these members, of which the first feature has this place
 abbrev pub clauses_from : ℕ → ℕ → List Declaration → List Contract
 clauses_from class place [] = []
 clauses_from class place (member.Called feature clauses ∷ members) =
-    contract_of class place clauses ++ clauses_from class (place + 1) members
+    contract_of class place clauses.pre clauses.post ++ clauses_from class (place + 1) members
 clauses_from class place (m ∷ members) = clauses_from class (place + length (features_of m)) members
 
 -- the contracts of the class at a place: the clauses of its features in their order, and behind them its invariant

@@ -156,10 +156,5 @@ pub data IsMember (class : Enclosing) : List Lexeme → Declaration → Type 0 w
 abbrev pub features_of : Declaration → List Feature
 features_of (member.Variables features) = features
 features_of (member.Called feature clauses) = feature ∷ []
-features_of (member.Include include) = []
+features_of (member.Include brought) = []
 features_of (member.Invariant holds) = []
-
--- those of a member that may be left out
-abbrev pub features_in : Option Declaration → List Feature
-features_in None = []
-features_in (Some m) = features_of m

@@ -15,7 +15,7 @@
 //! ```
 
 ghost use Rattle.std.specs.Prelude.{◌≡◌, ◌+◌, ◌<◌, ◌≤◌, [], ◌∷◌, ◌++◌, IfErr, IfOk, OnOk, length};
-ghost use Rattle.sa_parse.specs.Features.{features_in};
+ghost use Rattle.sa_parse.specs.Features.{features_of};
 ghost use Rattle.sa_parse_expr.specs.Places.{IsBehind, IsFrom, IsUnexpected};
 
 use crate::contract::Clauses;
@@ -72,19 +72,18 @@ impl Inside {
     }
 
     /// Puts what a member of the class at this place gives at the end.
-    fn put(&mut self, class: u32, member: Option<Declaration>) -> Result<(), AllocError>
+    fn put(&mut self, class: u32, member: Declaration) -> Result<(), AllocError>
         requires { length self.old.features < 4294967296 }
-        ensures { OnOk result (self.new.features ≡ self.old.features ++ features_in member) }
+        ensures { OnOk result (self.new.features ≡ self.old.features ++ features_of member) }
     {
         match member {
-            Some(Declaration::Variables(features)) => self.features.append(features),
-            Some(Declaration::Called(feature, clauses)) => self.put_called(class, feature, clauses),
-            Some(Declaration::Include(include)) => self.includes.push(include),
-            Some(Declaration::Invariant(holds)) => {
+            Declaration::Variables(features) => self.features.append(features),
+            Declaration::Called(feature, clauses) => self.put_called(class, feature, clauses),
+            Declaration::Include(include) => self.includes.push(include),
+            Declaration::Invariant(holds) => {
                 self.invariant = Some(holds);
                 Ok(())
             }
-            None => Ok(()),
         }
     }
 
@@ -405,33 +404,32 @@ fn members(
     ensures refused { IfErr result (IsUnexpected tokens.now.file) }
 {
     let mut inside = Inside::new(alloc);
-    let (first, mut next) = optional_member(alloc, tokens, class, sharing, &inside, from)?;
-    inside.put(class.place, first)?;
+    let mut next = add_member(alloc, tokens, class, sharing, &mut inside, from)?;
     'more: while tokens.is_sign(next, Sign::Semicolon) {
-        let (one, end) = optional_member(alloc, tokens, class, sharing, &inside, next + 1)?;
-        inside.put(class.place, one)?;
-        next = end;
+        next = add_member(alloc, tokens, class, sharing, &mut inside, next + 1)?;
     }
     Ok((inside, next))
 }
 
-/// `[member]`, behind other members.
-fn optional_member(
+/// `[member]`, whose parts are put behind those of the others.
+fn add_member(
     alloc: Global,
     tokens: &Tokens<'_>,
     class: ClassContext<'_>,
     sharing: &mut Sharing,
-    others: &Inside,
+    inside: &mut Inside,
     from: u32,
-) -> Result<(Option<Declaration>, u32), FrontFault>
-    requires { from ≤ length tokens.now.list.now }
-    ensures count { IfOk result (λ read. from + length (features_in read.0) ≤ read.1) }
-    ensures next { IfOk result (λ read. IsFrom tokens.now.list.now from read.1) }
+) -> Result<u32, FrontFault>
+    requires within { from ≤ length tokens.now.list.now }
+    requires count { length inside.old.features ≤ from }
+    ensures count { IfOk result (λ next. length inside.new.features ≤ next) }
+    ensures next { IfOk result (IsFrom tokens.now.list.now from) }
     ensures refused { IfErr result (IsUnexpected tokens.now.file) }
 {
-    if !begins_member(tokens.kind(from), class, others) {
-        return Ok((None, from));
+    if !begins_member(tokens.kind(from), class, inside) {
+        return Ok(from);
     }
     let (member, next) = member(alloc, tokens, class, sharing, from)?;
-    Ok((Some(member), next))
+    inside.put(class.place, member)?;
+    Ok(next)
 }

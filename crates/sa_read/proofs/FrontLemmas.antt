@@ -3,7 +3,7 @@ use Rattle.std.proofs.Common.{◌≡◌, ℕ, ◌+◌, ◌<◌, ◌≤◌, List,
 use Rattle.std.proofs.lemmas.List.{get_or_append_left, get_or_default, get_or_push, length-append}
 use Rattle.std.proofs.lemmas.Bool.{cases_lt}
 use Rattle.sa_lex.specs.declared.token.Token.{Token}
-use Rattle.sa_lex.specs.Tokens.{AreTokensOf, Follow, IsFaultOf, RefusesText}
+use Rattle.sa_lex.specs.Tokens.{AreTokensOf, IsFaultOf, RefusesText}
 use Rattle.sa_parse_expr.specs.Level.{RefusesTokens}
 use Rattle.sa_parse.specs.Refusals.{IsRefusal}
 use Rattle.sa_tree.specs.declared.refusal.FrontFault.{FrontFault}
@@ -62,15 +62,6 @@ grammar texts lists n (Refused refusal) each there taken (inr (none, (rule, file
   within = rw file there;
   rule = rule;
 }))
-
--- tokens are at most as many as the bytes of their text
-tokens_fit : (text : List ℕ) (place : ℕ) (tokens : List Token) → place ≤ length text → Follow text place tokens → place + length tokens ≤ length text
-tokens_fit text place [] inside follow = omega arith
-tokens_fit text place (token ∷ tokens) inside (stands, follow) =
-    omega (arith, tokens_fit text token.end tokens stands.in_text follow, stands.start, stands.not_empty)
-
-pub few_tokens : (text : List ℕ) (tokens : List Token) → AreTokensOf text tokens → length tokens ≤ length text
-few_tokens text tokens are = omega (arith, tokens_fit text 0 tokens (omega arith) are.follow)
 
 -- the tokens of the text with a number, found in the lists
 pub of_text : (texts : List (List ℕ)) (lists : List (List Token)) (n : ℕ) (text : List ℕ) (tokens : List Token) → AreTokensOfTexts texts lists (length texts) → n < length texts → (d : List ℕ) (e : List Token) → text ≡ slice_index_or texts n d → tokens ≡ slice_index_or lists n e → AreTokensOf text tokens

@@ -21,15 +21,23 @@ pub next : (n : ℕ) → suc n ≡ n + 1
 next n = omega arith
 
 -- a file that couldn't be read
-pub unread : (files : Option Files) (names : List (Bor (List ℕ))) (n : ℕ) (d : Bor (List ℕ)) (first before after : ℕ) → n < length names → first ≤ before → Rose before after ⊎ Lacks files (slice_index_or names n d).now → Rose first after ⊎ LacksOneOf files (map (λ name. name.now) names)
-unread files names n d first before after there less (inl rose) = inl (Rose-earlier first before after less rose)
-unread files names n d first before after there less (inr lacks) =
-    inr (n, omega (arith, length-map names (λ (name : Bor (List ℕ)). name.now)), subst (Lacks files) (name_at names n d there) lacks)
+pub unread : (files : Option Files) (names : List (Bor (List ℕ))) (sources : Sources) (n : ℕ) (d : Bor (List ℕ)) (first before after : ℕ) → AreNamed (map (λ name. name.now) names) sources n → HaveTexts files (map (λ name. name.now) names) sources.texts n → size sources.texts ≤ most → n < length names → first ≤ before → Rose before after ⊎ Lacks files (slice_index_or names n d).now → Rose first after ⊎ LacksOneOf files (map (λ name. name.now) names)
+unread files names sources n d first before after named have small there less (inl rose) = inl (Rose-earlier first before after less rose)
+unread files names sources n d first before after named have small there less (inr lacks) = inr (record {
+  number = n;
+  there = omega (arith, length-map names (λ (name : Bor (List ℕ)). name.now), there);
+  lacks = subst (Lacks files) (name_at names n d there) lacks;
+  before = sources;
+  named = named;
+  texts = have;
+  small = small;
+})
 
 -- one more name
 pub named_more : (names : List (List ℕ)) (sources new : Sources) (n : ℕ) (name text : List ℕ) → AreNamed names sources n → n < length names → name ≡ at names n → new.names ≡ sources.names ++ name ∷ [] → new.texts ≡ sources.texts ++ text ∷ [] → AreNamed names new (suc n)
 named_more names sources new n name text named there is more longer = record {
   named = more ∙ ap (λ xs. xs ++ name ∷ []) named.named ∙ ap (λ x. (codes "prelude" ∷ take n names) ++ x ∷ []) is ∙ ap (λ xs. codes "prelude" ∷ xs) (sym (take-suc names n [] there));
+  first = ap (λ texts. at texts 0) longer ∙ get_or_append_left sources.texts (text ∷ []) [] 0 (omega (arith, named.count)) ∙ named.first;
   count = omega (arith, ap length longer, length-append sources.texts (text ∷ []), named.count);
   there = omega arith;
 }

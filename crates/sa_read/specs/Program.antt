@@ -35,6 +35,7 @@ HaveTexts files names texts n = (k : ℕ) → k < n → HasFile files (at names 
 -- the first n names name the texts behind the prelude's, which are that many
 pub record AreNamed (names : List (List ℕ)) (sources : Sources) (n : ℕ) : Type 0 where
   pub named : sources.names ≡ codes "prelude" ∷ take n names
+  pub first : at sources.texts 0 ≡ prelude_text
   pub count : length sources.texts ≡ suc n
   pub there : n ≤ length names
 
@@ -62,6 +63,12 @@ IsReadAs files names sources (Some refusal) = IsCut files names sources refusal
 abbrev pub IsReadFrom : Option Files → List (List ℕ) → Program → Type 0
 IsReadFrom files names program = IsReadAs files names program.sources program.cut
 
--- the store tells that it lacks one of these files
-abbrev pub LacksOneOf : Option Files → List (List ℕ) → Type 0
-LacksOneOf files names = (k : ℕ) × (k < length names) × Lacks files (at names k)
+-- the store tells that it lacks one of these files, and those before it were read to their ends and are small enough together
+pub record LacksOneOf (files : Option Files) (names : List (List ℕ)) : Type 0 where
+  pub number : ℕ
+  pub there : number < length names
+  pub lacks : Lacks files (at names number)
+  pub before : Sources
+  pub named : AreNamed names before number
+  pub texts : HaveTexts files names before.texts number
+  pub small : size before.texts ≤ most

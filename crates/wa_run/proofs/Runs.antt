@@ -54,7 +54,7 @@ pub not-started : (m : Module) (fuel steps : ℕ) (fault : StartFault) → IsAns
 not-started m fuel steps (start.Unlinked import) = (refl, refl)
 not-started m fuel steps start.Segment = (refl, refl)
 not-started m fuel steps start.NoMemory = λ input rest most reads within.
-    (subst (λ (i : Input). Shrinks i (input_left m input most)) (sym reads) (whole-shrinks m input most), (machine_run m input most).output, refl)
+    (subst (λ (i : Input). Shrinks i (input_left m input most)) (sym reads) (whole-shrinks m input most), ((machine_run m input most).output, refl))
 
 pub before-run : (m : Module) (fuel steps : ℕ) (given : Answer) → IsBeforeRun given ⊎ (given ≡ answer.NoMemory) → IsAnswered m [] [] fuel given steps
 before-run m fuel steps given (inr is) = subst (λ (a : Answer). IsAnswered m [] [] fuel a steps) (sym is) (not-started m fuel steps start.NoMemory)
@@ -175,10 +175,10 @@ told-reads : (answers : List Take) (given : source.Input) (after : Option source
 told-reads [] given after gave = (input_of given, refl, ap left_of gave)
 told-reads (taken.Byte b ∷ more) given after (middle, (left, here, there), gave) =
     let next = told-reads more (record { left = left; ends = given.ends }) after (subst (λ (o : Option source.Input). Gave more o after) there gave) in
-    (next.0, (left, here, next.1.0), next.1.1)
+    (next.0, (left, here, next.1), next.2)
 told-reads (taken.End ∷ more) given after (middle, (none, there), gave) =
     let next = told-reads more _ after (subst (λ (o : Option source.Input). Gave more o after) there gave) in
-    (next.0, (None, ap (λ (bytes : List ℕ). record { bytes = bytes; ends = None }) none, next.1.0), next.1.1)
+    (next.0, (None, ap (λ (bytes : List ℕ). record { bytes = bytes; ends = None }) none, next.1), next.2)
 told-reads (taken.Failed ∷ more) given after gave = absurd gave
 
 answered-run : (m : Module) (answers : List Take) (handed : List ℕ) (fuel steps : ℕ) (given : Answer) (h : Halt) → halt_of given ≡ Some h → IsAnswered m answers handed fuel given steps → IsRun m answers handed fuel h steps Any
@@ -198,12 +198,12 @@ answered-run m answers handed fuel steps answer.NoMemory h is holds = absurd (no
 pub run-told : (m : Module) (fuel : ℕ) (run : Run) (before after : Streams) → HasRunModule m fuel run before after → ToldModule m fuel run before after
 run-told m fuel run before after has given h tells is =
     let reads = told-reads has.answers given after.input (subst (λ (o : Option source.Input). Gave has.answers o after.input) tells has.gave) in
-    let both = answered-run m has.answers has.handed fuel run.steps run.answer h is has.holds (input_of given) reads.0 reads.1.0 tt in
+    let both = answered-run m has.answers has.handed fuel run.steps run.answer h is has.holds (input_of given) reads.0 reads.1 tt in
     let whole = both.0 in (
       ap (λ (r : runs.Run). r.halt) whole,
       ap (λ (r : runs.Run). r.steps) whole,
       subst (λ (output : List ℕ). Took before.output after.output output) (sym (ap (λ (r : runs.Run). r.output) whole)) has.took,
-      reads.1.1 ∙ ap (λ (i : Input). Some i.bytes) (sym both.1),
+      reads.2 ∙ ap (λ (i : Input). Some i.bytes) (sym both.1),
     )
 
 -- so of the module that the bytes spell

@@ -5,7 +5,7 @@ endif
 let b:did_indent = 1
 
 setlocal indentexpr=GetSatherIndent()
-setlocal indentkeys=o,O,!^F,0=end,0=else,0=elsif,0=when
+setlocal indentkeys=o,O,!^F,0=end,0=else,0=elsif,0=when,0=pre,0=post
 let b:undo_indent = 'setlocal indentexpr< indentkeys<'
 
 if exists('*GetSatherIndent')
@@ -37,7 +37,7 @@ function! s:GoesOn(before, number) abort
   let sign = '[-+*/%^~=<>#,.({[]'
   let opened = '\%(' . sign . '\|\<\%(return\|yield\)\>\)\s*|'
   let last = '\%(' . sign . '\|\<\%(and\|or\)\>\|' . opened . '\)\s*$'
-  let first = '^\s*\%([-+*/%^=<>.,|)}\]]\|\<\%(and\|or\)\>\)'
+  let first = '^\s*\%([-+*/%^=<>.,|)}\]]\|\<\%(and\|or\|pre\|post\)\>\)'
   return a:before > 0 && (s:Code(a:before) =~# last || s:Code(a:number) =~# first)
 endfunction
 

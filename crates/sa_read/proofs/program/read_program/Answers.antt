@@ -16,7 +16,7 @@ texts_of names = map (λ (name : Bor (List ℕ)). name.now) names
 
 pub returns-in_err-text-clause-failed : goal.returns-in_err-text-clause-failed
 returns-in_err-text-clause-failed g c =
-    λ failed. unread (g.S.ReadFiles.files c.args.store.now) c.args.names.now c.loop-place.place no_name _ _ _ c.loop-place-test.true c.loop-place.invariant.count
+    λ failed. unread (g.S.ReadFiles.files c.args.store.now) c.args.names.now c.loop-place.sources c.loop-place.place no_name _ _ _ c.loop-place.invariant.named c.loop-place.invariant.texts (omega (arith, c.loop-place.invariant.room)) c.loop-place-test.true c.loop-place.invariant.count
     (rw (← c.loop-place.invariant.files) (c.in_err-text.ensures.failed (search (rules, failed))))
 
 pub returns-in-Cut-clause-read : goal.returns-in-Cut-clause-read

@@ -1,0 +1,462 @@
+#!/usr/bin/env python3
+"""web.py PROGRAM [--only WORD] [--pictures FOLDER]
+
+Tries the page of hosts/web, which `serve` serves with the program:
+
+- what the server refuses, which needs no browser;
+- that examples.js is what `gather` writes;
+- in a Chromium without a window: programs that are typed, run, refused, stopped, and end by themselves; each example, with its
+  output; the picture of live iters and its steps; the page on a narrow screen, in the dark and by keyboard alone; and the page as
+  a file that is opened.
+
+--pictures keeps pictures of the page in a folder. --only takes the tries whose names hold a word. Where there is no Chromium, the
+tries in it are left out, and that is told."""
+import argparse
+import contextlib
+import http.client
+import importlib.machinery
+import importlib.util
+import os
+import socket
+import subprocess
+import sys
+from urllib.parse import urlsplit
+
+import browser
+import examples
+import report
+
+WEB = os.path.realpath(os.path.join(os.path.dirname(os.path.abspath(__file__)), '..', 'hosts', 'web'))
+CONTROL, SHIFT = browser.CONTROL, browser.SHIFT
+COUNTS = 'class MAIN is\nmain is\nloop #OUT + 1.upto!(3) + " "; end;\nend;\nend;\n'
+COPY = 'class MAIN is main is loop b ::= #IN.get_byte; while!(b >= 0); #OUT + b.char; end; end; end;'
+ENDLESS = 'class MAIN is main is #OUT + "begun"; loop end; end; end;'
+REFUSED = 'class MAIN is\n   main is\n      x ::= 3 +;\n   end;\nend;\n'
+FAULTY = 'class MAIN is\n   main is\n      #OUT + "a";\n      #OUT + 1 / 0;\n   end;\nend;\n'
+SUMS = '''class MAIN is
+   sum!(x:INT):INT is
+      total ::= 0;
+      loop total := total + x; yield total; end;
+   end;
+   main is
+      loop #OUT + sum!(1.upto!(2)) + " "; end;
+   end;
+end;
+'''
+# What `run --trace` tells of SUMS by docs/ITERS.md: in each round `upto!` gives the argument, and then `sum!` goes on, up to the third
+# round, which `upto!` ends.
+SUMS_TRACE = '''start f.sa:7 0
+yield f.sa:7 0
+start f.sa:7 1
+yield f.sa:7 1
+resume f.sa:7 0
+yield f.sa:7 0
+resume f.sa:7 1
+yield f.sa:7 1
+resume f.sa:7 0
+quit f.sa:7 0
+abandon f.sa:7 1
+'''
+# The lanes of the picture, each with its name, and of each the states that the cursor has passed.
+LANES = '''[...document.querySelectorAll('.lanes .label')].map((label) =>
+  [...label.querySelectorAll('text')].map((text) => text.textContent).join(' ').trim())'''
+STATES = '''[...document.querySelectorAll('.chip')].map((chip) => chip.textContent + ' ' + chip.title)'''
+# The elements with words of their own whose letters are too faint upon what is behind them: a ratio below 4.5.
+FAINT = '''(() => {
+  const part = (value) => { const c = value / 255; return c <= 0.03928 ? c / 12.92 : ((c + 0.055) / 1.055) ** 2.4; };
+  const light = ([r, g, b]) => 0.2126 * part(r) + 0.7152 * part(g) + 0.0722 * part(b);
+  const numbers = (text) => text.match(/[0-9.]+/g).map(Number);
+  const behind = (node) => {
+    for (; node; node = node.parentElement) {
+      const color = numbers(getComputedStyle(node).backgroundColor);
+      if (color.length < 4 || color[3] === 1) return color;
+    }
+    return [255, 255, 255];
+  };
+  const isFaint = (node) => {
+    const [one, other] = [light(numbers(getComputedStyle(node).color)), light(behind(node))].sort((a, b) => b - a);
+    return (one + 0.05) / (other + 0.05) < 4.5;
+  };
+  const hasWords = (node) => [...node.childNodes].some((one) => one.nodeType === 3 && one.textContent.trim());
+  const nodes = [...document.body.querySelectorAll('*:not(svg *):not(option):not(textarea):not(:disabled)')];
+  return [...new Set(nodes.filter((node) => hasWords(node) && node.checkVisibility() && isFaint(node))
+    .map((node) => node.tagName + '.' + node.className))];
+})()'''
+# The elements that stick out of a screen sideways.
+OUTSIDE = '''(() => {
+  const inside = (node) => node.closest('.editor, .lanes, #output');
+  const wide = document.scrollingElement.scrollWidth > innerWidth ? ['the page itself'] : [];
+  const nodes = [...document.querySelectorAll('button, select, textarea, input, h1, h2, p, pre, ul')];
+  const sticksOut = ({left, right}) => left < -1 || right > innerWidth + 1;
+  const found = nodes.filter((node) => node.checkVisibility() && !inside(node) && sticksOut(node.getBoundingClientRect()));
+  return [...wide, ...found.map((node) => node.id || node.tagName)];
+})()'''
+FOCUSED = '''(() => {
+  const node = document.activeElement;
+  const ring = node.closest('.time') ?? node.closest('.editor') ?? node;
+  const style = getComputedStyle(ring);
+  const name = node.id || node.dataset.part || node.tagName;
+  return [name, style.outlineStyle !== 'none' && parseFloat(style.outlineWidth) > 0];
+})()'''
+# What the Tab key comes to, in its order.
+STOPS = ['example', 'run', 'trace', 'source', 'input', 'output', 'first', 'back', 'forward', 'last', 'play', 'slider', 'lanes', 'SUMMARY']
+
+
+class Differs(Exception):
+    """What a try has found to be wrong."""
+
+
+def expect(what, wanted, came):
+    """Raises where something else came than was wanted."""
+    if wanted != came:
+        raise Differs('%s: expected %r, and came %r' % (what, wanted, came))
+
+
+def gather():
+    """The script `gather` as a module."""
+    loader = importlib.machinery.SourceFileLoader('gather', os.path.join(WEB, 'gather'))
+    module = importlib.util.module_from_spec(importlib.util.spec_from_loader('gather', loader))
+    sys.dont_write_bytecode = True
+    loader.exec_module(module)
+    return module
+
+
+@contextlib.contextmanager
+def served(program):
+    """The address of the page, which is served meanwhile."""
+    words = [sys.executable, os.path.join(WEB, 'serve'), '--port', '0', program]
+    with subprocess.Popen(words, stdout=subprocess.PIPE, text=True) as server:
+        try:
+            yield server.stdout.readline().strip()
+        finally:
+            server.terminate()
+
+
+def traces(program):
+    """Whether the program has the option --trace."""
+    with report.folder_with({'f.sa': SUMS.encode()}) as folder:
+        return report.run([program, 'run', '--trace', 'f.sa'], folder).status == 0
+
+
+# The server, without a browser.
+
+def status_of(address, method, path, body=b'', **headers):
+    """The status that the server answers a request with."""
+    connection = http.client.HTTPConnection(urlsplit(address).netloc, timeout=report.SECONDS)
+    with contextlib.closing(connection):
+        connection.request(method, path, body, {name.replace('_', '-'): value for name, value in headers.items()})
+        return connection.getresponse().status
+
+
+JSON = {'Content_Type': 'application/json'}
+OUTSIDE_NAME = 'other machines don\'t reach the server'
+# A name, the request, and the status of the answer.
+REQUESTS = [
+    ('the page is served', ('GET', '/'), {}, 200),
+    ('what is no file of the page isn\'t served', ('GET', '/serve'), {}, 404),
+    ('a name that leads out of the folder is no page', ('GET', '/../../README.md'), {}, 404),
+    ('a request that names another host is refused', ('GET', '/'), {'Host': 'example.org'}, 404),
+    ('another page can\'t have sources compiled', ('POST', '/build', b'{"source": ""}'), {**JSON, 'Origin': 'http://example.org'}, 403),
+    ('a form of another page can\'t either', ('POST', '/build', b'{"source": ""}'), {'Content_Type': 'text/plain'}, 403),
+    ('what is no source is refused', ('POST', '/build', b'[]'), JSON, 400),
+    ('a source that is refused has no module', ('POST', '/build', b'{"source": ""}'), JSON, 422),
+    ('a request that is too long isn\'t read', ('POST', '/build', b' ' * 3_000_000), JSON, 413),
+]
+
+
+def try_server(address, told, word):
+    """Tries the requests whose names hold the word, one by one."""
+    for name, request, headers, wanted in REQUESTS:
+        if word in name:
+            try:
+                came = status_of(address, *request, **headers)
+            except (ConnectionResetError, BrokenPipeError):
+                came = 413      # the server has answered and gone before all was sent
+            told.count(name, None if came == wanted else 'expected the status %d, and came %d' % (wanted, came))
+    if word in OUTSIDE_NAME:
+        told.count(OUTSIDE_NAME, reached_from_outside(urlsplit(address).port))
+
+
+def reached_from_outside(port):
+    """Which address of this machine but that of the loop reaches the server, or None."""
+    with contextlib.suppress(OSError):
+        for _, _, _, _, (host, *_) in socket.getaddrinfo(socket.gethostname(), port, socket.AF_INET, socket.SOCK_STREAM):
+            if not host.startswith('127.'):
+                with contextlib.suppress(OSError), socket.create_connection((host, port), 2):
+                    return 'it is reached by %s' % host
+    return None
+
+
+def script_differs(program):
+    """Where examples.js is something else than `gather` writes, or None."""
+    writer = gather()
+    stands = {one['name']: one for one in writer.read_script()}
+    trace = (lambda name: writer.trace_of(program, name)) if traces(program) else (lambda name: stands.get(name, {}).get('trace', ''))
+    wanted = writer.script(writer.gathered(trace))
+    with open(writer.WRITTEN, encoding='utf-8') as file:
+        return None if file.read() == wanted else 'it isn\'t as `hosts/web/gather PROGRAM` writes it'
+
+
+# The page, in a browser.
+
+def fill(page, text):
+    """Types a text in place of the source, key by key where it is short."""
+    page.value("byId('source').focus()")
+    page.select_all()
+    page.type(text)
+
+
+def write(page, source, given=''):
+    """Puts a source and an input into the page."""
+    page.value('editor.text = %s, input.value = %s, 0' % (browser.json.dumps(source), browser.json.dumps(given)))
+
+
+def run(page):
+    """Runs what stands in the page by the keys, and gives the output and the line below."""
+    page.press('Enter', CONTROL)
+    page.wait("!runButton.disabled")
+    return page.value("[output.textContent, ended.textContent]")
+
+
+def is_typed_and_run(page):
+    fill(page, COUNTS.replace('loop ', 'loop\n'))
+    expect('the source', 'class MAIN is\n   main is\n      loop\n         #OUT', page.value('editor.text.slice(0, 49)'))
+    expect('the output', ['1 2 3 ', 'Ended.'], run(page))
+
+
+def is_highlighted(page):
+    write(page, COUNTS)
+    coloured = '#lines :is(.of-structure, .of-statement, .of-repeat)'
+    expect('the words in colour', ['class', 'is', 'is', 'loop', 'end', 'end', 'end'],
+           page.value("[...document.querySelectorAll('%s')].map((one) => one.textContent)" % coloured))
+    expect('the lines that are shown', COUNTS,
+           page.value("[...byId('lines').children].map((one) => one.textContent).join('\\n')"))
+
+
+def gets_its_input(page):
+    write(page, COPY, 'one\ntwo é')
+    expect('the output', ['one\ntwo é', 'Ended.'], run(page))
+
+
+def is_refused(page):
+    write(page, REFUSED)
+    expect('the output', ['', ''], run(page))
+    marked = "[[...byId('lines').children].findIndex((one) => one.matches('.is-refused')), told.textContent]"
+    expect('the line that is marked', [2, 'Line 3: E06: unexpected token'], page.value(marked))
+    page.value("byId('source').focus()")
+    page.press('End', CONTROL)
+    page.type(' ')
+    expect('the line that is marked once something is typed', [-1, ''], page.value(marked))
+
+
+def has_a_fault(page):
+    write(page, FAULTY)
+    expect('the output', ['a', 'Fault: division by zero.'], run(page))
+    expect('the note', ['fault: division by zero'],
+           page.value("[...document.querySelectorAll('#lines .is-refused')].map((one) => one.dataset.note)"))
+
+
+def ends_by_itself(page):
+    write(page, ENDLESS)
+    expect('the output', ['begun', 'Stopped: it was running for 10 seconds.'], run(page))
+
+
+def is_stopped(page):
+    write(page, ENDLESS)
+    page.press('Enter', CONTROL)
+    page.wait("output.textContent === 'begun'")
+    page.value('stopButton.click()')
+    page.wait("!runButton.disabled")
+    expect('the end', 'Stopped.', page.value('ended.textContent'))
+
+
+def puts_out_too_much(page):
+    write(page, 'class MAIN is main is loop #OUT + "abcdefgh"; end; end; end;')
+    expect('the output', [1 << 20, 'Stopped: it put out a million bytes.'],
+           page.value("busy(runHere).then(() => [output.textContent.length, ended.textContent])"))
+
+
+def draws_lives(page):
+    write(page, SUMS)
+    page.value("document.querySelector('details').open = true, byId('recorded').value = %s, byId('draw').click()"
+               % browser.json.dumps(SUMS_TRACE))
+    expect('the lanes', ['main', 'upto! 0', 'sum! 1'], page.value(LANES))
+    expect('the signs', ['start', 'yield', 'start', 'yield', 'resume', 'yield', 'resume', 'yield', 'resume', 'quit', 'abandon'],
+           page.value("[...document.querySelectorAll('.lanes .mark')].map((one) => /is-(\\w+)/.exec(one.className.baseVal)[1])"))
+
+
+def steps(page):
+    draws_lives(page)
+    words = "picture.words.textContent"
+    expect('the first event', 'Event 1 of 11: the call in line 7 starts upto! 0.', page.value(words))
+    expect('the lives', ['main waiting', 'upto! 0 running'], page.value(STATES))
+    page.value("document.querySelector('[data-part=forward]').click()")
+    expect('after a step', 'Event 2 of 11: upto! 0 yields to main, and is suspended.', page.value(words))
+    expect('the lives', ['main running', 'upto! 0 suspended'], page.value(STATES))
+    expect('the line that is marked', [6],
+           page.value("[...byId('lines').children].flatMap((one, at) => one.matches('.is-event') ? [at] : [])"))
+    page.value("document.querySelector('[data-part=last]').click()")
+    expect('the last event', 'Event 11 of 11: sum! 1 is abandoned with its loop.', page.value(words))
+    expect('the lives', ['main running'], page.value(STATES))
+    page.value("document.querySelector('[data-part=back]').click()")
+    expect('a step back', 'Event 10 of 11: upto! 0 ends, and its loop with it.', page.value(words))
+
+
+def draws_nested_lives(page):
+    page.value("location.hash = 'fringe'")
+    page.wait("picker.value === 'fringe'")
+    page.value('picture.go(40)')
+    around = '''[...document.querySelectorAll('.lane .around')].every((box) => {
+      const life = picture.lives.find((one) => one.number === Number(box.parentElement.dataset.instance));
+      const outer = document.querySelector(`.lane[data-instance="${life.inside.number}"] .around`);
+      const [a, b] = [box.getBoundingClientRect(), outer?.getBoundingClientRect()];
+      return !b || (a.top >= b.top && a.bottom <= b.bottom && a.left >= b.left && a.right <= b.right);
+    })'''
+    expect('whether each lane is drawn inside that of its caller', True, page.value(around))
+    expect('whether lanes are inside one another at all', True, page.value('picture.visible.some((life) => life.depth > 3)'))
+
+
+def traces_what_is_typed(page):
+    write(page, SUMS)
+    page.press('Enter', CONTROL | SHIFT)
+    page.wait('!runButton.disabled')
+    expect('the output', '1 3 ', page.value('output.textContent'))
+    expect('the lanes', ['main', 'upto! 0', 'sum! 1'], page.value(LANES))
+    expect('the events', 11, page.value('picture.events.length'))
+
+
+def stops_traces(page):
+    write(page, 'class MAIN is main is loop loop i ::= 1.upto!(9); end; end; end; end;')
+    page.value('busy(showIters)')
+    expect('the end', 'Stopped: the picture has its first 20000 events.', page.value('ended.textContent'))
+    page.value('picture.go(15000)')
+    expect('the cursor', 15000, page.value('picture.at'))
+
+
+def looks_right(page):
+    """On screens of several widths, in the light and in the dark, nothing sticks out and no letters are faint."""
+    draws_lives(page)
+    for width in (320, 390, 800, 1280):
+        page.size(width, 800, width < 500)
+        expect('what sticks out at a width of %d' % width, [], page.value(OUTSIDE))
+        expect('lanes at a width of %d' % width, 3, page.value(LANES + '.length'))
+    for is_dark in (False, True):
+        page.dark(is_dark)
+        expect('what is faint', [], page.value(FAINT))
+        light = page.value("getComputedStyle(document.body).backgroundColor.match(/[0-9]+/g).map(Number)[0]")
+        expect('whether the page is dark', is_dark, light < 128)
+    page.dark(False)
+    page.size(1280, 900)
+
+
+def needs_no_mouse(page):
+    """Each thing to use is come to by Tab, with a ring around it, and is used by keys."""
+    draws_lives(page)
+    page.value("document.activeElement.blur(), document.querySelector('h1').tabIndex = -1, document.querySelector('h1').focus()")
+    for wanted in STOPS:
+        page.press('Tab')
+        expect('what has the focus, and whether that is seen', [wanted, True], page.value(FOCUSED))
+        if wanted == 'forward':
+            page.press('Enter')
+        if wanted == 'slider':
+            page.press('ArrowRight', count=3)
+    expect('the event that the keys have come to', 4, page.value('picture.at'))
+    page.value("picker.focus()")
+    before = page.value('picker.value')
+    page.press('ArrowDown')
+    expect('whether another example is picked by keys', True, page.value('picker.value') != before)
+
+
+def runs_example(name):
+    """The try of an example in the page."""
+    def example(page):
+        page.value("pick('%s')" % name)
+        given = examples.bytes_of(name + '.in') or b''
+        expect('the input', given.decode(), page.value('input.value'))
+        wanted = examples.bytes_of(name + '.out').decode()
+        expect('the output', [wanted, 'Ended.'], page.value("busy(runHere).then(() => [output.textContent, ended.textContent])"))
+    return example
+
+
+def opens_as_a_file(page):
+    """The page without a server has the examples, their outputs, pictures of some, and draws traces."""
+    page.open('file://%s#fringe' % os.path.join(WEB, 'index.html'))
+    expect('the output', examples.bytes_of('fringe.out').decode(), page.value('output.textContent'))
+    expect('whether it has a picture', True, page.value('picture.events.length > 0'))
+    expect('whether there is nothing to run', True, page.value('!runButton.checkVisibility() && !traceButton.checkVisibility()'))
+    draws_lives(page)
+    steps(page)
+
+
+TRIES = [
+    ('a program that is typed runs', is_typed_and_run), ('a source is highlighted as it stands', is_highlighted),
+    ('a program reads its input', gets_its_input), ('a refusal is marked in its line', is_refused),
+    ('a fault is marked in its line', has_a_fault), ('a run ends by itself when its time is up', ends_by_itself),
+    ('a run is stopped', is_stopped), ('a run that puts out too much is ended', puts_out_too_much),
+    ('a trace that was recorded is drawn', draws_lives), ('the picture goes forward and back', steps),
+    ('lanes are drawn inside one another', draws_nested_lives),
+    ('the page looks right on each screen, in the light and in the dark', looks_right),
+    ('the page needs no mouse', needs_no_mouse),
+    *(('examples/%s.sa' % name, runs_example(name)) for name in examples.names()),
+    ('the page opens as a file', opens_as_a_file),
+]
+TRACED = [('what is typed is traced', traces_what_is_typed), ('a trace without end is cut', stops_traces)]
+
+
+def in_browser(page, name, try_it, folder):
+    """What is wrong by a try, or None. A picture of the page is kept where a folder is given."""
+    page.complaints.clear()
+    try:
+        try_it(page)
+        if folder:
+            with open(os.path.join(folder, name.replace('/', ' ') + '.png'), 'wb') as file:
+                file.write(page.picture())
+    except (Differs, browser.Failed) as error:
+        return str(error)
+    # A refusal is answered by a status that the browser takes for an error.
+    complaints = [text for text in page.complaints if '422' not in text]
+    return 'the browser complains: %s' % complaints if complaints else None
+
+
+def try_pages(address, told, chosen, folder):
+    """Tries the page in a browser, up to the try in which the browser itself fails."""
+    with browser.Browser() as page:
+        page.size(1280, 900)
+        page.open(address)
+        for name, try_it in chosen:
+            told.count('%s, in Chromium' % name, in_browser(page, name, try_it, folder))
+            if page.has_ended:
+                return told.leave_out('tries of the page, whose browser has failed', len(chosen) - chosen.index((name, try_it)) - 1)
+    return None
+
+
+def try_all(program, told, word='', folder=None):
+    """Tries what has a name that holds the word."""
+    tries = [*TRIES[:-1], *(TRACED if traces(program) else []), TRIES[-1]]
+    chosen = [one for one in tries if word in one[0]]
+    told.part('the page', len(chosen))
+    if word in 'hosts/web/examples.js':
+        told.count('hosts/web/examples.js', script_differs(program))
+    with served(program) as address:
+        try_server(address, told, word)
+        if not browser.found():
+            told.lacks('chromium', 'the page of hosts/web was not tried in a browser')
+        elif chosen:
+            try_pages(address, told, chosen, folder)
+
+
+def main():
+    words = argparse.ArgumentParser(description=__doc__, formatter_class=argparse.RawDescriptionHelpFormatter)
+    words.add_argument('program')
+    words.add_argument('--only', default='')
+    words.add_argument('--pictures')
+    given = words.parse_args()
+    told = report.Report()
+    if given.pictures:
+        os.makedirs(given.pictures, exist_ok=True)
+    try_all(os.path.abspath(given.program), told, given.only, given.pictures)
+    return told.close()
+
+
+if __name__ == '__main__':
+    sys.exit(main())

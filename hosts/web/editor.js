@@ -1,0 +1,99 @@
+// The editor: a text area whose text is seen through it, highlighted, in the lines below. Lines can be marked, with a note behind them.
+'use strict';
+
+const OPENS = /\b(?:is|then|else|loop|protect)\s*(?:--.*)?$/;
+const STEP = '   ';
+
+function spanOf(name, ...inside) {
+  const span = document.createElement('span');
+  span.className = name;
+  span.append(...inside);
+  return span;
+}
+
+// A line of a source, highlighted.
+function lineNode(text) {
+  const code = text.trimStart();
+  const pieces = piecesOfLine(code).map(([kind, piece]) => (kind ? spanOf(`of-${kind}`, piece) : piece));
+  return spanOf('line', text.slice(0, text.length - code.length), spanOf('code', ...pieces));
+}
+
+class Editor {
+  constructor(area, lines, changed) {
+    this.area = area;
+    this.lines = lines;
+    this.texts = [];
+    this.marks = new Map();
+    area.addEventListener('input', () => {
+      this.draw();
+      changed();
+    });
+    area.addEventListener('keydown', (event) => this.keepIndent(event));
+  }
+
+  get text() {
+    return this.area.value;
+  }
+
+  set text(text) {
+    this.area.value = text;
+    this.draw();
+    this.area.setSelectionRange(0, 0);
+    this.area.parentElement.parentElement.scrollTo(0, 0);
+  }
+
+  // Draws the lines that aren't as they were: those between the ones that stand unchanged in front and behind.
+  draw() {
+    this.clearMarks();
+    const [before, now] = [this.texts, this.area.value.split('\n')];
+    let front = 0;
+    while (front < Math.min(before.length, now.length) && before[front] === now[front]) front += 1;
+    let back = 0;
+    while (back < Math.min(before.length, now.length) - front && before.at(-1 - back) === now.at(-1 - back)) back += 1;
+    const old = [...this.lines.children].slice(front, before.length - back);
+    const next = this.lines.children[before.length - back] ?? null;
+    for (const node of old) node.remove();
+    for (const text of now.slice(front, now.length - back)) this.lines.insertBefore(lineNode(text), next);
+    this.texts = now;
+  }
+
+  // A new line begins where the one before it does, or a step further in where that opens a block.
+  keepIndent(event) {
+    if (event.key !== 'Enter' || event.isComposing || event.ctrlKey || event.metaKey) return;
+    event.preventDefault();
+    const front = this.text.slice(0, this.area.selectionStart).split('\n').at(-1);
+    const indent = /^ */.exec(front)[0] + (OPENS.test(front) ? STEP : '');
+    document.execCommand('insertText', false, `\n${indent}`);
+  }
+
+  clearMarks(kind) {
+    for (const [marked, node] of this.marks) {
+      if (!kind || marked === kind) {
+        node.classList.remove(marked);
+        delete node.dataset.note;
+        this.marks.delete(marked);
+      }
+    }
+    if (!this.marks.has('is-refused')) this.area.removeAttribute('aria-invalid');
+  }
+
+  // Marks a line, counted from 1, in place of the one that had this mark, and brings it into view.
+  mark(kind, line, note) {
+    this.clearMarks(kind);
+    const node = this.lines.children[line - 1];
+    if (!node) return;
+    node.classList.add(kind);
+    if (note) node.dataset.note = note;
+    if (kind === 'is-refused') this.area.setAttribute('aria-invalid', 'true');
+    this.marks.set(kind, node);
+    this.reveal(node);
+  }
+
+  reveal(node) {
+    const box = this.area.parentElement.parentElement;
+    const [top, height] = [node.offsetTop, node.offsetHeight];
+    if (top < box.scrollTop + height || top > box.scrollTop + box.clientHeight - 3 * height) {
+      box.scrollTo(0, Math.max(0, top - box.clientHeight / 2));
+    }
+  }
+}

@@ -1,0 +1,81 @@
+// Has sources compiled and run: by the server, and by a worker that is ended when its time is up.
+'use strict';
+
+const RUN_SECONDS = 10;           // that a run may take
+const MOST_OUTPUT = 1 << 20;      // bytes that it may put out
+const SHOWN_EVERY = 50;           // milliseconds from one look at the output to the next
+
+// What the number of a fault says, as the table of docs/LANGUAGE.md has it.
+const FAULTS = ['', 'overflow', 'division by zero', 'void', 'index', 'no branch', 'no return', 'assert', 'uncaught', 'no room',
+  'too deep', 'frames'];
+
+function post(path, what) {
+  return fetch(path, {method: 'POST', headers: {'Content-Type': 'application/json'}, body: JSON.stringify(what)});
+}
+
+// The module of a source, or the lines that refuse it.
+async function compile(source) {
+  const answer = await post('build', {source});
+  if (!answer.ok) return {lines: await answer.text()};
+  return {module: await WebAssembly.compile(await answer.arrayBuffer())};
+}
+
+// What the program leaves in a run beside the server, with its trace or without it.
+async function runThere(source, input, isTraced) {
+  const answer = await post(isTraced ? 'trace' : 'run', {source, input});
+  if (!answer.ok) throw new Error(await answer.text());
+  return answer.json();
+}
+
+// A run of a module with an input. `show` is given the output piece by piece; `ended` is what the run has come to: a status or a
+// cause. `stop` ends it.
+class Run {
+  constructor(module, input, show) {
+    this.output = new Uint8Array(new SharedArrayBuffer(MOST_OUTPUT));
+    this.counts = new Int32Array(new SharedArrayBuffer(4));
+    this.shown = 0;
+    this.show = show;
+    this.decoder = new TextDecoder();
+    this.worker = new Worker('worker.js');
+    this.ended = new Promise((resolve) => {
+      this.resolve = resolve;
+    });
+    this.worker.onmessage = ({data}) => this.end(data);
+    this.worker.onerror = (error) => this.end({cause: `trap: ${error.message}`});
+    this.clock = setTimeout(() => this.end({cause: 'time'}), RUN_SECONDS * 1000);
+    this.looks = setInterval(() => this.look(), SHOWN_EVERY);
+    this.worker.postMessage({module, input: new TextEncoder().encode(input), output: this.output, counts: this.counts});
+  }
+
+  look(isLast) {
+    const count = Atomics.load(this.counts, 0);
+    // The decoder doesn't take memory that is shared.
+    const text = this.decoder.decode(this.output.slice(this.shown, count), {stream: !isLast});
+    this.shown = count;
+    if (text) this.show(text);
+  }
+
+  end(how) {
+    this.worker.terminate();
+    clearTimeout(this.clock);
+    clearInterval(this.looks);
+    this.look(true);
+    this.resolve(how);
+  }
+
+  stop() {
+    this.end({cause: 'stopped'});
+  }
+}
+
+// What a run has come to, in words.
+function wordsOfEnd({status, cause}) {
+  if (cause === undefined) return status === 0 ? 'Ended.' : `Ended with status ${status}.`;
+  if (cause === 'time') return `Stopped: it was running for ${RUN_SECONDS} seconds.`;
+  if (cause === 'stopped') return 'Stopped.';
+  if (cause === 'output') return 'Stopped: it put out a million bytes.';
+  if (cause === 'deep') return 'Stopped: its calls went deeper than the stack of the browser.';
+  if (cause === 'memory') return 'The browser has no memory for it.';
+  const [word, code] = cause.split(' ');
+  return word === 'stop' ? `Fault: ${FAULTS[code] ?? code}.` : `The engine ended it: ${cause}.`;
+}
