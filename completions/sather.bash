@@ -3,7 +3,7 @@ _sather() {
   local word=${COMP_WORDS[COMP_CWORD]} before=${COMP_WORDS[COMP_CWORD - 1]} options='' endings='*.sa'
   COMPREPLY=()
   if [ "$COMP_CWORD" -eq 1 ]; then
-    mapfile -t COMPREPLY < <(compgen -W 'run build check exec gen selftest' -- "$word")
+    mapfile -t COMPREPLY < <(compgen -W 'run build check exec gen selftest listing assemble' -- "$word")
     return
   fi
   case ${COMP_WORDS[1]} in
@@ -11,6 +11,8 @@ _sather() {
     build) options='--room --contracts -o' ;;
     check) options='--contracts' ;;
     exec) options='--fuel --stats' endings='*.wasm' ;;
+    listing) endings='*.wasm' ;;
+    assemble) options='-o' endings='*' ;;
     *) return ;;
   esac
   case $before in

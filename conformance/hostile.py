@@ -29,7 +29,7 @@ FAULT = b'class MAIN is main is #OUT + "a"; #OUT + 1 / 0; end; end;'
 SOURCES = {'f.sa': HELLO, 'unknown.sa': UNKNOWN, 'endless.sa': ENDLESS, 'long.sa': LONG, 'asks.sa': ASKS, 'fault.sa': FAULT}
 LONG_OUTPUT = b'0123456\n' * 10_000
 
-USAGE = Left(lines=b'usage: sather run, build, check, exec, gen or selftest\n', status=124)
+USAGE = Left(lines=b'usage: sather run, build, check, exec, gen, selftest, listing or assemble\n', status=124)
 STORE_FAULT = Left(lines=b'store fault\n', status=123)
 INPUT_FAULT = Left(b'q', b'input fault\n', 123)
 OUTPUT_FAULT = Left(lines=b'output fault\n', status=123)

@@ -62,7 +62,7 @@ def options_differ(program, command):
     taken = []
     with report.folder_with({'f.sa': HELLO}) as folder:
         for option, value in VALUES.items():
-            needed = ['-o', 'out'] if command == 'build' and option != '-o' else []
+            needed = ['-o', 'out'] if command in ('build', 'assemble') and option != '-o' else []
             if report.run([program, command, option, *value, *needed, *own], folder).status != USAGE:
                 taken.append(option)
     given = synopsis()[command]

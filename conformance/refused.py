@@ -59,6 +59,28 @@ GROWS = binary.PREAMBLE + b''.join((
     binary.section(7, binary.vector([binary.counted(b'main') + b'\0\0'])),
     binary.section(10, binary.vector([binary.counted(b'\0' + binary.i32_const(3) + b'\x40\0' + b'\x0b')]))))
 
+LISTING = b"""type i32 -> i32
+import 656e76 707574 func 0
+func 0 i64 i32
+block i32
+local.get 0
+br_table 0 0
+end
+if
+i64.const 7
+local.set 1
+else
+nop
+end
+end
+table 1
+memory 1 1
+global i32 var i32 0
+export 6d61696e func 1
+elem 0 i32 0 1
+data 0 i32 8 6f6b
+"""
+
 
 class Command:
     """A command: its name, its words, the files where it runs, its input, and the file that it may write."""
@@ -94,6 +116,10 @@ def commands(program):
     yield Command('exec of no module', 'exec m', {'m': module[:-1]})
     yield Command('gen', 'gen 100')
     yield Command('selftest', 'selftest 10')
+    yield Command('listing', 'listing m', {'m': module})
+    yield Command('listing of no module', 'listing m', {'m': module[:-1]})
+    yield Command('assemble', 'assemble -o m l', {'l': LISTING}, writes='m')
+    yield Command('assemble of no listing', 'assemble -o m l', {'l': LISTING[:-5]}, writes='m')
     yield Command('no command', 'run --fuel f.sa')
 
 

@@ -16,8 +16,11 @@ ITER = b'class MAIN is main is loop #OUT + 1.upto!(3); end; end; end;'
 FAULT = b'class MAIN is main is #OUT + "a";\n#OUT + 1 / 0; end; end;'
 COPY = b'class MAIN is main is loop b ::= #IN.get_byte; while!(b >= 0); #OUT + b.char; end; end; end;'
 UNKNOWN = b'class MAIN is\nmain is x ::= y; end; end;'
-SOURCES = {'f.sa': HELLO, 'sum.sa': SUM, 'unknown.sa': UNKNOWN, 'iter.sa': ITER, 'fault.sa': FAULT, 'copy.sa': COPY}
-USAGE = b'usage: sather run, build, check, exec, gen or selftest\n'
+LISTING = b'type ->\nfunc 0\nend\nexport 6d61696e func 0\n'
+MAIN = bytes.fromhex('0061736d01000000 010401600000 03020100 070801046d61696e0000 0a040102000b')
+SOURCES = {'f.sa': HELLO, 'sum.sa': SUM, 'unknown.sa': UNKNOWN, 'iter.sa': ITER, 'fault.sa': FAULT, 'copy.sa': COPY,
+           'main.txt': LISTING}
+USAGE = b'usage: sather run, build, check, exec, gen, selftest, listing or assemble\n'
 REFUSED = Left(lines=b'unknown.sa:2: E30: unknown name\n', status=120)
 STORE_FAULT = Left(lines=b'store fault\n', status=123)
 OUTPUT_FAULT = Left(lines=b'output fault\n', status=123)
@@ -74,6 +77,19 @@ class Shell:
         yield 'a module that can\'t be written is a store fault', full, STORE_FAULT
         yield 'a text is no module', self.run('exec', 'f.sa'), Left(lines=b'f.sa: malformed\n', status=126)
 
+    def listings(self):
+        """Modules that are listed, and listings that are made modules."""
+        yield 'a listing is made a module', self.run('assemble', '-o', 'main', 'main.txt'), Left()
+        with open(self.path('main'), 'rb') as file:
+            yield 'the module of a listing has its bytes', Left(file.read()), Left(MAIN)
+        yield 'the module has the listing', self.run('listing', 'main'), Left(LISTING)
+        yield 'a text is no listing', self.run('assemble', '-o', 'n', 'f.sa'), Left(lines=b'f.sa:1: no listing\n', status=126)
+        with open(self.path('large'), 'wb') as file:
+            file.truncate(67_108_865)
+        yield 'a file that is too large is no module', self.run('listing', 'large'), Left(lines=b'large: malformed\n', status=126)
+        left = self.run('assemble', '-o', 'n', 'large')
+        yield 'a file that is too large is no listing by line 0', left, Left(lines=b'large:0: no listing\n', status=126)
+
     def streams(self):
         """Streams that are files, full or closed."""
         with open(self.path('copy.sa'), 'rb') as given:
@@ -89,7 +105,7 @@ def try_all(program, told, word=''):
     """Tries what has a name that holds the word."""
     with report.folder_with(SOURCES) as folder:
         shell = Shell(program, folder)
-        parts = (shell.programs, shell.files, shell.modules, shell.streams)
+        parts = (shell.programs, shell.files, shell.modules, shell.listings, shell.streams)
         chosen = [(name, report.difference(wanted, left)) for part in parts for name, left, wanted in part() if word in name]
     told.part('command lines', len(chosen))
     for name, wrong in chosen:

@@ -15,6 +15,7 @@ import sys
 
 import binary
 import deep
+import listings
 import refused
 import report
 from refused import Command
@@ -66,6 +67,9 @@ def deepest(word):
     for name, module, left in deep.modules():
         if word in name:
             yield Command('a module: ' + name, 'exec m', {'m': module}), left
+            listing = listings.listing_of(module)
+            yield Command('a listing: ' + name, 'listing m', {'m': module}), Left(listing)
+            yield Command('a module of a listing: ' + name, 'assemble -o n l', {'l': listing}), Left()
 
 
 def tried_with_stack(program, task, stack=STACK):

@@ -95,7 +95,7 @@ ends_earlier a b c cause.StoreFault less end = Rose-earlier a b c less end
 ends_earlier a b c cause.NoMemory less end = tt
 ends_earlier a b c _ less end = absurd end
 
-abbrev part_of : Option Files → Option Files → ℕ → ℕ → Part Files
+abbrev pub part_of : Option Files → Option Files → ℕ → ℕ → Part Files
 part_of before after faults_before faults_after = record { before = before; after = after; faults_before = faults_before; faults_after = faults_after }
 
 -- what was written, seen from earlier on, and reported by this outcome

@@ -1,3 +1,4 @@
 pub mod EndLemmas
+pub mod ListingLemmas
 pub mod OutputLemmas
 pub mod RunLemmas

@@ -6,13 +6,15 @@ use Rattle.sa_outside.specs.Files.{Files, Lacks}
 use Rattle.sa_outside.specs.Input.{Input}
 use Rattle.sa_read.specs.Read.{HasFile, HasLonger}
 use Rattle.sa_statement.specs.Runnable.{SpellsRunnable}
-use Rattle.sa_words.specs.Line.{Build, Check, Exec, Gen, Line, Run, Selftest}
+use Rattle.sa_words.specs.Line.{Assemble, Build, Check, Exec, Gen, Line, Listing, Run, Selftest}
 use Rattle.sa_drive.specs.Ends.{IsOfModule, IsPrinted, IsWritten}
 use Rattle.sa_drive.specs.Files.{ComesOfFiles, ComesOfGenerated, IsTakenGenerated, IsTakenProgram}
 use Rattle.sa_drive.specs.Lines.{selftest_line}
+use Rattle.sa_drive.specs.Listings.{Assembles, ListsModule}
 use Rattle.sa_drive.specs.Runs.{Ran, RanBuilt}
 use Rattle.sa_drive.specs.Seen.{Failed, IsKept, Outside, Part}
 use Rattle.sa_drive.specs.declared.cause.Cause.{Cause}
+use Rattle.sa_drive.specs.declared.assemble.TheConstants.{MOST_LISTING_BYTES}
 use Rattle.sa_drive.specs.declared.cause.Cause.TheVariants as cause
 use Rattle.sa_drive.specs.declared.outcome.Outcome.{Outcome}
 
@@ -71,6 +73,26 @@ IsExecuted store input out fuel file outcome =
     (IsUnread store file outcome.cause × HasNoModule outcome × IsKept input × IsKept out)
     ⊎ (IsModuleIn store file outcome.«module».items × Ran input out fuel IsSame outcome)
 
+-- the listing of the module in this file was put on out, or there is none
+abbrev pub IsListed : Part Files → Part (List ℕ) → List ℕ → Outcome → Type 0
+IsListed store out file outcome =
+    (IsUnread store file outcome.cause × HasNoModule outcome × IsKept out)
+    ⊎ ((bytes : List ℕ) × IsModuleIn store file bytes × HasNoModule outcome × ListsModule out bytes outcome.cause)
+
+-- why no listing was read from its file
+abbrev pub IsTextUnread : Part Files → List ℕ → Cause → Type 0
+IsTextUnread store file cause.StoreFault = Failed store ⊎ Lacks store.before file
+IsTextUnread store file (cause.NotListing line) = (line ≡ 0) × (front : List ℕ) × HasLonger store.before file MOST_LISTING_BYTES front
+IsTextUnread store file cause.NoMemory = ⊤
+IsTextUnread store file _ = ⊥
+
+-- the module of the listing in this file was written under this name, or there is none, and nothing is written
+abbrev pub IsAssembled : Part Files → List ℕ → List ℕ → Outcome → Type 0
+IsAssembled store name file outcome =
+    (IsTextUnread store file outcome.cause × HasNoModule outcome × IsKept store)
+    ⊎ ((text : List ℕ) × HasFile store.before file text × (length text ≤ MOST_LISTING_BYTES)
+    × Assembles store name text outcome.«module».items outcome.cause)
+
 -- the generated program was printed
 abbrev pub IsGenerated : Part (List ℕ) → ℕ → Outcome → Type 0
 IsGenerated out classes outcome = HasNoModule outcome × IsPrinted out (generated classes) outcome.cause
@@ -113,6 +135,8 @@ Does outside (Check contracts names) outcome = IsChecked outside.store outside.o
 Does outside (Exec fuel stats file) outcome = IsExecuted outside.store outside.input outside.out fuel file outcome
 Does outside (Gen classes) outcome = IsGenerated outside.out classes outcome
 Does outside (Selftest classes) outcome = IsTested outside.out classes outcome
+Does outside (Listing file) outcome = IsListed outside.store outside.out file outcome
+Does outside (Assemble out file) outcome = IsAssembled outside.store out file outcome
 
 -- nothing was done, for this cause
 pub record DoesNothing (outside : Outside) (outcome : Outcome) (ends : Cause) : Type 0 where
@@ -127,9 +151,11 @@ abbrev pub Obeys : Outside → Option Line → Outcome → Type 0
 Obeys outside None outcome = DoesNothing outside outcome cause.Usage ⊎ DoesNothing outside outcome cause.NoMemory
 Obeys outside (Some line) outcome = DoesNothing outside outcome cause.NoMemory ⊎ Does outside line outcome
 
--- the file whose module the command runs, and nothing for another command
+-- the file of the module or the listing that the command reads, and nothing for another command
 abbrev pub module_file : Option Line → List ℕ
 module_file (Some (Exec fuel stats file)) = file
+module_file (Some (Listing file)) = file
+module_file (Some (Assemble out file)) = file
 module_file _ = []
 
 -- the command asks for the statistics
@@ -146,7 +172,7 @@ has_steps (cause.Stopped code site) = true
 has_steps (cause.Spent steps) = true
 has_steps _ = false
 
--- the lines of the outcome name the file of `exec`, and show the steps exactly where they are asked for and may be shown
+-- the lines of the outcome name the file of the module or the listing, and show the steps exactly where they are asked for and may be shown
 pub record IsTellable (line : Option Line) (outcome : Outcome) : Type 0 where
   pub file : outcome.cause ≢ cause.NoMemory → outcome.file.now ≡ module_file line
   pub steps : is_some outcome.steps ≡ (asks_stats line && has_steps outcome.cause)
@@ -167,10 +193,12 @@ ReadsNone _ = ⊥
 -- the command writes no file
 abbrev pub WritesNone : Option Line → Type 0
 WritesNone (Some (Build room contracts out names)) = ⊥
+WritesNone (Some (Assemble out file)) = ⊥
 WritesNone _ = ⊤
 
 -- the command puts nothing on out
 abbrev pub PrintsNone : Option Line → Type 0
 PrintsNone None = ⊤
 PrintsNone (Some (Build room contracts out names)) = ⊤
+PrintsNone (Some (Assemble out file)) = ⊤
 PrintsNone _ = ⊥

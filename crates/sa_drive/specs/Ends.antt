@@ -46,6 +46,7 @@ ComesBeforeOutput cause.Malformed = ⊤
 ComesBeforeOutput (cause.Invalid func) = ⊤
 ComesBeforeOutput (cause.Unlinked import) = ⊤
 ComesBeforeOutput cause.Segment = ⊤
+ComesBeforeOutput (cause.NotListing line) = ⊤
 ComesBeforeOutput _ = ⊥
 
 -- the cause of an answer of a module that was run with this fuel

@@ -3,6 +3,7 @@ pub mod Built
 pub mod Ends
 pub mod Files
 pub mod Lines
+pub mod Listings
 pub mod Report
 pub mod Runs
 pub mod Seen

@@ -39,7 +39,7 @@ pub fn build<'a, S: WriteFiles>(alloc: Global, line: &Build<'a>, store: &mut S) 
 }
 
 /// The cause after the module was written, or wasn't.
-fn written<S: WriteFiles>(store: &mut S, out: &str, module: &[u8]) -> Cause
+pub fn written<S: WriteFiles>(store: &mut S, out: &str, module: &[u8]) -> Cause
     ensures written { IsWritten (part S.files S.faults store.old store.new) out.now «module».now result }
     ensures count { S.faults store.old ≤ S.faults store.new }
 {

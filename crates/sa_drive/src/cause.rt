@@ -53,7 +53,7 @@ pub struct Exit {
     /// The status that the process ends with.
     pub status: u8,
     pub cause: Cause,
-    /// The bytes of the module that was encoded or read.
+    /// The bytes of the module that was encoded, or that was read to be run.
     pub module: Items<u8>,
 }
 

@@ -22,7 +22,7 @@ use std::alloc::Global;
 use wa_run::{Answer, run_bytes};
 
 /// How many bytes a module's file has at most.
-const MOST_MODULE_BYTES: usize = 67_108_864;
+pub const MOST_MODULE_BYTES: usize = 67_108_864;
 
 /// How the run of a module ended.
 #[derive(Clone, Copy)]
@@ -101,9 +101,10 @@ pub fn exec<'a, S: ReadFiles, I: Source, O: Sink>(
     }
 }
 
-/// The outcome where no module was read.
-fn without_file<'a>(alloc: Global, file: &'a str, cause: Cause) -> Outcome<'a>
+/// The outcome of a command that was to read this file, where there is no module to hand out.
+pub fn without_file<'a>(alloc: Global, file: &'a str, cause: Cause) -> Outcome<'a>
     ensures cause { result.cause ≡ cause }
+    ensures done { result.done ≡ 0 }
     ensures file { result.file.now ≡ file.entry.now }
     ensures bytes { result.«module».items ≡ [] }
     ensures steps { result.steps ≡ None }

@@ -2,12 +2,14 @@
 #![tactic(auto)]
 
 mod accepted;
+mod assemble;
 mod build;
 mod cause;
 mod check;
 mod compile;
 mod exec;
 mod lines;
+mod listing;
 mod module;
 mod outcome;
 mod place;

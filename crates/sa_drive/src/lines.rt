@@ -54,7 +54,7 @@ fn line(alloc: Global, sources: &Sources, file: &str, cause: &Cause) -> Result<V
         Cause::OutFault => Vec::from_slice(alloc, b"output fault\n"),
         Cause::Usage => Vec::from_slice(
             alloc,
-            b"usage: sather run, build, check, exec, gen or selftest\n",
+            b"usage: sather run, build, check, exec, gen, selftest, listing or assemble\n",
         ),
         Cause::Malformed => about_file(alloc, file, "malformed", ""),
         Cause::Invalid(_) => about_file(alloc, file, "invalid", ""),

@@ -14,9 +14,9 @@ pub struct Outcome<'a> {
     pub done: u8,
     /// The texts that the cause's position is in.
     pub sources: Sources,
-    /// The name of the module's file, where the command reads one.
+    /// The name of the module's or the listing's file, where the command reads one.
     pub file: &'a str,
-    /// The bytes of the module that was encoded or read.
+    /// The bytes of the module that was encoded, or that was read to be run.
     pub module: Vec<u8>,
     /// How many steps the machine made, where they are to be shown.
     pub steps: Option<u64>,

@@ -11,11 +11,13 @@ ghost use Rattle.sa_drive.specs.Report.{IsExitOf};
 ghost use Rattle.sa_drive.specs.Seen.{outside, part};
 ghost use Rattle.sa_drive.specs.declared.outcome.Outcome.{Outcome as Outcomes};
 
+use crate::assemble::assemble;
 use crate::build::build;
 use crate::cause::{Cause, Exit};
 use crate::check::check;
 use crate::compile::no_sources;
 use crate::exec::exec;
+use crate::listing::listing;
 use crate::outcome::Outcome;
 use crate::print::print_generated;
 use crate::report::report;
@@ -47,7 +49,8 @@ pub fn sather<S: WriteFiles, I: Source, O: Sink, E: Sink>(
     ensures input { RunsNone (line_in (map string_bytes words.now)) → input.new ≡ input.old }
     ensures done { RunsNone (line_in (map string_bytes words.now)) → result.cause ≡ Cause.Done → result.status ≡ 0 }
 
-    // `build` alone writes to the store, and no other part of the outside is touched by a command that has nothing to do with it.
+    // `build` and `assemble` alone write to the store, and no other part of the outside is touched by a command that has
+    // nothing to do with it.
     ensures files { WritesNone (line_in (map string_bytes words.now)) → S.files store.new ≡ S.files store.old }
     ensures store { ReadsNone (line_in (map string_bytes words.now)) → store.new ≡ store.old }
     ensures silent { PrintsNone (line_in (map string_bytes words.now)) → out.new ≡ out.old }
@@ -126,6 +129,8 @@ fn do_command<'a, S: WriteFiles, I: Source, O: Sink>(
         Command::Exec(line) => exec(alloc, &line, store, input, out),
         Command::Gen(classes) => print_generated(alloc, classes, out),
         Command::Selftest(classes) => selftest(alloc, classes, out),
+        Command::Listing(line) => listing(alloc, &line, store, out),
+        Command::Assemble(line) => assemble(alloc, &line, store),
     }
 }
 

@@ -21,6 +21,8 @@ pub data Line : Type 0 where
   Exec : (fuel : ℕ) → (stats : Bool) → (file : Text) → Line
   Gen : (classes : ℕ) → Line
   Selftest : (classes : ℕ) → Line
+  Listing : (file : Text) → Line
+  Assemble : (out : Text) → (file : Text) → Line
 
 -- what a command says
 abbrev pub line_of : Command → Line
@@ -30,6 +32,8 @@ line_of (command.Check check) = Check check.contracts (map (λ file. file.now) c
 line_of (command.Exec exec) = Exec exec.fuel exec.stats exec.«module».now
 line_of (command.Gen classes) = Gen classes
 line_of (command.Selftest classes) = Selftest classes
+line_of (command.Listing listing) = Listing listing.«module».now
+line_of (command.Assemble assemble) = Assemble assemble.out.now assemble.file.now
 
 -- the fuel, which has no limit but that of its type, and else that limit
 abbrev pub fuel_in : List Row → Option ℕ
@@ -72,6 +76,13 @@ exec_in rows = option_and_then (λ fuel. option_map (λ file. Exec fuel (stats_i
 abbrev pub classes_in : List Row → Option ℕ
 classes_in rows = option_and_then (number_in 1 500) (first_of (codes "classes") rows)
 
+abbrev pub listing_in : List Row → Option Line
+listing_in rows = option_map Listing (first_of (codes "module") rows)
+
+abbrev pub assemble_in : List Row → Option Line
+assemble_in rows =
+    option_and_then (λ out. option_map (λ file. Assemble out file) (first_of (codes "file") rows)) (first_of (codes "out") rows)
+
 -- the command of this name with these matches
 abbrev pub named_line : Text → List Row → Option Line
 named_line name rows =
@@ -80,7 +91,9 @@ named_line name rows =
     else (if bytes_eq name (codes "check") then Some (check_in rows)
     else (if bytes_eq name (codes "exec") then exec_in rows
     else (if bytes_eq name (codes "gen") then option_map Gen (classes_in rows)
-    else (if bytes_eq name (codes "selftest") then option_map Selftest (classes_in rows) else None)))))
+    else (if bytes_eq name (codes "selftest") then option_map Selftest (classes_in rows)
+    else (if bytes_eq name (codes "listing") then listing_in rows
+    else (if bytes_eq name (codes "assemble") then assemble_in rows else None)))))))
 
 -- there are at most 65,535 words, and `clap` finds no fault in them
 abbrev pub are_taken : List Text → Bool

@@ -23,6 +23,10 @@ files = record (new_rule (codes "file")) { action = Some Append; required = true
 abbrev pub module_file : Rule
 module_file = record (new_rule (codes "module")) { required = true }
 
+-- the file of a listing
+abbrev pub listing_file : Rule
+listing_file = record (new_rule (codes "file")) { required = true }
+
 -- how many classes a generated program has
 abbrev pub classes : Rule
 classes = record (new_rule (codes "classes")) { required = true }
@@ -49,6 +53,12 @@ gen = with_rule (new_app (codes "gen")) classes
 abbrev pub selftest : App
 selftest = with_rule (new_app (codes "selftest")) classes
 
+abbrev pub listing : App
+listing = with_rule (new_app (codes "listing")) module_file
+
+abbrev pub assemble : App
+assemble = with_rule (with_rule (new_app (codes "assemble")) out) listing_file
+
 -- a command without arguments of its own: a subcommand is needed, and `help` is none
 abbrev pub sather : App
 sather =
@@ -64,4 +74,5 @@ sather =
 abbrev pub program : App
 program =
     let compiling = with_subcommand (with_subcommand (with_subcommand sather run.top) build.top) check.top in
-    with_subcommand (with_subcommand (with_subcommand compiling exec.top) gen.top) selftest.top
+    let running = with_subcommand (with_subcommand (with_subcommand compiling exec.top) gen.top) selftest.top in
+    with_subcommand (with_subcommand running listing.top) assemble.top

@@ -11,6 +11,8 @@ pub enum Command<'a> {
     Gen(u32),
     /// The generated program of so many classes, from 1 to 500, is to be compiled and run.
     Selftest(u32),
+    Listing(Listing<'a>),
+    Assemble(Assemble<'a>),
 }
 
 /// What is done with the contracts of a program.
@@ -65,4 +67,20 @@ pub struct Exec<'a> {
     pub stats: bool,
     /// The name of the module's file.
     pub module: &'a str,
+}
+
+/// The listing of the module in the file is asked for.
+#[derive(Clone, Copy, Debug)]
+pub struct Listing<'a> {
+    /// The name of the module's file.
+    pub module: &'a str,
+}
+
+/// The module of the listing in the file is to be written.
+#[derive(Clone, Copy, Debug)]
+pub struct Assemble<'a> {
+    /// The name of the module's file.
+    pub out: &'a str,
+    /// The name of the listing's file.
+    pub file: &'a str,
 }

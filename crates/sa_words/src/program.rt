@@ -50,6 +50,14 @@ fn module_file<'a>(alloc: Global) -> Arg<'a>
     Arg::new(alloc, "module").required(true)
 }
 
+/// The file of a listing.
+fn listing_file<'a>(alloc: Global) -> Arg<'a>
+    ensures rule { rule_of result ≡ line.listing_file }
+    ensures own { result.global ≡ false }
+{
+    Arg::new(alloc, "file").required(true)
+}
+
 /// How many classes a generated program has.
 fn classes<'a>(alloc: Global) -> Arg<'a>
     ensures rule { rule_of result ≡ line.classes }
@@ -119,6 +127,22 @@ fn selftest<'a>(alloc: Global) -> Result<Command<'a>, AllocError>
     Command::new(alloc, "selftest").arg(classes(alloc))
 }
 
+/// `listing MODULE`
+fn listing<'a>(alloc: Global) -> Result<Command<'a>, AllocError>
+    ensures { IfOk result (λ c. (app_of c ≡ line.listing) × ((out-Command c).has_globals ≡ false)) }
+{
+    Command::new(alloc, "listing").arg(module_file(alloc))
+}
+
+/// `assemble -o OUT FILE`
+fn assemble<'a>(alloc: Global) -> Result<Command<'a>, AllocError>
+    ensures { IfOk result (λ c. (app_of c ≡ line.assemble) × ((out-Command c).has_globals ≡ false)) }
+{
+    Command::new(alloc, "assemble")
+        .arg(out(alloc))?
+        .arg(listing_file(alloc))
+}
+
 /// A command of the program's name without arguments of its own, of which a subcommand is needed.
 fn sather<'a>(alloc: Global) -> Command<'a>
     ensures app { app_of result ≡ line.sather }
@@ -140,5 +164,7 @@ pub(crate) fn program<'a>(alloc: Global) -> Result<Command<'a>, AllocError>
         .subcommand(check(alloc)?)?
         .subcommand(exec(alloc)?)?
         .subcommand(generate(alloc)?)?
-        .subcommand(selftest(alloc)?)
+        .subcommand(selftest(alloc)?)?
+        .subcommand(listing(alloc)?)?
+        .subcommand(assemble(alloc)?)
 }

@@ -2,10 +2,10 @@
 
 ghost use Rattle.std.specs.Prelude.{◌≡◌, IfOk, Some, map, option_map};
 ghost use Rattle.clap.specs.Words.{all_of, first_of, found_of, rows_of};
-ghost use Rattle.sa_words.specs.Line.{build_in, check_in, classes_in, contracts_in, exec_in, files_in, fuel_in};
-ghost use Rattle.sa_words.specs.Line.{is_given, line_of, named_line, room_in, run_in, stats_in, Gen, Selftest};
+ghost use Rattle.sa_words.specs.Line.{assemble_in, build_in, check_in, classes_in, contracts_in, exec_in, files_in, fuel_in};
+ghost use Rattle.sa_words.specs.Line.{is_given, line_of, listing_in, named_line, room_in, run_in, stats_in, Gen, Selftest};
 
-use crate::command::{Build, Check, Command, Contracts, Exec, Run};
+use crate::command::{Assemble, Build, Check, Command, Contracts, Exec, Listing, Run};
 use crate::number::{number_in, number_or};
 use clap::ArgMatches;
 use std::alloc::{AllocError, Global};
@@ -164,6 +164,21 @@ fn selftest<'a>(matches: &ArgMatches<'_>) -> Option<Command<'a>>
     Some(Command::Selftest(classes(matches)?))
 }
 
+fn listing<'a>(matches: &ArgMatches<'a>) -> Option<Command<'a>>
+    ensures { option_map line_of result ≡ listing_in (rows_of (found_of matches.now)) }
+{
+    let module = value(matches, "module")?;
+    Some(Command::Listing(Listing { module }))
+}
+
+fn assemble<'a>(matches: &ArgMatches<'a>) -> Option<Command<'a>>
+    ensures { option_map line_of result ≡ assemble_in (rows_of (found_of matches.now)) }
+{
+    let out = value(matches, "out")?;
+    let file = value(matches, "file")?;
+    Some(Command::Assemble(Assemble { out, file }))
+}
+
 /// The command of this name with these matches, or none where a number is out of its range.
 pub(crate) fn named<'a>(
     alloc: Global,
@@ -179,6 +194,8 @@ pub(crate) fn named<'a>(
         "exec" => Ok(exec(matches)),
         "gen" => Ok(generate(matches)),
         "selftest" => Ok(selftest(matches)),
+        "listing" => Ok(listing(matches)),
+        "assemble" => Ok(assemble(matches)),
         _ => Ok(None),
     }
 }

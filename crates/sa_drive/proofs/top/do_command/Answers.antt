@@ -17,3 +17,9 @@ returns-in-Gen-clause-does g c = rw c.in-Gen.is c.print_generated.ensures.does
 
 pub returns-in-Selftest-clause-does : goal.returns-in-Selftest-clause-does
 returns-in-Selftest-clause-does g c = rw c.in-Selftest.is c.selftest.ensures.does
+
+pub returns-in-Listing-clause-does : goal.returns-in-Listing-clause-does
+returns-in-Listing-clause-does g c = rw c.in-Listing.is c.listing.ensures.does
+
+pub returns-in-Assemble-clause-does : goal.returns-in-Assemble-clause-does
+returns-in-Assemble-clause-does g c = rw c.in-Assemble.is c.assemble.ensures.does

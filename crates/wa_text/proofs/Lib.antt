@@ -1,0 +1,16 @@
+pub mod Adding
+pub mod Digits
+pub mod Having
+pub mod Lines
+pub mod OneInstruction
+pub mod OneItem
+pub mod OneModule
+pub mod OneParts
+pub mod Opcodes
+pub mod Pieces
+pub mod Productions
+pub mod Rows
+pub mod Spelled
+pub mod Splitting
+pub mod Tables
+pub mod Weights

@@ -1,0 +1,5 @@
+use Rattle.wa_text.proofs.Lines.{join}
+use Rattle.wa_text.proofs.reader.expression.expression.Goals as goal
+
+pub returns-clause-found : goal.returns-clause-found
+returns-clause-found c = join c.in_ok-body.ensures.found c.in_ok-end.ensures.found

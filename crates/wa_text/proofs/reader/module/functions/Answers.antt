@@ -1,0 +1,13 @@
+use Rattle.std.proofs.Common.{arith}
+use Rattle.wa_text.specs.Listing.{func}
+use Rattle.wa_text.proofs.Lines.{join-more}
+use Rattle.wa_text.proofs.reader.module.functions.Goals as goal
+
+pub loop-alloc-preserved : goal.loop-alloc-preserved
+loop-alloc-preserved c =
+    let pushed = c.in_ok-push.ensures.ok in
+    record {
+      forward = omega (arith, c.loop-alloc.invariant.forward, c.in_ok-func.ensures.ends.0);
+      within = c.in_ok-func.ensures.ends.1;
+      row = rw pushed (join-more func _ _ c.loop-alloc.invariant.row c.in_ok-func.ensures.found);
+    }

@@ -1,0 +1,10 @@
+use Rattle.std.proofs.Common.{refl}
+use Rattle.wa_text.specs.Words.{u32}
+use Rattle.wa_text.proofs.Adding.{Adds-each-called, Adds-then, Ok-line}
+use Rattle.wa_text.proofs.writer.instruction.br_table.Goals as goal
+
+pub returns : goal.returns
+returns c =
+    Ok-line _ _ _ _ _ _ _ c.in_ok-first.ensures
+    (Adds-then (Adds-each-called u32 _ _ _ _ _ refl (λ old shown new k. k) c.in_ok-each.ensures) c.in_ok-index.ensures)
+    c.end_line.ensures

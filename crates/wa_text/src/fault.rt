@@ -1,0 +1,84 @@
+//! Why a text isn't known to be a listing.
+
+ghost use Rattle.std.specs.Prelude.{◌≡◌};
+ghost use Rattle.wa_text.specs.declared.fault.LineFault.TheVariants as line;
+ghost use Rattle.wa_text.specs.declared.fault.TextFault.TheVariants as text;
+
+use std::alloc::{AllocError, AllocFailed};
+use thiserror::Error;
+
+/// Why a text isn't known to be a listing.
+#[derive(Clone, Copy, Debug, PartialEq, Eq, Hash, Error)]
+pub enum ListFault {
+    /// The text is no listing. The number is that of the first line, counted from 1, with which the lines up to it begin
+    /// none, and one more than there are line feeds where the text ends too early.
+    #[error("no listing, by line {0}")]
+    NotListing(u32),
+    /// Memory has run out.
+    #[error("out of memory")]
+    NoMemory,
+}
+
+/// Why no value is known to be read at a place of a text.
+#[derive(Clone, Copy, Debug, PartialEq, Eq, Hash, Error)]
+pub enum TextFault {
+    /// None stands there. The place, in bytes, is that of the first line with which this is clear.
+    #[error("no listing, by the line at byte {0}")]
+    Wrong(u32),
+    /// Memory has run out.
+    #[error("out of memory")]
+    NoMemory,
+}
+
+/// Why words aren't known to be those of a production.
+#[derive(Clone, Copy, Debug, PartialEq, Eq, Hash, Error)]
+pub enum LineFault {
+    /// They are others.
+    #[error("no line of a listing")]
+    Wrong,
+    /// Memory has run out.
+    #[error("out of memory")]
+    NoMemory,
+}
+
+impl LineFault {
+    /// The fault of the text, by the place of the line.
+    pub fn at(self, line: u32) -> TextFault {
+        match self {
+            LineFault::Wrong => TextFault::Wrong(line),
+            LineFault::NoMemory => TextFault::NoMemory,
+        }
+    }
+}
+
+impl From<AllocError> for TextFault {
+    ghost from_gives = { λ _ e. e ≡ text.NoMemory };
+
+    fn from(_: AllocError) -> TextFault {
+        TextFault::NoMemory
+    }
+}
+
+impl<T: Drop> From<AllocFailed<T>> for TextFault {
+    ghost from_gives = { λ _ e. e ≡ text.NoMemory };
+
+    fn from(_: AllocFailed<T>) -> TextFault {
+        TextFault::NoMemory
+    }
+}
+
+impl From<AllocError> for LineFault {
+    ghost from_gives = { λ _ e. e ≡ line.NoMemory };
+
+    fn from(_: AllocError) -> LineFault {
+        LineFault::NoMemory
+    }
+}
+
+impl<T: Drop> From<AllocFailed<T>> for LineFault {
+    ghost from_gives = { λ _ e. e ≡ line.NoMemory };
+
+    fn from(_: AllocFailed<T>) -> LineFault {
+        LineFault::NoMemory
+    }
+}

@@ -1,0 +1,135 @@
+//! The bodies of functions, and the instructions that hold others.
+
+ghost use Rattle.std.specs.Prelude.{◌<◌, ◌≤◌, length, IfOk};
+ghost use Rattle.wa_text.specs.Forms.{each};
+ghost use Rattle.wa_text.specs.Instructions.{else_end, expr, instr};
+ghost use Rattle.wa_text.specs.Places.{EndsIn, ReachesIn};
+ghost use Rattle.wa_text.specs.Reading.{Spelled, behind_first, first_line};
+ghost use Rattle.wa_text.specs.Words.{line};
+
+use crate::fault::TextFault;
+use crate::reader::instruction::{BlockKind, FirstLine, first_words};
+use crate::reader::line::{Listed, behind_line, word_line, words};
+use sqlite_items::Items;
+use std::alloc::Global;
+use wa_syntax::{Instr, ValTy};
+
+/// How many blocks may be open at a place of a function.
+const MAX_NESTING: u32 = 1000;
+
+/// The instructions of a function, and their end.
+pub fn expression(alloc: Global, text: &[u8], at: u32) -> Listed<Items<Instr>>
+    requires size { length text.now < u32.MAX }
+    requires place { at ≤ length text.now }
+    ensures ends { IfOk result (λ read. EndsIn text.now at read.1) }
+    ensures found { IfOk result (λ read. Spelled (expr read.0) text.now at read.1) }
+{
+    let (body, at) = sequence(alloc, text, at, MAX_NESTING)?;
+    let end = word_line(text, at, b"end")?;
+    Ok((body, end))
+}
+
+/// Whether a sequence of instructions stops at a place: at an `end` or an `else`.
+fn stops(text: &[u8], at: u32) -> bool
+    requires size { length text.now < u32.MAX }
+    requires place { at ≤ length text.now }
+{
+    behind_line(text, at, b"end").is_some() || behind_line(text, at, b"else").is_some()
+}
+
+/// Instructions up to an `end` or an `else` that is none of theirs. Up to `levels` blocks may be open among them.
+#[cycle(instructions)]
+fn sequence(alloc: Global, text: &[u8], at: u32, levels: u32) -> Listed<Items<Instr>>
+    requires size { length text.now < u32.MAX }
+    requires place { at ≤ length text.now }
+    ensures reaches { IfOk result (λ read. ReachesIn text.now at read.1) }
+    ensures found { IfOk result (λ read. Spelled (each (instr levels) read.0) text.now at read.1) }
+{
+    let mut instrs = Items::new(alloc);
+    let mut at = at;
+    while !stops(text, at) {
+        let (instr, next) = instruction(alloc, text, at, levels)?;
+        instrs.push(instr)?;
+        at = next;
+    }
+    Ok((instrs, at))
+}
+
+/// An instruction.
+#[cycle(instructions)]
+fn instruction(alloc: Global, text: &[u8], at: u32, levels: u32) -> Listed<Instr>
+    requires size { length text.now < u32.MAX }
+    requires place { at ≤ length text.now }
+    ensures ends { IfOk result (λ read. EndsIn text.now at read.1) }
+    ensures found { IfOk result (λ read. Spelled (instr levels read.0) text.now at read.1) }
+{
+    let (first, next) = first_line(alloc, text, at)?;
+    match first {
+        FirstLine::Whole(instr) => Ok((instr, next)),
+        FirstLine::Begin(kind, ty) => {
+            if levels == 0 {
+                return Err(TextFault::Wrong(at));
+            }
+            structured(alloc, kind, ty, text, next, levels - 1)
+        }
+    }
+}
+
+/// The first line of an instruction.
+fn first_line(alloc: Global, text: &[u8], at: u32) -> Listed<FirstLine>
+    requires size { length text.now < u32.MAX }
+    requires place { at ≤ length text.now }
+    ensures ends { IfOk result (λ read. EndsIn text.now at read.1) }
+    ensures found { IfOk result (λ read. Spelled (line (first_line read.0)) text.now at read.1) }
+{
+    let (words, end) = words(alloc, text, at)?;
+    match first_words(alloc, words.as_slice()) {
+        Ok(first) => Ok((first, end)),
+        Err(fault) => Err(fault.at(at)),
+    }
+}
+
+/// What follows the first line of a `block`, a `loop` or an `if`.
+#[cycle(instructions)]
+fn structured(
+    alloc: Global,
+    kind: BlockKind,
+    ty: Option<ValTy>,
+    text: &[u8],
+    at: u32,
+    levels: u32,
+) -> Listed<Instr>
+    requires size { length text.now < u32.MAX }
+    requires place { at ≤ length text.now }
+    ensures ends { IfOk result (λ read. EndsIn text.now at read.1) }
+    ensures found { IfOk result (λ read. Spelled (behind_first kind ty (each (instr levels)) read.0) text.now at read.1) }
+{
+    let (body, at) = sequence(alloc, text, at, levels)?;
+    match kind {
+        BlockKind::Block => Ok((Instr::Block(ty, body), word_line(text, at, b"end")?)),
+        BlockKind::Loop => Ok((Instr::Loop(ty, body), word_line(text, at, b"end")?)),
+        BlockKind::If => {
+            let (otherwise, end) = else_end(alloc, text, at, levels)?;
+            Ok((Instr::If(ty, body, otherwise), end))
+        }
+    }
+}
+
+/// The branch behind `else`, which stands exactly where the branch holds instructions, and the end of the `if`.
+#[cycle(instructions)]
+fn else_end(alloc: Global, text: &[u8], at: u32, levels: u32) -> Listed<Items<Instr>>
+    requires size { length text.now < u32.MAX }
+    requires place { at ≤ length text.now }
+    ensures ends { IfOk result (λ read. EndsIn text.now at read.1) }
+    ensures found { IfOk result (λ read. Spelled (else_end (each (instr levels)) read.0) text.now at read.1) }
+{
+    let Some(at) = behind_line(text, at, b"else") else {
+        return Ok((Items::new(alloc), word_line(text, at, b"end")?));
+    };
+    let (branch, at) = sequence(alloc, text, at, levels)?;
+    if branch.is_empty() {
+        return Err(TextFault::Wrong(at));
+    }
+    let end = word_line(text, at, b"end")?;
+    Ok((branch, end))
+}

@@ -1,0 +1,156 @@
+//! The lines of a text, and the items that are a line each.
+
+ghost use Rattle.std.specs.Prelude.{◌≡◌, ℕ, ◌<◌, ◌≤◌, List, [], ◌∷◌, ◌++◌, drop, length, ◌==◌, IfOk, IfSome};
+ghost use Rattle.std.specs.List.{slice_split};
+ghost use Rattle.wa_text.specs.Forms.{◌then◌, each, exactly};
+ghost use Rattle.wa_text.specs.Places.{EndsIn, ReachesIn};
+ghost use Rattle.wa_text.specs.Reading.{IsUnbroken, Spelled, texts, words_of};
+ghost use Rattle.wa_text.specs.Words.{line, word};
+ghost use Rattle.wa_text.specs.Words as form;
+
+use crate::fault::{LineFault, TextFault};
+use crate::reader::words::behind;
+use sqlite_items::Items;
+use std::alloc::{AllocError, Global};
+
+/// What is read at a place, with the place behind it, both at the beginning of a line.
+pub type Listed<T> = Result<(T, u32), TextFault>;
+
+/// The line that begins at a place, and the place behind its line feed. `None` comes where no line feed follows.
+fn line_at(text: &[u8], at: u32) -> Option<(&[u8], u32)>
+    requires size { length text.now < u32.MAX }
+    requires place { at ≤ length text.now }
+    ensures ends { IfSome result (λ read. EndsIn text.now at read.1) }
+    ensures found { IfSome result (λ read. drop at text.now ≡ read.0.now ++ 10 ∷ drop read.1 text.now) }
+    ensures unbroken { IfSome result (λ read. IsUnbroken read.0.now) }
+{
+    let rest = &text[at as usize..];
+    let len = rest.iter().position(|byte| *byte == b'\n')?;
+    Some((&rest[..len], at + len as u32 + 1))
+}
+
+/// The place behind a line, where it is this word alone.
+pub fn behind_line(text: &[u8], at: u32, word: &[u8]) -> Option<u32>
+    requires size { length text.now < u32.MAX }
+    requires place { at ≤ length text.now }
+    requires word { words_of word.now ≡ word.now ∷ [] }
+    ensures ends { IfSome result (EndsIn text.now at) }
+    ensures found { IfSome result (λ end. Spelled (form.line (form.word word.now)) text.now at end) }
+{
+    match line_at(text, at) {
+        Some((line, end)) if line == word => Some(end),
+        _ => None,
+    }
+}
+
+/// The place behind a line that can't be another than this word alone.
+pub fn word_line(text: &[u8], at: u32, word: &[u8]) -> Result<u32, TextFault>
+    requires size { length text.now < u32.MAX }
+    requires place { at ≤ length text.now }
+    requires word { words_of word.now ≡ word.now ∷ [] }
+    ensures ends { IfOk result (EndsIn text.now at) }
+    ensures found { IfOk result (λ end. Spelled (form.line (form.word word.now)) text.now at end) }
+{
+    behind_line(text, at, word).ok_or(TextFault::Wrong(at))
+}
+
+/// The words of a line.
+fn words_in(alloc: Global, line: &[u8]) -> Result<Vec<&[u8]>, AllocError>
+    ensures { IfOk result (λ words. texts words.items ≡ words_of line.now) }
+{
+    line.split(|byte| *byte == b' ').collect(alloc)
+}
+
+/// The words of the line at a place, and the place behind it.
+pub fn words(alloc: Global, text: &[u8], at: u32) -> Listed<Vec<&[u8]>>
+    requires size { length text.now < u32.MAX }
+    requires place { at ≤ length text.now }
+    ensures ends { IfOk result (λ read. EndsIn text.now at read.1) }
+    ensures found { IfOk result (λ read. Spelled (exactly (texts read.0.items ∷ [])) text.now at read.1) }
+{
+    match line_at(text, at) {
+        Some((line, end)) => Ok((words_in(alloc, line)?, end)),
+        None => Err(TextFault::Wrong(at)),
+    }
+}
+
+/// The first word of a line.
+fn first_word(line: &[u8]) -> &[u8] {
+    match line.iter().position(|byte| *byte == b' ') {
+        Some(end) => &line[..end],
+        None => line,
+    }
+}
+
+/// Whether the line at a place begins with this word.
+pub fn begins(text: &[u8], at: u32, word: &[u8]) -> bool
+    requires size { length text.now < u32.MAX }
+    requires place { at ≤ length text.now }
+{
+    match line_at(text, at) {
+        Some((line, _end)) => first_word(line) == word,
+        None => false,
+    }
+}
+
+/// An item that is a line: what the words behind its first stand for.
+pub trait LineForm {
+    /// What they stand for.
+    type Value: Drop;
+
+    /// Which words stand for a value.
+    ghost form: { Self.Value → List (List ℕ) → Type 0 };
+
+    /// Reads the words behind the first.
+    ///
+    /// `Wrong` comes where they stand for nothing, and `NoMemory` where memory runs out.
+    fn read(alloc: Global, words: &[&[u8]]) -> Result<Self::Value, LineFault>
+        ensures { IfOk result (λ value. form value (texts words.now)) };
+}
+
+/// The item of the words of a line.
+fn words_item<P: LineForm>(
+    alloc: Global,
+    words: &[&[u8]],
+    first: &[u8],
+) -> Result<P::Value, LineFault>
+    ensures { IfOk result (λ value. (word first.now then P.form value) (texts words.now)) }
+{
+    P::read(alloc, behind(words, first)?)
+}
+
+/// The item of a line that begins with a word.
+pub fn item<P: LineForm>(alloc: Global, text: &[u8], at: u32, first: &[u8]) -> Listed<P::Value>
+    requires size { length text.now < u32.MAX }
+    requires place { at ≤ length text.now }
+    ensures ends { IfOk result (λ read. EndsIn text.now at read.1) }
+    ensures found { IfOk result (λ read. Spelled (line (word first.now then P.form read.0)) text.now at read.1) }
+{
+    let (words, end) = words(alloc, text, at)?;
+    match words_item::<P>(alloc, words.as_slice(), first) {
+        Ok(value) => Ok((value, end)),
+        Err(fault) => Err(fault.at(at)),
+    }
+}
+
+/// The items of the lines that begin with a word, as far as these go.
+pub fn items<P: LineForm>(
+    alloc: Global,
+    text: &[u8],
+    at: u32,
+    first: &[u8],
+) -> Listed<Items<P::Value>>
+    requires size { length text.now < u32.MAX }
+    requires place { at ≤ length text.now }
+    ensures reaches { IfOk result (λ read. ReachesIn text.now at read.1) }
+    ensures found { IfOk result (λ read. Spelled (each (λ value. line (word first.now then P.form value)) read.0) text.now at read.1) }
+{
+    let mut items = Items::new(alloc);
+    let mut at = at;
+    while begins(text, at, first) {
+        let (item, end) = item::<P>(alloc, text, at, first)?;
+        items.push(item)?;
+        at = end;
+    }
+    Ok((items, at))
+}

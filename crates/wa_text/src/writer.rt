@@ -1,0 +1,9 @@
+//! A module into its listing.
+
+mod instruction;
+mod items;
+mod module;
+mod types;
+mod words;
+
+pub use module::write;
