@@ -1,55 +1,10 @@
-//! Which types a type is below. An abstract type alone is above a class type, and beside it bound types are above bound
-//! types.
+//! Which bound types a bound type is below.
 
 use indexmap::IndexMap;
-use sa_check_program::Program;
 use sa_subtypes::Edges;
-use sa_tree::{Mode, ModeTy, NoMemory, Ty, held};
+use sa_tree::{Mode, ModeTy, NoMemory, Ty};
 use sqlite_items::{Boxed, Items};
 use std::alloc::{AllocError, Global};
-
-/// By needed type, the numbers of the other abstract types that it is below, rising.
-pub(crate) fn class_types_above(
-    alloc: Global,
-    program: &Program<'_>,
-) -> Result<Vec<Items<u32>>, NoMemory> {
-    let uppers = abstract_types(alloc, program)?;
-    let mut above = Vec::new(alloc);
-    for ty in 0..program.count() {
-        let own = held(program.ty(ty))?;
-        above.push(uppers_of(alloc, program, uppers.as_slice(), own, Some(ty))?)?;
-    }
-    Ok(above)
-}
-
-/// The numbers of the abstract types, rising.
-pub(crate) fn abstract_types(alloc: Global, program: &Program<'_>) -> Result<Vec<u32>, NoMemory> {
-    let mut numbers = Vec::new(alloc);
-    for ty in 0..program.count() {
-        if program.is_abstract(ty) {
-            numbers.push(ty)?;
-        }
-    }
-    Ok(numbers)
-}
-
-/// Those of the types with these numbers that a type is below, but for its own number.
-pub(crate) fn uppers_of(
-    alloc: Global,
-    program: &Program<'_>,
-    uppers: &[u32],
-    ty: &Ty,
-    own: Option<u32>,
-) -> Result<Items<u32>, NoMemory> {
-    let mut above = Items::new(alloc);
-    for upper in uppers {
-        let upper_ty = held(program.ty(*upper))?;
-        if own != Some(*upper) && program.edges().is_sub(ty, upper_ty) {
-            above.push(*upper)?;
-        }
-    }
-    Ok(above)
-}
 
 /// A bound type with its number.
 #[derive(Clone, Copy)]

@@ -7,6 +7,7 @@ mod limits;
 mod sigs;
 mod types;
 mod typing;
+mod uppers;
 mod whole;
 
 pub use whole::check;

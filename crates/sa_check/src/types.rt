@@ -1,6 +1,7 @@
 //! What the typed tree says of each type.
 
-use crate::above::{Shapes, abstract_types, uppers_of};
+use crate::above::Shapes;
+use crate::uppers::types_above_all;
 use indexmap::IndexMap;
 use sa_check_program::Program;
 use sa_core::TypeInfo;
@@ -47,12 +48,11 @@ fn add_bound(
     bound: &IndexMap<Ty, ()>,
     infos: &mut Items<TypeInfo>,
 ) -> Result<(), NoMemory> {
-    let uppers = abstract_types(alloc, program)?;
+    let uppers = types_above_all(alloc, program)?;
     let mut number = program.count();
     for place in 0..bound.len() {
         let (ty, _) = held(bound.get_index(place))?;
-        let above = uppers_of(alloc, program, uppers.as_slice(), ty, None)?;
-        infos.push(bound_info(alloc, program, shapes, number, ty, above)?)?;
+        infos.push(bound_info(alloc, program, shapes, number, ty, uppers.as_slice())?)?;
         number = held(number.checked_add(1))?;
     }
     Ok(())
@@ -98,7 +98,7 @@ fn needed_info(
 ) -> Result<TypeInfo, NoMemory> {
     let ty = held(program.ty(number))?;
     let Some(class) = program.class(number) else {
-        return bound_info(alloc, program, shapes, number, ty, uppers);
+        return bound_info(alloc, program, shapes, number, ty, uppers.as_slice());
     };
     let attrs = attribute_types(alloc, program, number)?;
     Ok(TypeInfo {
@@ -134,10 +134,10 @@ fn bound_info(
     shapes: &Shapes<'_>,
     number: u32,
     ty: &Ty,
-    uppers: Items<u32>,
+    uppers: &[u32],
 ) -> Result<TypeInfo, NoMemory> {
     let mut above = shapes.above(alloc, program.edges(), number, ty)?;
-    above.extend_from_slice(uppers.as_slice())?;
+    above.extend_from_slice(uppers)?;
     above.sort_unstable();
     Ok(TypeInfo {
         ty: ty.copy(alloc)?,

@@ -1,10 +1,10 @@
 //! A program from its classes to its typed tree.
 
-use crate::above::class_types_above;
 use crate::feeds::line_feeds;
 use crate::sigs::sig_cores;
 use crate::types::type_infos;
 use crate::typing::{Typing, typed_bodies};
+use crate::uppers::class_types_above;
 use sa_check_conformance::{Implementation, Signatures, check_conformance};
 use sa_check_constants::ConstTable;
 use sa_check_program::Program;

@@ -3,6 +3,7 @@
 ghost use Rattle.std.specs.Prelude.{◌≡◌, IfOk};
 ghost use Rattle.sa_dispatch.specs.Implementations.{rows_of};
 
+use crate::packing::Packing;
 use crate::search::implemented;
 use crate::table::Rows;
 use sa_core::Core;
@@ -13,14 +14,17 @@ use std::alloc::Global;
 ///
 /// # Errors
 ///
-/// `NoMemory`, also where there are so many that 32 bits don't hold their number, or where the types of a signature don't
-/// rise, which the checker sees to.
+/// `NoMemory`, also where there are so many that 32 bits don't hold their number or that of the places, or where the types of a
+/// signature don't rise, which the checker sees to.
 pub fn rows(alloc: Global, core: &Core) -> Result<Rows, NoMemory>
     ensures { IfOk result (λ rows. rows ≡ rows_of core.now.sigs) }
 {
     let mut rows = Rows::new(alloc);
+    let mut packing = Packing::new(alloc);
     for signature in core.sigs.as_slice() {
-        rows.add(implemented(alloc, signature.impls.as_slice())?)?;
+        let types = implemented(alloc, signature.impls.as_slice())?;
+        let span = packing.part(types.as_slice())?;
+        rows.add(types, span)?;
     }
     Ok(rows)
 }

@@ -3,6 +3,7 @@
 #![tactic(auto)]
 
 mod build;
+mod packing;
 mod search;
 mod signature;
 mod table;

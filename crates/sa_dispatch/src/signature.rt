@@ -9,7 +9,8 @@ use crate::search::place_of;
 use sa_tree::NoMemory;
 use sqlite_items::Items;
 
-/// The part of the table of functions that a signature has: one place for each number from its least type to its greatest.
+/// The part of the table of functions that a signature has: one place for each number from its least type to its greatest. Those
+/// of its own types are places of no other signature.
 #[derive(Clone, Copy, Debug, PartialEq, Eq)]
 pub struct Span {
     /// The place in the table that the least type has.
@@ -43,25 +44,10 @@ impl Signature {
     }
 }
 
-/// The part of the table of the types of a signature, which rise, from the place `first` on: none where the numbers from the
-/// least to the greatest are more than four times as many as the types.
-pub fn span_of(types: &[u32], first: u32) -> Option<Span> {
-    let least = *types.first()?;
-    let length = types.last()?.checked_sub(least)?.checked_add(1)?;
-    if (length as usize).div_ceil(4) > types.len() {
-        return None;
-    }
-    Some(Span {
-        first,
-        least,
-        length,
-    })
-}
-
-/// The number of places of a span.
-pub fn places(span: Option<Span>) -> usize {
+/// The place behind those of a span.
+pub fn end_of(span: Option<Span>) -> u32 {
     match span {
-        Some(span) => span.length as usize,
+        Some(span) => span.first.saturating_add(span.length),
         None => 0,
     }
 }

@@ -5,7 +5,7 @@ ghost use Rattle.std.specs.Option.{SomeIff};
 ghost use Rattle.sa_dispatch.specs.Implementations.{first_of, row_of};
 ghost use Rattle.sa_dispatch.specs.Rising.{IsRising};
 
-use crate::signature::{Signature, Span, places, span_of, sum};
+use crate::signature::{Signature, Span, end_of, sum};
 use sa_tree::NoMemory;
 use sqlite_items::Items;
 use std::alloc::Global;
@@ -13,14 +13,14 @@ use std::marker::Model;
 
 /// The implementations of a program's signatures. Contracts see, for each signature, the types that implement it.
 ///
-/// A signature whose types lie close together has a part of the table of functions of its own, its span: one place for each
-/// number from its least type to its greatest. No call of these takes memory.
+/// A signature has a part of the table of functions, its span, but for one with few types that lie far apart. No call of these
+/// takes memory.
 #[derive(Drop)]
 pub struct Rows {
     signatures: Items<Signature>,
     /// How many implementations they have together.
     count: u32,
-    /// How many places their spans have together.
+    /// How many places the table has that their spans are parts of.
     size: u32,
 }
 
@@ -47,18 +47,16 @@ impl Rows {
         }
     }
 
-    /// One more signature, by the types that implement it.
+    /// One more signature, by the types that implement it and its part of the table.
     ///
     /// # Errors
     ///
-    /// `NoMemory`, also where 32 bits don't hold the number of signatures, of implementations or of places.
-    pub(crate) fn add(&mut self, types: Items<u32>) -> Result<(), NoMemory>
+    /// `NoMemory`, also where 32 bits don't hold the number of signatures or of implementations.
+    pub(crate) fn add(&mut self, types: Items<u32>, span: Option<Span>) -> Result<(), NoMemory>
         requires { IsRising types }
         ensures { OnOk result (self.new ≡ self.old ++ types ∷ []) }
     {
         let count = sum(self.count, types.len())?;
-        let span = span_of(types.as_slice(), self.size);
-        let size = sum(self.size, places(span))?;
         sum(1, self.signatures.len())?;
         let signature = Signature {
             types,
@@ -67,7 +65,7 @@ impl Rows {
         };
         self.signatures.push(signature)?;
         self.count = count;
-        self.size = size;
+        self.size = self.size.max(end_of(span));
         Ok(())
     }
 
@@ -88,7 +86,7 @@ impl Rows {
         span.first.checked_add(ty.checked_sub(span.least)?)
     }
 
-    /// How many places the spans of all signatures have together.
+    /// How many places the table has that the spans of all signatures are parts of.
     pub fn size(&self) -> u32 {
         self.size
     }

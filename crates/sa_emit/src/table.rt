@@ -38,8 +38,11 @@ pub(crate) fn elements(
         first: 0,
         funcs: Items::new(alloc),
     };
-    for sig in 0..program.rows.signatures() {
-        add_signature(alloc, &mut filled, program, sig)?;
+    let implementations = implementations(alloc, program)?;
+    for (place, func) in implementations.iter().enumerate() {
+        if let Some(func) = func {
+            filled.add(alloc, number(place)?, *func)?;
+        }
     }
     add_placed(alloc, &mut filled, places)?;
     filled.close(alloc)?;
@@ -51,20 +54,30 @@ pub(crate) fn elements(
     Ok(elems)
 }
 
-/// Adds the functions of a signature's implementations that have a place.
-fn add_signature(
-    alloc: Global,
-    filled: &mut Filled,
-    program: Program<'_>,
-    sig: u32,
-) -> Result<(), NoMemory> {
-    for ty in program.rows.types(sig) {
-        if let Some(place) = program.rows.place(sig, *ty) {
-            let row = held(program.rows.row(sig, *ty))?;
-            let body = program.body_of_row(row)?;
-            filled.add(alloc, place, function_of(body)?)?;
+/// By place, the function of the signature's implementation that has it.
+fn implementations(alloc: Global, program: Program<'_>) -> Result<Vec<Option<u32>>, NoMemory> {
+    let mut funcs = vec![in alloc; None; program.rows.size() as usize]?;
+    for sig in 0..program.rows.signatures() {
+        for ty in program.rows.types(sig) {
+            add_implementation(&mut funcs, program, sig, *ty)?;
         }
     }
+    Ok(funcs)
+}
+
+/// Puts the function of a signature's implementation for a type at its place, if it has one.
+fn add_implementation(
+    funcs: &mut Vec<Option<u32>>,
+    program: Program<'_>,
+    sig: u32,
+    ty: u32,
+) -> Result<(), NoMemory> {
+    let Some(place) = program.rows.place(sig, ty) else {
+        return Ok(());
+    };
+    let row = held(program.rows.row(sig, ty))?;
+    let func = function_of(program.body_of_row(row)?)?;
+    *held(funcs.get_mut(place as usize))? = Some(func);
     Ok(())
 }
 

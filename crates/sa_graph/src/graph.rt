@@ -1,7 +1,13 @@
 //! A graph as its edges, in the order in which they were given and by the node where they begin.
 
+ghost use Rattle.std.specs.Prelude.{◌≡◌, IfOk, length};
+ghost use Rattle.sa_graph.specs.Paths.{IsFirstOnCycle, ends_of, node_count, starts_of};
+ghost use Rattle.sa_graph.specs.Reaching.{AreReaching};
+
 use crate::components::Components;
 use crate::grouped::Grouped;
+use crate::list::word;
+use crate::reach::{Ways, edges_of_walk, ways_to};
 use crate::walk::leaving_order;
 use sa_tree::NoMemory;
 use std::alloc::Global;
@@ -26,7 +32,11 @@ impl Graph {
         count: usize,
         starts: Vec<u32>,
         ends: Vec<u32>,
-    ) -> Result<Graph, NoMemory> {
+    ) -> Result<Graph, NoMemory>
+        ensures count { IfOk result (λ graph. node_count graph ≡ count) }
+        ensures starts { IfOk result (λ graph. starts_of graph ≡ starts.items) }
+        ensures ends { IfOk result (λ graph. ends_of graph ≡ ends.items) }
+    {
         let by_start = Grouped::new(alloc, count, &starts)?;
         Ok(Graph {
             count,
@@ -37,13 +47,31 @@ impl Graph {
     }
 
     /// How many nodes there are.
-    pub fn count(&self) -> usize {
+    pub fn count(&self) -> usize
+        ensures { result ≡ node_count self.now }
+    {
         self.count
     }
 
     /// How many edges there are.
-    pub fn edges(&self) -> usize {
+    pub fn edges(&self) -> usize
+        ensures { result ≡ length (ends_of self.now) }
+    {
         self.ends.len()
+    }
+
+    /// The node at which each edge begins.
+    pub(crate) fn starts(&self) -> &[u32]
+        ensures { result.now ≡ starts_of self.now }
+    {
+        self.starts.as_slice()
+    }
+
+    /// The node at which each edge ends.
+    pub(crate) fn ends(&self) -> &[u32]
+        ensures { result.now ≡ ends_of self.now }
+    {
+        self.ends.as_slice()
     }
 
     /// The edges that begin at a node, in the order in which they were given.
@@ -73,6 +101,33 @@ impl Graph {
     /// `NoMemory`.
     pub fn cyclic(&self, alloc: Global, order: &[u32]) -> Result<Vec<bool>, NoMemory> {
         let components = Components::new(alloc, &self.turned(alloc)?, order)?;
+        self.cyclic_by(alloc, &components)
+    }
+
+    /// The first node that lies on a cycle: one edge or more lead from it to itself. `order` is the order of this graph. The
+    /// answer is found without a proof, and then tried.
+    ///
+    /// # Errors
+    ///
+    /// `NoMemory`.
+    #[tactic(auto, using(crate::proofs::Trials::first_is))]
+    pub fn first_on_cycle(&self, alloc: Global, order: &[u32]) -> Result<Option<usize>, NoMemory>
+        ensures { IfOk result (IsFirstOnCycle self.now) }
+    {
+        let components = Components::new(alloc, &self.turned(alloc)?, order)?;
+        let levels = components.levels(alloc)?;
+        let Some(node) = self.first_cyclic(alloc, &components)? else {
+            self.try_levels(&levels, self.count)?;
+            return Ok(None);
+        };
+        self.try_levels(&levels, node as usize)?;
+        let edges = edges_of_walk(alloc, self, node)?;
+        self.try_cycle(&edges, node)?;
+        Ok(Some(node as usize))
+    }
+
+    /// For each node whether it lies on a cycle, by the components of the graph.
+    fn cyclic_by(&self, alloc: Global, components: &Components) -> Result<Vec<bool>, NoMemory> {
         let mut cyclic = Vec::new(alloc);
         for node in 0..self.count {
             let together = components.has_others(node);
@@ -81,14 +136,32 @@ impl Graph {
         Ok(cyclic)
     }
 
-    /// The first node that lies on a cycle. `order` is the order of this graph.
+    /// The first node that is found to lie on a cycle.
+    fn first_cyclic(
+        &self,
+        alloc: Global,
+        components: &Components,
+    ) -> Result<Option<u32>, NoMemory> {
+        let cyclic = self.cyclic_by(alloc, components)?;
+        match cyclic.iter().position(|on| *on) {
+            Some(place) => Ok(Some(word(place)?)),
+            None => Ok(None),
+        }
+    }
+
+    /// For each node whether it is this one, or one edge or more lead from it to this one. The answer is found without a proof,
+    /// and then tried.
     ///
     /// # Errors
     ///
-    /// `NoMemory`.
-    pub fn first_on_cycle(&self, alloc: Global, order: &[u32]) -> Result<Option<usize>, NoMemory> {
-        let cyclic = self.cyclic(alloc, order)?;
-        Ok(cyclic.iter().position(|on| *on))
+    /// `NoMemory`, also where there is no such node.
+    pub fn reaching(&self, alloc: Global, node: u32) -> Result<Vec<bool>, NoMemory>
+        ensures { IfOk result (λ marks. AreReaching self.now node marks.items) }
+    {
+        let ways = ways_to(alloc, &self.turned(alloc)?, node)?;
+        self.try_ways(&ways, node)?;
+        let Ways { marks, .. } = ways;
+        Ok(marks)
     }
 
     /// The same edges the other way round.

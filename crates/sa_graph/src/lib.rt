@@ -6,6 +6,8 @@ mod components;
 mod graph;
 mod grouped;
 mod list;
+mod reach;
+mod trial;
 mod walk;
 
 pub use graph::Graph;

@@ -1,12 +1,14 @@
 //! Places in lists.
 
-ghost use Rattle.std.specs.Prelude.{◌≡◌, IfOk};
+ghost use Rattle.std.specs.Prelude.{◌≡◌, IfOk, Some, slice_get};
 
 use sa_tree::NoMemory;
 
 /// What a list holds at a place where it holds something. That it does is known to the writer and not to a proof, so
 /// another place is answered as want of memory.
-pub fn entry<T: Copy>(list: &[T], at: usize) -> Result<T, NoMemory> {
+pub fn entry<T: Copy>(list: &[T], at: usize) -> Result<T, NoMemory>
+    ensures { IfOk result (λ value. slice_get list.now at ≡ Some value) }
+{
     list.get(at).copied().ok_or(NoMemory)
 }
 

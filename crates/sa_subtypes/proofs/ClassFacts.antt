@@ -7,7 +7,7 @@ use Rattle.sa_tree.specs.declared.class.Flat.{Flat}
 use Rattle.sa_tree.specs.declared.class.Kind.{Kind}
 use Rattle.sa_tree.specs.Types.{BareTy, Named, Same, Rout, Iter}
 use Rattle.sa_subtypes_pairs.specs.declared.names.Names.{Names}
-use Rattle.sa_subtypes_pairs.specs.Numbers.{class_place, number_in, row_of, AreNamesOf, kind_bare, name_of, arity_of}
+use Rattle.sa_subtypes_pairs.specs.Numbers.{class_place, number_in, row_of, AreNamesOf, kind_bare, kind_of_name, name_of, arity_of}
 use Rattle.sa_subtypes.specs.Subtypes.{class_named, is_immutable_kind, is_immutable_type}
 use Rattle.sa_subtypes.proofs.ClassPlaces.{named-numbered, numbered-named}
 
@@ -49,6 +49,17 @@ module _ (classes : List Class) (names : Names) (are : AreNamesOf classes names)
           let r = named-numbered classes name c e in
           ap (λ o. immutable (option_map (λ r. r.kind) (option_and_then (slice_get names.rows.items) o))) (number-is name ∙ r.1.number)
           ∙ ap (λ o. immutable (option_map (λ row. row.kind) o)) (row-is r.0 c r.1.there)
+
+  -- the kind of the class of a name
+  pub kind-named : (name : List ℕ) → kind_of_name names name ≡ option_map (λ c. c.kind) (class_named classes name)
+  kind-named name = go (class_named classes name) refl
+    where
+      go : (o : Option Class) → class_named classes name ≡ o → kind_of_name names name ≡ option_map (λ c. c.kind) o
+      go None e = ap (λ o. option_map (λ r. r.kind) (option_and_then (slice_get names.rows.items) o)) (number-is name ∙ no_number name e)
+      go (Some c) e =
+          let r = named-numbered classes name c e in
+          ap (λ o. option_map (λ r. r.kind) (option_and_then (slice_get names.rows.items) o)) (number-is name ∙ r.1.number)
+          ∙ ap (option_map (λ row. row.kind)) (row-is r.0 c r.1.there)
 
 pub kind-immutable : (flat : Flat) (names : Names) → AreNamesOf flat.classes names → (t : BareTy) → option_map_or is_immutable_kind (kind_bare names t) false ≡ is_immutable_type flat t
 kind-immutable flat names are (Named name params) = named-immutable flat.classes names are name

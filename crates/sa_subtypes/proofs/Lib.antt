@@ -13,6 +13,7 @@ pub mod Instances
 pub mod Members
 pub mod PairsFor
 pub mod Questions
+pub mod Refusing
 pub mod Steps
 pub mod TypeTerms
 pub mod Walks

@@ -2,6 +2,7 @@ pub mod Below
 pub mod Bounds
 pub mod Deciding
 pub mod Questions
+pub mod Refusals
 pub mod Subtypes
 pub use Rattle.sa_subtypes_pairs.specs.Edges
 pub use Rattle.sa_subtypes_pairs.specs.Numbers

@@ -1,12 +1,15 @@
 //! The edges of a program are made and tried.
 
-ghost use Rattle.std.specs.Prelude.{◌≡◌, IfOk};
+ghost use Rattle.std.specs.Prelude.{◌≡◌, Err, IfOk, OnOk};
+ghost use Rattle.sa_tree.specs.declared.refusal.FrontFault.TheVariants.{Refused};
+ghost use Rattle.sa_tree.specs.declared.refusal.Refusal.{Refusal};
 ghost use Rattle.sa_subtypes.specs.Below.{AreSubtypesOf};
+ghost use Rattle.sa_subtypes.specs.Refusals.{AreEdgesRight, RefusesEdges};
 
 use crate::edges::Edges;
 use sa_subtypes_lineage::arranged;
-use sa_subtypes_pairs::{Names, Work, check_supertypes, written_edges};
-use sa_tree::{Flat, FrontFault};
+use sa_subtypes_pairs::{Names, Work, first_misplaced, written_edges};
+use sa_tree::{Flat, FrontFault, Rule};
 use std::alloc::Global;
 
 /// The name of the type that is above every type.
@@ -21,13 +24,17 @@ impl Edges {
     /// work, or the trial of their tables as many once more: one for each step and eight for each node of a type that is
     /// written. So they do only where they hold parameters many times over or where thousands of classes in a chain change
     /// the arguments.
-    #[tactic(auto, using(crate::proofs::Answering::making))]
+    #[tactic(auto, using(crate::proofs::Answering::making, crate::proofs::Refusing::refusing))]
     pub fn make(alloc: Global, flat: &Flat) -> Result<Edges, FrontFault>
-        ensures { IfOk result (λ edges. AreSubtypesOf flat.now edges) }
+        ensures subtypes { IfOk result (λ edges. AreSubtypesOf flat.now edges) }
+        ensures right { OnOk result (AreEdgesRight flat.now) }
+        ensures refused { (refusal : Refusal) → result ≡ Err (Refused refusal) → RefusesEdges flat.now refusal }
     {
         let classes = flat.classes.as_slice();
         let names = Names::make(alloc, classes)?;
-        check_supertypes(classes, &names)?;
+        if let Some(pos) = first_misplaced(classes, &names) {
+            return Err(Rule::SupertypeNotAbstract.at(pos).into());
+        }
         let mut work = Work::new();
         let written = written_edges(alloc, &mut work, classes, &names)?;
         let lineage = arranged(alloc, &mut work, classes, names, written.as_slice())?;

@@ -16,6 +16,18 @@ impl Edges {
         self.lineage.names.class(name)
     }
 
+    /// The place of a type's class in an order of the program's classes in which each stands behind those that its edges lead to.
+    /// A bound type has none.
+    pub fn rank(&self, t: &Ty) -> Option<u32> {
+        match t {
+            Ty::Named(name, _, _) => {
+                let number = self.lineage.names.number(name)?;
+                self.lineage.rank.get(number as usize).copied()
+            }
+            Ty::Same(_) | Ty::Rout(_, _, _) | Ty::Iter(_, _, _) => None,
+        }
+    }
+
     /// What kind of class a type is. A bound type is a reference class; SAME and a name that is no class have none.
     pub fn kind(&self, t: &Ty) -> Option<Kind>
         ensures { result ≡ kind_bare self.now.lineage.names (bare t.now) }

@@ -1,3 +1,4 @@
+pub mod Between
 pub mod Climbs
 pub mod Jumps
 pub mod Kept

@@ -1,3 +1,4 @@
+pub mod Cycles
 pub mod Kept
 pub mod Lineages
 pub mod Lines

@@ -1,6 +1,9 @@
 //! The declared edges are arranged as tables, or a cycle of edges is refused.
 
-ghost use Rattle.std.specs.Prelude.{◌≡◌, IfOk};
+ghost use Rattle.std.specs.Prelude.{◌≡◌, Err, IfOk, OnOk};
+ghost use Rattle.sa_tree.specs.declared.refusal.FrontFault.TheVariants.{Refused};
+ghost use Rattle.sa_tree.specs.declared.refusal.Refusal.{Refusal};
+ghost use Rattle.sa_subtypes_lineage.specs.Cycles.{HasEdgeIn, HasNoCycle, IsBetween, IsCycleAt, RefusesCycle};
 
 use crate::lineage::{Edged, Lineage, Lists, links_of};
 use crate::links::Link;
@@ -10,6 +13,7 @@ use sa_tree::{Class, FrontFault, NoMemory, Rule};
 use std::alloc::Global;
 
 /// The tables of the written edges. E18 where edges form a cycle.
+#[tactic(auto, using(crate::proofs::Between::none_written, crate::proofs::Between::cycle_written))]
 pub fn arranged(
     alloc: Global,
     work: &mut Work,
@@ -17,17 +21,21 @@ pub fn arranged(
     names: Names,
     written: &[Written],
 ) -> Result<Lineage, FrontFault>
-    ensures { IfOk result (λ lineage. lineage.names ≡ names) }
+    ensures names { IfOk result (λ lineage. lineage.names ≡ names) }
+    ensures acyclic { OnOk result (HasNoCycle (IsBetween written.now) classes.now) }
+    ensures cycle { (refusal : Refusal) → result ≡ Err (Refused refusal) → RefusesCycle (IsBetween written.now) classes.now refusal }
 {
     let mut pairs = Pairs::new(alloc);
     let edges = edges_of(alloc, work, written, &mut pairs)?;
-    let order = order_of(alloc, classes, &names, edges.as_slice())?;
+    let order = order_of(alloc, classes, edges.as_slice())?;
+    let rank = rank_of(alloc, order.as_slice())?;
     let (links, lists) = tables_of(
         alloc,
         work,
         &names,
         edges.as_slice(),
         order.as_slice(),
+        rank.as_slice(),
         &mut pairs,
     )?;
     let Lists { lists, above, .. } = lists;
@@ -38,27 +46,28 @@ pub fn arranged(
         links,
         lists,
         above,
+        rank,
     })
 }
 
-/// The trees and the lists.
+/// The trees and the lists, by the order of the classes and the place of each in it.
 fn tables_of(
     alloc: Global,
     work: &mut Work,
     names: &Names,
     edges: &[Edge],
     order: &[u32],
+    rank: &[u32],
     pairs: &mut Pairs,
 ) -> Result<(Vec<Link>, Lists), NoMemory> {
     let lower = lowers(alloc, edges)?;
     let by_lower = Grouped::new(alloc, names.classes(), lower.as_slice())?;
-    let rank = rank_of(alloc, order)?;
     let edged = Edged {
         names,
         edges,
         by_lower: &by_lower,
         order,
-        rank: rank.as_slice(),
+        rank,
     };
     let links = links_of(alloc, pairs, &edged)?;
     let lists = Lists::make(alloc, work, &edged, links.as_slice(), pairs)?;
@@ -66,15 +75,14 @@ fn tables_of(
 }
 
 /// The classes, each behind those that it has edges to. E18 where edges form a cycle.
-fn order_of(
-    alloc: Global,
-    classes: &[Class],
-    names: &Names,
-    edges: &[Edge],
-) -> Result<Vec<u32>, FrontFault> {
+#[tactic(auto, using(crate::proofs::Between::none_found, crate::proofs::Between::first_found))]
+fn order_of(alloc: Global, classes: &[Class], edges: &[Edge]) -> Result<Vec<u32>, FrontFault>
+    ensures acyclic { OnOk result (HasNoCycle (HasEdgeIn edges.now) classes.now) }
+    ensures cycle { (refusal : Refusal) → result ≡ Err (Refused refusal) → RefusesCycle (HasEdgeIn edges.now) classes.now refusal }
+{
     let starts = lowers(alloc, edges)?;
     let ends = uppers(alloc, edges)?;
-    let graph = Graph::new(alloc, names.classes(), starts, ends)?;
+    let graph = Graph::new(alloc, classes.len(), starts, ends)?;
     let order = graph.order(alloc)?;
     match graph.first_on_cycle(alloc, order.as_slice())? {
         None => Ok(order),
@@ -83,7 +91,9 @@ fn order_of(
 }
 
 /// The refusal at the name of a class that lies on a cycle.
-fn cycle_at(classes: &[Class], number: usize) -> FrontFault {
+fn cycle_at(classes: &[Class], number: usize) -> FrontFault
+    ensures { (refusal : Refusal) → result ≡ Refused refusal → IsCycleAt classes.now number refusal }
+{
     match classes.get(number) {
         Some(class) => Rule::SubtypeCycle.at(class.name.pos).into(),
         None => FrontFault::NoMemory,

@@ -41,6 +41,8 @@ pub struct Lineage {
     pub lists: Vec<(u32, u32)>,
     /// The pairs of all lists.
     pub above: Vec<Above>,
+    /// The place of each class in an order in which each is behind those that it has edges to.
+    pub rank: Vec<u32>,
 }
 
 /// The edges with the order of the classes.

@@ -2,6 +2,7 @@ pub mod Compositions
 pub mod Declaring
 pub mod Differences
 pub mod Dressed
+pub mod Ends
 pub mod Equal
 pub mod Headers
 pub mod Joins
@@ -13,4 +14,5 @@ pub mod Readings
 pub mod Renumbering
 pub mod Rounds
 pub mod Spelling
+pub mod Supertypes
 pub mod Terms

@@ -4,6 +4,7 @@ use Rattle.sa_tree.specs.declared.class.Class.{Class}
 use Rattle.sa_tree.specs.declared.ty.Ty.{Ty}
 use Rattle.sa_tree.specs.Types.{BareTy, Named, Same, Rout, Iter, no_types, type, bare}
 use Rattle.sa_types.specs.Substitution.{place_of}
+use Rattle.sa_subtypes_pairs.specs.declared.declared.Edge.{Edge}
 use Rattle.sa_subtypes_pairs.specs.declared.header.Header.{Header}
 use Rattle.sa_subtypes_pairs.specs.declared.pattern.Node.{Node}
 use Rattle.sa_subtypes_pairs.specs.declared.written.Written.{Written}
@@ -20,6 +21,13 @@ edge_of e = (e.lower, e.upper, e.nodes.items)
 
 abbrev pub seen : List Written → List EdgeNodes
 seen edges = map edge_of edges
+
+-- the numbers of the two classes alone
+abbrev pub ends_written : Written → ℕ × ℕ
+ends_written e = (e.lower, e.upper)
+
+abbrev pub ends_of : Edge → ℕ × ℕ
+ends_of e = (e.lower, e.upper)
 
 -- ---- in the header of a class with a number, a name and so many parameters, whose places are given
 

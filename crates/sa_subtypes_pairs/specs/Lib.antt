@@ -4,4 +4,5 @@ pub mod Numbers
 pub mod Pairs
 pub mod Patterns
 pub mod Spelled
+pub mod Supertypes
 pub mod Terms

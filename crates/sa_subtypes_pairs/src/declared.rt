@@ -1,11 +1,17 @@
 //! The pairs of the edges that classes declare, and the rule that what stands after `<` is an abstract class.
 
+ghost use Rattle.std.specs.Prelude.{◌≡◌, IfOk, flat_map, map, slice_get};
+ghost use Rattle.sa_tree.specs.Types.{bare};
+ghost use Rattle.sa_subtypes_pairs.specs.Edges.{ends_of, ends_written};
+ghost use Rattle.sa_subtypes_pairs.specs.Numbers.{kind_of_name};
+ghost use Rattle.sa_subtypes_pairs.specs.Supertypes.{is_abstract_class, is_abstract_kind, misplaced, misplaced_type, position_of};
+
 use crate::names::Names;
 use crate::pair::Pairs;
 use crate::unification::copied;
 use crate::work::Work;
 use crate::written::Written;
-use sa_tree::{Class, FrontFault, Kind, NoMemory, Pos, Rule, Ty};
+use sa_tree::{Class, Kind, NoMemory, Pos, Ty};
 use std::alloc::Global;
 
 /// A declared edge: the lower class, the upper class, and the pair that it declares.
@@ -19,46 +25,83 @@ pub struct Edge {
     pub pair: u32,
 }
 
-/// Refuses the first type after a `<`, in text order, that is no abstract class: a concrete class, a parameter, SAME, a
+/// Where the first type after a `<` stands, in text order, that is no abstract class: a concrete class, a parameter, SAME, a
 /// bound type, or a name that is no class.
-pub fn check_supertypes(classes: &[Class], names: &Names) -> Result<(), FrontFault> {
+#[tactic(auto, using(crate::proofs::Supertypes::classes_walk))]
+pub fn first_misplaced(classes: &[Class], names: &Names) -> Option<Pos>
+    ensures { result ≡ slice_get (misplaced (kind_of_name names.now) classes.now) 0 }
+{
     for class in classes {
-        check_below(class.below.as_slice(), names)?;
-    }
-    Ok(())
-}
-
-/// The same for the types after one `<`.
-fn check_below(types: &[Ty], names: &Names) -> Result<(), FrontFault> {
-    for ty in types {
-        if !is_abstract_class(ty, names) {
-            return Err(Rule::SupertypeNotAbstract.at(position(ty)).into());
+        if let Some(pos) = first_of(class.below.as_slice(), names) {
+            return Some(pos);
         }
     }
-    Ok(())
+    None
+}
+
+/// The same of the types after one `<`.
+#[tactic(auto, using(crate::proofs::Supertypes::types_walk))]
+fn first_of(types: &[Ty], names: &Names) -> Option<Pos>
+    ensures { result ≡ slice_get (flat_map (misplaced_type (kind_of_name names.now)) types.now) 0 }
+{
+    for ty in types {
+        if !is_abstract_class(ty, names) {
+            return Some(position(ty));
+        }
+    }
+    None
 }
 
 /// Whether a type is an abstract class. The name of a parameter is never that of an abstract class.
-fn is_abstract_class(ty: &Ty, names: &Names) -> bool {
+#[tactic(auto, using(sa_tree::proofs::BareTypes::bares))]
+fn is_abstract_class(ty: &Ty, names: &Names) -> bool
+    ensures { result ≡ is_abstract_class (kind_of_name names.now) (bare ty.now) }
+{
     match ty {
-        Ty::Named(_, _, _) => names.kind(ty) == Some(Kind::Abstract),
-        _ => false,
+        Ty::Named(name, _, _) => match names.kind_named(name) {
+            Some(kind) => is_abstract_kind(kind),
+            None => false,
+        },
+        Ty::Same(_) => false,
+        Ty::Rout(_, _, _) => false,
+        Ty::Iter(_, _, _) => false,
     }
 }
 
-fn position(ty: &Ty) -> Pos {
+fn is_abstract_kind(kind: Kind) -> bool
+    ensures { result ≡ is_abstract_kind kind }
+{
+    match kind {
+        Kind::Reference => false,
+        Kind::Immutable => false,
+        Kind::Abstract => true,
+        Kind::Partial => false,
+    }
+}
+
+/// Where a type stands.
+#[tactic(auto, using(crate::proofs::Supertypes::positions))]
+pub fn position(ty: &Ty) -> Pos
+    ensures { result ≡ position_of ty.now }
+{
     match ty {
-        Ty::Named(_, _, pos) | Ty::Same(pos) | Ty::Rout(_, _, pos) | Ty::Iter(_, _, pos) => *pos,
+        Ty::Named(_, _, pos) => *pos,
+        Ty::Same(pos) => *pos,
+        Ty::Rout(_, _, pos) => *pos,
+        Ty::Iter(_, _, pos) => *pos,
     }
 }
 
 /// The written edges with their pairs.
+#[tactic(auto, using(crate::proofs::Ends::ends_more))]
 pub fn edges_of(
     alloc: Global,
     work: &mut Work,
     written: &[Written],
     pairs: &mut Pairs,
-) -> Result<Vec<Edge>, NoMemory> {
+) -> Result<Vec<Edge>, NoMemory>
+    ensures { IfOk result (λ edges. map ends_of edges.items ≡ map ends_written written.now) }
+{
     let mut edges = Vec::new(alloc);
     for own in written {
         edges.push(edge_of(alloc, work, own, pairs)?)?;
@@ -72,7 +115,9 @@ fn edge_of(
     work: &mut Work,
     own: &Written,
     pairs: &mut Pairs,
-) -> Result<Edge, NoMemory> {
+) -> Result<Edge, NoMemory>
+    ensures { IfOk result (λ edge. ends_of edge ≡ ends_written own.now) }
+{
     let nodes = copied(alloc, own.nodes.as_slice())?;
     let pair = pairs.add(alloc, work, nodes, own.upper)?;
     Ok(Edge {
@@ -83,7 +128,10 @@ fn edge_of(
 }
 
 /// The lower class of each edge.
-pub fn lowers(alloc: Global, edges: &[Edge]) -> Result<Vec<u32>, NoMemory> {
+#[tactic(auto, using(std::proofs::lemmas::List::map_more))]
+pub fn lowers(alloc: Global, edges: &[Edge]) -> Result<Vec<u32>, NoMemory>
+    ensures { IfOk result (λ lowers. lowers.items ≡ map (λ e. e.lower) edges.now) }
+{
     let mut lowers = Vec::new(alloc);
     for edge in edges {
         lowers.push(edge.lower)?;
@@ -92,7 +140,10 @@ pub fn lowers(alloc: Global, edges: &[Edge]) -> Result<Vec<u32>, NoMemory> {
 }
 
 /// The upper class of each edge.
-pub fn uppers(alloc: Global, edges: &[Edge]) -> Result<Vec<u32>, NoMemory> {
+#[tactic(auto, using(std::proofs::lemmas::List::map_more))]
+pub fn uppers(alloc: Global, edges: &[Edge]) -> Result<Vec<u32>, NoMemory>
+    ensures { IfOk result (λ uppers. uppers.items ≡ map (λ e. e.upper) edges.now) }
+{
     let mut uppers = Vec::new(alloc);
     for edge in edges {
         uppers.push(edge.upper)?;

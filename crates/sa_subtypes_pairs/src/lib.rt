@@ -13,7 +13,7 @@ mod work;
 mod written;
 
 pub use composition::{compose, composed};
-pub use declared::{Edge, check_supertypes, edges_of, lowers, uppers};
+pub use declared::{Edge, edges_of, first_misplaced, lowers, position, uppers};
 pub use names::{Names, Row};
 pub use pair::{Pairs, Shape, renumbered, try_equal};
 pub use pattern::Node;

@@ -1,6 +1,6 @@
 //! The names of classes and their numbers.
 
-ghost use Rattle.std.specs.Prelude.{◌≡◌, IfOk, map, slice_get};
+ghost use Rattle.std.specs.Prelude.{◌≡◌, IfOk, length, map, slice_get};
 ghost use Rattle.sa_tree.specs.Types.{bare};
 ghost use Rattle.sa_subtypes_pairs.specs.Numbers.{AreNamesOf, HasNumbers, arity_of, kind_bare, kind_of_name, name_of, number_in, row_of};
 
@@ -45,7 +45,9 @@ impl Names {
     }
 
     /// How many classes there are, those with one name among them.
-    pub fn classes(&self) -> usize {
+    pub fn classes(&self) -> usize
+        ensures { result ≡ length self.now.rows.items }
+    {
         self.rows.len()
     }
 
@@ -104,7 +106,7 @@ impl Names {
     }
 
     /// What kind of class the class of a name is.
-    fn kind_named(&self, name: &Name) -> Option<Kind>
+    pub(crate) fn kind_named(&self, name: &Name) -> Option<Kind>
         ensures { result ≡ kind_of_name self.now name.now }
     {
         let number = self.number(name)?;

@@ -1,0 +1,4 @@
+pub mod Firsts
+pub mod Turned
+pub mod Trials
+pub mod Ways

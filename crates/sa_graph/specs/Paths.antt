@@ -1,0 +1,36 @@
+-- The ways along the edges of a graph.
+use Rattle.std.specs.Prelude.{◌≡◌, ℕ, ◌<◌, List, Option, Some, MatchOption, slice_get}
+use Rattle.sa_graph.specs.declared.graph.Graph.{Graph}
+
+-- an edge leads from one node to another: at some place the one is among the starts, and the other among the ends
+abbrev pub HasEdge : List ℕ → List ℕ → ℕ → ℕ → Type 0
+HasEdge starts ends from to = (place : ℕ) × (slice_get starts place ≡ Some from) × (slice_get ends place ≡ Some to)
+
+-- one edge or more lead from a node to another
+pub data Leads (Edge : ℕ → ℕ → Type 0) (from : ℕ) : ℕ → Type 0 where
+  by_edge : {to : ℕ} → Edge from to → Leads Edge from to
+  by_edges : {between to : ℕ} → Leads Edge from between → Edge between to → Leads Edge from to
+
+abbrev pub node_count : Graph → ℕ
+node_count graph = graph.count
+
+abbrev pub starts_of : Graph → List ℕ
+starts_of graph = graph.starts.items
+
+abbrev pub ends_of : Graph → List ℕ
+ends_of graph = graph.ends.items
+
+abbrev pub IsEdge : Graph → ℕ → ℕ → Type 0
+IsEdge graph = HasEdge (starts_of graph) (ends_of graph)
+
+-- a node lies on a cycle: it leads to itself
+abbrev pub IsOnCycle : Graph → ℕ → Type 0
+IsOnCycle graph node = Leads (IsEdge graph) node node
+
+-- the first node on a cycle, if there is one
+pub record IsFirst (graph : Graph) (node : ℕ) : Type 0 where
+  pub cycle : IsOnCycle graph node
+  pub first : (earlier : ℕ) → earlier < node → ¬ IsOnCycle graph earlier
+
+abbrev pub IsFirstOnCycle : Graph → Option ℕ → Type 0
+IsFirstOnCycle graph found = MatchOption found ((node : ℕ) → node < node_count graph → ¬ IsOnCycle graph node) (IsFirst graph)

@@ -1,0 +1,39 @@
+-- What the classes of a program are refused by for the supertypes that they declare.
+use Rattle.std.specs.Prelude.{◌≡◌, ◌⊎◌, ℕ, List, [], Option, Some, Contains, map, slice_get}
+use Rattle.std.specs.Option.{option_map}
+use Rattle.sa_tree.specs.declared.class.Flat.{Flat}
+use Rattle.sa_tree.specs.declared.class.Kind.{Kind}
+use Rattle.sa_tree.specs.declared.pos.Pos.{Pos}
+use Rattle.sa_tree.specs.declared.refusal.Refusal.{Refusal}
+use Rattle.sa_tree.specs.declared.rule.Rule.TheVariants as rule
+use Rattle.sa_subtypes_pairs.specs.Edges.{declared_edges}
+use Rattle.sa_subtypes_pairs.specs.Numbers.{class_place}
+use Rattle.sa_subtypes_pairs.specs.Supertypes.{misplaced}
+use Rattle.sa_subtypes_lineage.specs.Cycles.{HasNoCycle, RefusesCycle}
+use Rattle.sa_subtypes.specs.Subtypes.{class_named}
+
+module _ (flat : Flat) where
+  abbrev pub kind_named : List ℕ → Option Kind
+  kind_named name = option_map (λ c. c.kind) (class_named flat.classes name)
+
+  -- the positions of the types after `<` that are no abstract classes, in text order
+  abbrev pub misplaced_in : List Pos
+  misplaced_in = misplaced kind_named flat.classes
+
+  -- an edge that a class declares leads from one class to another, by their numbers and whatever their parameters are
+  abbrev pub ClassEdge : ℕ → ℕ → Type 0
+  ClassEdge lower upper = Contains (map (λ e. (e.0, e.1)) (declared_edges (class_place flat.classes 0) flat.classes)) (lower, upper)
+
+  -- the first type after `<` that is no abstract class
+  pub record RefusesSupertype (refusal : Refusal) : Type 0 where
+    pub first : slice_get misplaced_in 0 ≡ Some refusal.pos
+    pub rule : refusal.rule ≡ rule.SupertypeNotAbstract
+
+  -- where there is none, the first class on a cycle of edges
+  abbrev pub RefusesEdges : Refusal → Type 0
+  RefusesEdges refusal = RefusesSupertype refusal ⊎ ((misplaced_in ≡ []) × RefusesCycle ClassEdge flat.classes refusal)
+
+  -- nothing is refused of them
+  pub record AreEdgesRight : Type 0 where
+    pub supertypes : misplaced_in ≡ []
+    pub acyclic : HasNoCycle ClassEdge flat.classes
