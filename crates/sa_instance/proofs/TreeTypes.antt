@@ -27,15 +27,15 @@ use Rattle.sa_tree.specs.declared.ty.Ty.{Ty}
 use Rattle.sa_instance.specs.Trees.{expr_level, receiver_level, argument_level, expr_with, receiver_with, argument_with, stmt_level, arm_level, case_arm_level, type_arm_level, stmt_with, arm_with, case_arm_with, type_arm_with}
 
 module _ (f : Ty → Ty) where
-  expr_with-roll : (x : Expr-F Expr Given Recv) → expr_with f (roll-Expr x) ≡ expr_level f (map-Expr Expr Given Recv Expr Given Recv (expr_with f) (argument_with f) (receiver_with f) x)
+  pub expr_with-roll : (x : Expr-F Expr Given Recv) → expr_with f (roll-Expr x) ≡ expr_level f (map-Expr Expr Given Recv Expr Given Recv (expr_with f) (argument_with f) (receiver_with f) x)
   unfolding expr_with argument_with receiver_with
   expr_with-roll x = fold-roll-Expr Expr Given Recv (expr_level f) (argument_level f) (receiver_level f) x
 
-  receiver_with-roll : (x : Recv-F Expr Given Recv) → receiver_with f (roll-Recv x) ≡ receiver_level f (map-Recv Expr Given Recv Expr Given Recv (expr_with f) (argument_with f) (receiver_with f) x)
+  pub receiver_with-roll : (x : Recv-F Expr Given Recv) → receiver_with f (roll-Recv x) ≡ receiver_level f (map-Recv Expr Given Recv Expr Given Recv (expr_with f) (argument_with f) (receiver_with f) x)
   unfolding expr_with argument_with receiver_with
   receiver_with-roll x = fold-roll-Recv Expr Given Recv (expr_level f) (argument_level f) (receiver_level f) x
 
-  argument_with-roll : (x : Given-F Expr Given Recv) → argument_with f (roll-Given x) ≡ argument_level f (map-Given Expr Given Recv Expr Given Recv (expr_with f) (argument_with f) (receiver_with f) x)
+  pub argument_with-roll : (x : Given-F Expr Given Recv) → argument_with f (roll-Given x) ≡ argument_level f (map-Given Expr Given Recv Expr Given Recv (expr_with f) (argument_with f) (receiver_with f) x)
   unfolding expr_with argument_with receiver_with
   argument_with-roll x = fold-roll-Given Expr Given Recv (expr_level f) (argument_level f) (receiver_level f) x
 
