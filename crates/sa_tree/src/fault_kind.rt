@@ -1,6 +1,6 @@
 //! The kinds of faults that stop a program, or raise an exception in it.
 
-ghost use Rattle.std.specs.Prelude.{◌≡◌, IfSome};
+ghost use Rattle.std.specs.Prelude.{◌≡◌, ◌≢◌, IfNone, IfSome};
 ghost use Rattle.sa_tree.specs.Faults.{fault_number, fault_text};
 
 /// The kind of a fault. Its number is the one that `kind` of the class FAULT gives.
@@ -38,9 +38,10 @@ impl FaultKind {
         self as u8
     }
 
-    /// The kind with this number.
+    /// The kind with this number, None where no kind has it.
     pub fn of_number(number: u32) -> Option<FaultKind>
-        ensures { IfSome result (λ kind. fault_number kind ≡ number) }
+        ensures kind { IfSome result (λ kind. fault_number kind ≡ number) }
+        ensures none { IfNone result ((kind : FaultKind) → fault_number kind ≢ number) }
     {
         match number {
             1 => Some(FaultKind::Overflow),
