@@ -1,2 +1,3 @@
+pub mod BuiltinRows
 pub mod BuiltinTable
 pub mod PreludeText

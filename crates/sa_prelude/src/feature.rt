@@ -1,6 +1,8 @@
 //! The numbers of the features that the implementation gives.
 
 ghost use Rattle.std.specs.Prelude.{◌≡◌, slice_get, Some};
+ghost use Rattle.sa_prelude.specs.BuiltinRows.{row_of};
+ghost use Rattle.sa_prelude.specs.BuiltinTable.{features};
 
 use sqlite_items::at;
 
@@ -96,7 +98,8 @@ impl BuiltinFeature {
 
     /// The number of the feature, below 33.
     pub fn number(self) -> u8
-        ensures { slice_get BUILTIN_FEATURES result ≡ Some self }
+        ensures place { slice_get BUILTIN_FEATURES result ≡ Some self }
+        ensures row { slice_get features result ≡ Some (row_of self) }
     {
         self as u8
     }

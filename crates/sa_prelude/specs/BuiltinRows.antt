@@ -1,0 +1,40 @@
+-- The row of the table of built-in features that each feature of the type has.
+use Rattle.std.specs.Prelude.{ℕ, List, codes}
+use Rattle.sa_prelude.specs.declared.feature.BuiltinFeature.{BuiltinFeature}
+use Rattle.sa_prelude.specs.declared.feature.BuiltinFeature.TheVariants as feature
+
+-- the names of the class and of the feature, and the number of its arguments
+abbrev pub row_of : BuiltinFeature → List ℕ × List ℕ × ℕ
+row_of feature.BoolIsEq = (codes "BOOL", codes "is_eq", 1)
+row_of feature.BoolNot = (codes "BOOL", codes "not", 0)
+row_of feature.IntPlus = (codes "INT", codes "plus", 1)
+row_of feature.IntMinus = (codes "INT", codes "minus", 1)
+row_of feature.IntTimes = (codes "INT", codes "times", 1)
+row_of feature.IntNegate = (codes "INT", codes "negate", 0)
+row_of feature.IntDiv = (codes "INT", codes "div", 1)
+row_of feature.IntMod = (codes "INT", codes "mod", 1)
+row_of feature.IntIsEq = (codes "INT", codes "is_eq", 1)
+row_of feature.IntIsLt = (codes "INT", codes "is_lt", 1)
+row_of feature.IntBand = (codes "INT", codes "band", 1)
+row_of feature.IntBor = (codes "INT", codes "bor", 1)
+row_of feature.IntBxor = (codes "INT", codes "bxor", 1)
+row_of feature.IntStr = (codes "INT", codes "str", 0)
+row_of feature.IntChar = (codes "INT", codes "char", 0)
+row_of feature.CharIsEq = (codes "CHAR", codes "is_eq", 1)
+row_of feature.CharIsLt = (codes "CHAR", codes "is_lt", 1)
+row_of feature.CharInt = (codes "CHAR", codes "int", 0)
+row_of feature.CharStr = (codes "CHAR", codes "str", 0)
+row_of feature.StrSize = (codes "STR", codes "size", 0)
+row_of feature.StrAget = (codes "STR", codes "aget", 1)
+row_of feature.StrCat = (codes "STR", codes "cat", 1)
+row_of feature.StrSubstring = (codes "STR", codes "substring", 2)
+row_of feature.StrOf = (codes "STR", codes "of", 2)
+row_of feature.OutPut = (codes "OUT", codes "put", 1)
+row_of feature.OutPutInt = (codes "OUT", codes "put_int", 1)
+row_of feature.OutPutChar = (codes "OUT", codes "put_char", 1)
+row_of feature.InGetByte = (codes "IN", codes "get_byte", 0)
+row_of feature.SysObEq = (codes "SYS", codes "ob_eq", 2)
+row_of feature.ArefAsize = (codes "AREF", codes "asize", 0)
+row_of feature.ArefAget = (codes "AREF", codes "aget", 1)
+row_of feature.ArefAset = (codes "AREF", codes "aset", 2)
+row_of feature.ArrayCreate = (codes "ARRAY", codes "create", 1)
