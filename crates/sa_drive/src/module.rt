@@ -6,6 +6,7 @@ ghost use Rattle.sa_drive.specs.Built.{IsTried};
 use sa_core::{Core, positions};
 use sa_dispatch::rows;
 use sa_emit::emit;
+use sa_flat::FlatProgram;
 use sa_lower::lower;
 use sa_tree::{NoMemory, Pos};
 use sqlite_items::Items;
@@ -31,12 +32,12 @@ pub fn module_of(alloc: Global, core: Core, room: u32) -> Result<Built, NoMemory
     let flat = lower(alloc, &core, positions)?;
     let rows = rows(alloc, &core)?;
     drop(core);
-    let Ok(emitted) = emit(alloc, &flat, &rows, room) else {
+    let Ok(module) = emit(alloc, &flat, &rows, room) else {
         return Err(NoMemory);
     };
-    drop(flat);
-    match encode(alloc, &emitted.module) {
-        Ok(bytes) if bytes.len() < u32::MAX as usize => tried(alloc, bytes, emitted.sites),
+    let FlatProgram { sites, .. } = flat;
+    match encode(alloc, &module) {
+        Ok(bytes) if bytes.len() < u32::MAX as usize => tried(alloc, bytes, sites),
         _ => Err(NoMemory),
     }
 }

@@ -1,4 +1,4 @@
-//! A flat program as a module, with what its reader has to know of it.
+//! A flat program as a module.
 
 use crate::memory::memory_of;
 use crate::module::module;
@@ -7,18 +7,8 @@ use crate::pool::{slot_bytes, slot_words};
 use sa_dispatch::Rows;
 use sa_emit_value::{Below, Program};
 use sa_flat::FlatProgram;
-use sa_tree::Pos;
-use sqlite_items::Items;
 use std::alloc::Global;
 use wa_syntax::{Module, NoMemory};
-
-/// A program as a module.
-#[derive(Drop)]
-pub struct Emitted {
-    pub module: Module,
-    /// The positions that places of faults and raises stand for.
-    pub sites: Items<Pos>,
-}
 
 /// The module of a program, whose objects have so many KiB.
 ///
@@ -26,12 +16,7 @@ pub struct Emitted {
 ///
 /// `NoMemory`, also where an address or a number of the module doesn't fit 32 bits, and where a number of the program names
 /// nothing.
-pub fn emit(
-    alloc: Global,
-    flat: &FlatProgram,
-    rows: &Rows,
-    room: u32,
-) -> Result<Emitted, NoMemory> {
+pub fn emit(alloc: Global, flat: &FlatProgram, rows: &Rows, room: u32) -> Result<Module, NoMemory> {
     let slot_words = slot_words(flat)?;
     let memory = memory_of(alloc, flat, slot_bytes(slot_words)?, room)?;
     let below = Below::of(alloc, flat)?;
@@ -44,8 +29,5 @@ pub fn emit(
         entries: memory.entries.as_slice(),
         places: places.of.as_slice(),
     };
-    Ok(Emitted {
-        module: module(alloc, program, &memory, &places, room)?,
-        sites: Items::from_slice(alloc, flat.sites.as_slice())?,
-    })
+    module(alloc, program, &memory, &places, room)
 }
