@@ -20,7 +20,7 @@ use wa_valid::Valid;
 pub struct Built {
     pub module: Valid,
     pub bytes: Vec<u8>,
-    pub sites: Items<Pos>,
+    pub positions: Items<Pos>,
 }
 
 /// The module of a typed program, with so many KiB of room for its objects. Fails where memory runs out, also where a module of
@@ -35,15 +35,15 @@ pub fn module_of(alloc: Global, core: Core, room: u32) -> Result<Built, NoMemory
     let Ok(module) = emit(alloc, &flat, &rows, room) else {
         return Err(NoMemory);
     };
-    let FlatProgram { sites, .. } = flat;
+    let FlatProgram { positions, .. } = flat;
     match encode(alloc, &module) {
-        Ok(bytes) if bytes.len() < u32::MAX as usize => tried(alloc, bytes, sites),
+        Ok(bytes) if bytes.len() < u32::MAX as usize => tried(alloc, bytes, positions),
         _ => Err(NoMemory),
     }
 }
 
 /// The module of these bytes, where they spell one that can be run.
-fn tried(alloc: Global, bytes: Vec<u8>, sites: Items<Pos>) -> Result<Built, NoMemory>
+fn tried(alloc: Global, bytes: Vec<u8>, positions: Items<Pos>) -> Result<Built, NoMemory>
     requires { length bytes.items < 4294967295 }
     ensures { IfOk result IsTried }
 {
@@ -51,7 +51,7 @@ fn tried(alloc: Global, bytes: Vec<u8>, sites: Items<Pos>) -> Result<Built, NoMe
         Ok(module) => Ok(Built {
             module,
             bytes,
-            sites,
+            positions,
         }),
         Err(_answer) => Err(NoMemory),
     }

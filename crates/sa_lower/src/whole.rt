@@ -22,12 +22,12 @@ use std::alloc::Global;
 /// `NoMemory`, also where a number of the typed program is out of range, a position is in none of its texts, or an iter call stands
 /// outside loops.
 pub fn lower(alloc: Global, core: &Core, positions: Items<Pos>) -> Result<FlatProgram, NoMemory>
-    ensures sites { IfOk result (λ flat. flat.sites ≡ positions) }
+    ensures positions { IfOk result (λ flat. flat.positions ≡ positions) }
 {
     let mut program = empty(alloc, positions);
     add_tables(alloc, core, &mut program)?;
     let types = type_numbers(alloc, core.types.as_slice())?;
-    let positions = program.sites.as_slice();
+    let positions = program.positions.as_slice();
     let lines = line_numbers(alloc, core.feeds.as_slice(), positions)?;
     let tables = Tables::new(alloc, positions, lines.as_slice(), types)?;
     let mut draft = Draft::new(alloc, tables);
@@ -46,7 +46,7 @@ fn add_bodies(
     draft: &mut Draft,
     program: &mut FlatProgram,
 ) -> Result<(), NoMemory>
-    ensures sites { OnOk result (program.new.sites ≡ program.old.sites) }
+    ensures positions { OnOk result (program.new.positions ≡ program.old.positions) }
 {
     program.bodies = feature_bodies(alloc, core, draft)?;
     program.targets = targets(alloc, core, &draft.tables, &mut program.bodies)?;
@@ -56,7 +56,7 @@ fn add_bodies(
 
 /// Puts into a program what the typed one says of its types and shareds.
 fn add_tables(alloc: Global, core: &Core, program: &mut FlatProgram) -> Result<(), NoMemory>
-    ensures sites { OnOk result (program.new.sites ≡ program.old.sites) }
+    ensures positions { OnOk result (program.new.positions ≡ program.old.positions) }
 {
     program.types = slots(alloc, core.types.as_slice())?;
     program.layouts = layouts(alloc, core.types.as_slice())?;
@@ -66,12 +66,12 @@ fn add_tables(alloc: Global, core: &Core, program: &mut FlatProgram) -> Result<(
 
 /// A program with these positions and nothing else.
 fn empty(alloc: Global, positions: Items<Pos>) -> FlatProgram
-    ensures { result.sites ≡ positions }
+    ensures { result.positions ≡ positions }
 {
     FlatProgram {
         bodies: Items::new(alloc),
         texts: Items::new(alloc),
-        sites: positions,
+        positions,
         types: Items::new(alloc),
         targets: Items::new(alloc),
         layouts: Items::new(alloc),
