@@ -6,7 +6,7 @@ use sa_tree::NoMemory;
 /// How many forms the includes of one program bring at most. An included feature counts eight, and each of its arguments
 /// and of the types written in its head counts one, as does each form of an initialiser. The statements,
 /// expressions and types of a body count where the body is copied, and not where it is shared.
-pub const MOST_FORMS: u64 = 33_554_432;
+pub const MOST_FORMS: u64 = 8_388_608;
 
 /// What an included feature counts besides its parts.
 pub(crate) const FEATURE_FORMS: u64 = 8;
