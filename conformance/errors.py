@@ -1,10 +1,11 @@
 #!/usr/bin/env python3
 """errors.py PROGRAM [--only WORD]
 
-Compares docs/ERRORS.md with what the program tells. Each line on err that the program can end with, by crates/sa_tree/specs/Rules.antt
-and Faults.antt and crates/sa_drive/specs/Lines.antt and Status.antt, has one section of the page, which begins with the line and its status,
-and the page's contents lead to it. A section has a program or a command line that gives its line, and one that ends well; each is
-run in a folder of its own, and has to leave exactly what the page says behind it. --only takes the sections whose names hold a word."""
+Compares docs/ERRORS.md with what the program tells. Each line on err that the program can end with, by the specs of sa_tree
+(Rules.antt, Faults.antt) and of sa_drive (Lines.antt, Status.antt), has one section of the page, which begins with the line and its
+status, and the page's contents lead to it. A section has a program or a command line that gives its line, and one that ends well;
+each is run in a folder of its own, and has to leave exactly what the page says behind it. --only takes the sections whose names
+hold a word."""
 import functools
 import os
 import re
@@ -18,7 +19,7 @@ CODES = re.compile(r'codes "((?:[^"\\]|\\.)*)"')
 PIECE = re.compile(r'(about_place)|(about_file)|\b(file) \+\+|decimal (\w+)|\b((?:rule|fault)_text)\b|' + CODES.pattern)
 SECTION = re.compile(r'^### (.*)\n\n`(.*)`, status (\d+)\b', re.M)
 BLOCK = re.compile(r'^```(.*)\n((?:(?!```).*\n)*)```\n((?:(?!```|#).*\n)*)', re.M)
-BEHIND = re.compile(r'\n(gives|prints|is accepted|ends well)(?: with `(--[^`]*)`)?(?: `([^`]*)`)?')
+BEHIND = re.compile(r'(gives|prints|is accepted|ends well)(?: with `(--[^`]*)`)?(?: `([^`]*)`)?')
 
 
 def read(path):
@@ -88,18 +89,13 @@ class Example:
 
 def examples(heading, first, text):
     """The examples of a section, whose text begins at the line `first`. A block that follows a bare `prints` is its output."""
-    blocks, source = list(BLOCK.finditer(text)), None
-    is_output = False
-    for block, after in zip(blocks, blocks[1:] + [None]):
-        if is_output:
-            is_output = False
-            continue
-        kind, content, behind = block.groups()
-        match = BEHIND.match('\n' + behind.strip())
-        is_output = behind.strip() == 'prints'
+    blocks, source = BLOCK.finditer(text), None
+    for block in blocks:
+        kind, content, behind = block[1], block[2], block[3].strip()
+        following = next(blocks, None) if behind == 'prints' else None
         source = source if kind == 'sh' else content
         place = '%s:%d %s' % (PAGE, first + text.count('\n', 0, block.start()), heading)
-        yield Example(place, kind == 'sh', content, source, match, after.group(2) if is_output else None)
+        yield Example(place, kind == 'sh', content, source, BEHIND.match(behind), following and following[2])
 
 
 def sections():
@@ -149,6 +145,8 @@ def fault_of(section, known, contents):
     line = known.get(section.form)
     if line is None or line.status != section.status:
         return 'no ending has this line with this status'
+    if section.heading not in section.form:
+        return 'its heading isn\'t a part of its line'
     if '](%s)' % section.anchor() not in contents:
         return 'the contents don\'t lead to it'
     if not any(example.verb == 'gives' and line.pattern.fullmatch(example.told or '') for example in section.examples):
