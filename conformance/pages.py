@@ -1,9 +1,9 @@
 #!/usr/bin/env python3
 """pages.py: compares the examples of docs/ with the table of cases.
 
-Each block of docs/LANGUAGE.md and docs/ITERS.md that has a class MAIN is the program of a case in the folder `manual` of the
-table, and what the page says behind it is what the case wants: what it prints, the fault that stops it, the code that
-refuses it, or that it is accepted. Each case of that folder is an example of a page."""
+Each block of docs/LANGUAGE.md, docs/ITERS.md and docs/MOVING.md that has a class MAIN is the program of a case in the folder
+`manual` of the table, and what the page says behind it is what the case wants: what it prints, the fault that stops it, the
+code that refuses it, or that it is accepted. Each case of that folder is an example of a page."""
 import os
 import re
 import sys
@@ -12,7 +12,7 @@ import cases
 import report
 
 DOCS = os.path.join(os.path.dirname(os.path.abspath(__file__)), '..', 'docs')
-PAGES = ['LANGUAGE.md', 'ITERS.md']
+PAGES = ['LANGUAGE.md', 'ITERS.md', 'MOVING.md']
 FENCE = re.compile(r'^```.*\n', re.M)
 PRINTS_TEXT = re.compile(r'\nprints `([^`]*)`')
 PRINTS_BLOCK = re.compile(r'\nprints\s*')
