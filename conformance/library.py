@@ -89,8 +89,8 @@ def shown(feature):
     """The head of a feature as the page has it, in a list; the list is empty where the feature isn't one to be called."""
     if not feature or feature[0] in ('private', 'invariant', 'stub'):
         return []
-    value = feature.index(':=') if ':=' in feature else len(feature)
-    return [as_one(feature[:value])]
+    head = as_one(feature)
+    return [re.sub(r':=.*' if ':' in feature else r':=[^,]*', '', head)]
 
 
 def sources():
