@@ -5,12 +5,15 @@ Tries the library:
 
 - lib/tests/NAME.sa, run with lib/NAME.sa and with lib/tests/NAME.in as its input where that is there, has to print
   lib/tests/NAME.out, tell nothing on err and end with status 0, plainly and with `--contracts`; each file of lib/ has such a test;
+- the example at the head of each file, run with the same input, prints what stands behind its lines, blanks and line feeds aside;
 - docs/LIBRARY.md has the classes of the prelude and of lib/ in the sections of their files, and of each class the features that
   aren't private, no more and no fewer, with the heads that stand in the sources.
 
 --only takes the tries whose names hold a word."""
+import dataclasses
 import functools
 import glob
+import itertools
 import os
 import re
 import sys
@@ -34,6 +37,8 @@ BEHIND_HEAD = {'pre', 'post', 'is', ';'}
 SECTION = re.compile(r'## .*?`([^`]*)`')
 CLASS = re.compile(r'### `([^`]*)`')
 ROW = re.compile(r'\| (`[^|]*`) \| .')
+EXAMPLE = re.compile(r'--    (.*)')
+PRINTED = re.compile(r'\s-- (.*)')
 CODE = re.compile(r'`([^`]*)`')
 
 
@@ -126,20 +131,37 @@ def page_difference(of_source, of_page):
     return '; '.join(wrong) or None
 
 
+def left_by(program, test, name, options):
+    """What a program leaves that is run with a file of the library, and with the input of this file's test."""
+    given = bytes_of(os.path.join(TESTS, name + '.in')) or b''
+    files = {'test.sa': test, name + '.sa': bytes_of(os.path.join(LIB, name + '.sa'))}
+    with report.folder_with(files) as folder:
+        return report.run([program, 'run', *options, *files], folder, input=given)
+
+
 def test_difference(program, name):
     """What differs in the test of a file of the library, or None."""
     test, wanted = bytes_of(os.path.join(TESTS, name + '.sa')), bytes_of(os.path.join(TESTS, name + '.out'))
     if test is None or wanted is None:
         return 'lib/tests/%s.sa or lib/tests/%s.out is missing' % (name, name)
-    given = bytes_of(os.path.join(TESTS, name + '.in')) or b''
-    files = {'tests/%s.sa' % name: test, name + '.sa': bytes_of(os.path.join(LIB, name + '.sa'))}
-    with report.folder_with(files) as folder:
-        for options in OPTIONS:
-            left = report.run([program, 'run', *options, *files], folder, input=given)
-            wrong = report.difference(report.Left(wanted), left)
-            if wrong:
-                return ' '.join([*options, wrong])
+    for options in OPTIONS:
+        wrong = report.difference(report.Left(wanted), left_by(program, test, name, options))
+        if wrong:
+            return ' '.join([*options, wrong])
     return None
+
+
+def example_difference(program, name):
+    """What differs in the example at the head of a file, or None. One that says nothing of what it prints may print anything."""
+    head = itertools.takewhile(lambda line: line.startswith('--'), text_of(os.path.join(LIB, name + '.sa')).splitlines())
+    lines = [match.group(1) for line in head if (match := EXAMPLE.match(line))]
+    if not lines:
+        return 'there is no example at its head'
+    program_of_it = 'class MAIN is main is\n%s\nend; end;\n' % '\n'.join(lines)
+    wanted = ''.join(match.group(1) for line in lines if (match := PRINTED.search(line)))
+    left = left_by(program, program_of_it.encode(), name, OPTIONS[-1])
+    printed = b''.join(left.output.split()) if wanted else b''
+    return report.difference(report.Left(''.join(wanted.split()).encode()), dataclasses.replace(left, output=printed))
 
 
 def try_all(program, told, word=''):
@@ -147,10 +169,13 @@ def try_all(program, told, word=''):
     of_sources = {(file, head): features for file, text in sources().items() for head, features in classes(text).items()}
     of_page = classes_of_page()
     heads = [key for key in dict.fromkeys([*of_sources, *of_page]) if word in 'docs/LIBRARY.md %s: %s' % key]
-    chosen = [name for name in names() if word in 'lib/tests/%s.sa' % name]
-    told.part('library', len(chosen) + len(heads))
-    for name, wrong in zip(chosen, report.side_by_side(functools.partial(test_difference, program), chosen)):
+    tests = [name for name in names() if word in 'lib/tests/%s.sa' % name]
+    examples = [name for name in names() if word in 'lib/%s.sa' % name]
+    told.part('library', len(tests) + len(examples) + len(heads))
+    for name, wrong in zip(tests, report.side_by_side(functools.partial(test_difference, program), tests)):
         told.count('lib/tests/%s.sa' % name, wrong)
+    for name, wrong in zip(examples, report.side_by_side(functools.partial(example_difference, program), examples)):
+        told.count('lib/%s.sa' % name, wrong)
     for key in heads:
         told.count('docs/LIBRARY.md %s: %s' % key, page_difference(of_sources.get(key), of_page.get(key)))
 
