@@ -34,12 +34,14 @@ TOKEN = re.compile(r'--.*|"(?:\\.|[^"\\])*"|\'(?:\\.|[^\'\\])[0-7]*\'|\$?\w+!?|:
 BEGINS, ENDS = {'is', 'if', 'loop', 'case', 'typecase', 'protect'}, {'end'}
 # The words behind which no head of a feature goes on.
 BEHIND_HEAD = {'pre', 'post', 'is', ';'}
+# On the page: the section of a file, the heading of a class, and a row with heads of features in its first place.
 SECTION = re.compile(r'## .*?`([^`]*)`')
 CLASS = re.compile(r'### `([^`]*)`')
 ROW = re.compile(r'\| (`[^|]*`) \| .')
+CODE = re.compile(r'`([^`]*)`')
+# A line of the example at the head of a file, and what it says of what is printed.
 EXAMPLE = re.compile(r'--    (.*)')
 PRINTED = re.compile(r'\s-- (.*)')
-CODE = re.compile(r'`([^`]*)`')
 
 
 def text_of(path):
