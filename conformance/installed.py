@@ -6,7 +6,8 @@ Compares what ./install puts beside the program with the program, and tries ./in
 - The commands of the synopsis in man/sather.1 are those of the usage line, in its order, and each command takes the options that
   the synopsis gives it and no others; the options of the page are those of the synopsis, and its statuses those of docs/.
 - The completions of bash and zsh offer these commands, and for each command these options.
-- What is put below a folder runs, and is gone when it is taken out again, while what was there before stays.
+- What is put below a folder runs, also beside a class of the library, and is gone when it is taken out again, while what was there
+  before stays.
 
 --only takes the tries whose names hold a word."""
 import functools
@@ -122,7 +123,8 @@ def install_differs():
             left = report.run([INSTALL, prefix], folder)
             if left != Left():
                 return 'install left %r' % left
-        ran = report.run([os.path.join(prefix, 'bin', 'sather'), 'run', 'f.sa'], folder)
+        library = os.path.join(prefix, 'share', 'sather', 'lib', 'fmap.sa')
+        ran = report.run([os.path.join(prefix, 'bin', 'sather'), 'run', 'f.sa', library], folder)
         removed = report.run([INSTALL, '--remove', prefix], folder)
         if removed != Left() or files_below(folder) != before:
             return '--remove left %r and the files %s' % (removed, files_below(folder))
