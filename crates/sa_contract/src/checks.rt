@@ -49,7 +49,7 @@ impl Checks {
     ///
     /// E46 at the first that isn't, in the order of the features and of their statements: at the first token of a condition, and
     /// at the word `initial`.
-    #[tactic(auto, using(crate::proofs::FirstAt::firsts))]
+    #[tactic(auto, using(crate::proofs::FirstAt::features))]
     pub fn check_quiet(&self, core: &Core) -> Result<(), Refusal>
         ensures rule { IfErr result (λ refusal. refusal.rule ≡ ConditionNotQuiet) }
         ensures first { let first = first_in_features self.now core.now.features in
@@ -169,7 +169,7 @@ fn first_in_block(woven: &InFeature<'_>, list: &[StmtCore]) -> Option<Pos>
 }
 
 /// The same in a statement.
-#[tactic(auto, using(crate::proofs::FirstAt::firsts))]
+#[tactic(auto, using(sa_core::proofs::Copies::copies))]
 #[cycle(statement)]
 fn first_in(woven: &InFeature<'_>, s: &StmtCore) -> Option<Pos>
     ensures { result ≡ first_in (plain_checks woven.now) (stmt_of s.now) }
@@ -239,7 +239,7 @@ fn first_in_arms(woven: &InFeature<'_>, arms: &[ArmCore]) -> Option<Pos>
 }
 
 /// The check, where one of the tests isn't quiet.
-#[tactic(auto, using(crate::proofs::FirstAt::firsts))]
+#[tactic(auto, using(crate::proofs::FirstAt::tests))]
 fn loud_tests(check: Option<Pos>, tests: &[TestCore]) -> Option<Pos>
     ensures { result ≡ loud_tests check (tests_of tests.now) }
 {
@@ -253,7 +253,7 @@ fn loud_tests(check: Option<Pos>, tests: &[TestCore]) -> Option<Pos>
 }
 
 /// The check, where one of the expressions isn't quiet.
-#[tactic(auto, using(crate::proofs::FirstAt::firsts))]
+#[tactic(auto, using(crate::proofs::FirstAt::exprs))]
 fn loud_exprs(check: Option<Pos>, list: &[ExprCore]) -> Option<Pos>
     ensures { result ≡ loud_exprs check (exprs_of list.now) }
 {
