@@ -3,7 +3,7 @@
 use indexmap::IndexMap;
 use sa_subtypes::Edges;
 use sa_tree::{Mode, ModeTy, NoMemory, Ty};
-use sqlite_items::{Boxed, Items};
+use sqlite_items::Items;
 use std::alloc::{AllocError, Global};
 
 /// A bound type with its number.
@@ -65,27 +65,46 @@ impl<'a> Shapes<'a> {
     }
 }
 
-/// The kind, the modes and the presence of a result of a bound type, as bytes.
+/// The two kinds of bound types.
+#[derive(Clone, Copy)]
+enum Bound {
+    Rout,
+    Iter,
+}
+
+/// The kind, the presence of a result and the modes of a bound type, as bytes.
 fn shape_of(alloc: Global, ty: &Ty) -> Result<Option<Vec<u8>>, AllocError> {
     match ty {
         Ty::Named(_, _, _) | Ty::Same(_) => Ok(None),
-        Ty::Rout(args, gives, _) => Ok(Some(shape(alloc, 0, args.as_slice(), gives)?)),
-        Ty::Iter(args, gives, _) => Ok(Some(shape(alloc, 2, args.as_slice(), gives)?)),
+        Ty::Rout(args, gives, _) => {
+            let head = head_byte(Bound::Rout, gives.is_some());
+            Ok(Some(shape(alloc, head, args.as_slice())?))
+        }
+        Ty::Iter(args, gives, _) => {
+            let head = head_byte(Bound::Iter, gives.is_some());
+            Ok(Some(shape(alloc, head, args.as_slice())?))
+        }
     }
 }
 
-fn shape(
-    alloc: Global,
-    kind: u8,
-    args: &[ModeTy],
-    gives: &Option<Boxed<Ty>>,
-) -> Result<Vec<u8>, AllocError> {
+/// The first byte of a shape, and behind it those of the modes.
+fn shape(alloc: Global, head: u8, args: &[ModeTy]) -> Result<Vec<u8>, AllocError> {
     let mut bytes = Vec::new(alloc);
-    bytes.push(if gives.is_some() { kind | 1 } else { kind })?;
+    bytes.push(head)?;
     for arg in args {
         bytes.push(mode_byte(arg.mode))?;
     }
     Ok(bytes)
+}
+
+/// The byte of a kind, for a type with a result or without one.
+fn head_byte(bound: Bound, has_result: bool) -> u8 {
+    match (bound, has_result) {
+        (Bound::Rout, false) => 0,
+        (Bound::Rout, true) => 1,
+        (Bound::Iter, false) => 2,
+        (Bound::Iter, true) => 3,
+    }
 }
 
 fn mode_byte(mode: Mode) -> u8 {

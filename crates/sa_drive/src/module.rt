@@ -5,7 +5,7 @@ ghost use Rattle.sa_drive.specs.Built.{IsTried};
 
 use sa_core::{Core, FeatureCore, positions};
 use sa_dispatch::{Rows, rows};
-use sa_emit::{Emitted, emit, emit_traced};
+use sa_emit::{emit, emit_traced};
 use sa_flat::FlatProgram;
 use sa_lower::lower;
 use sa_tree::{NoMemory, Pos};
@@ -14,16 +14,18 @@ use sqlite_items::Items;
 use std::alloc::Global;
 use wa_encode::encode;
 use wa_run::runnable;
+use wa_syntax::Module;
 use wa_valid::Valid;
 
-/// A program's module, its bytes, and the positions that its faults name by number.
+/// A program's module, its bytes, and the positions that these name by number.
 #[derive(Drop)]
 pub struct Built {
     pub module: Valid,
     pub bytes: Vec<u8>,
+    /// Those that a stop names.
+    pub positions: Items<Pos>,
+    /// Those of the sites, which a traced module names.
     pub sites: Items<Pos>,
-    /// The positions of the iter calls, which a traced module names by number.
-    pub iter_calls: Items<Pos>,
 }
 
 /// The module of a typed program, traced or not, with so many KiB of room for its objects. Fails where memory runs out, also where a
@@ -32,16 +34,14 @@ pub fn module_of(alloc: Global, core: Core, room: u32, trace: Trace) -> Result<B
     ensures { IfOk result IsTried }
 {
     let positions = positions(alloc, &core)?;
-    let iter_calls = iter_calls(alloc, &core)?;
+    let sites = sites(alloc, &core)?;
     let flat = lower(alloc, &core, positions)?;
     let rows = rows(alloc, &core)?;
     drop(core);
-    let emitted = emitted(alloc, &flat, &rows, room, trace)?;
-    drop(flat);
-    match encode(alloc, &emitted.module) {
-        Ok(bytes) if bytes.len() < u32::MAX as usize => {
-            tried(alloc, bytes, emitted.sites, iter_calls)
-        }
+    let module = emitted(alloc, &flat, &rows, room, trace)?;
+    let FlatProgram { positions, .. } = flat;
+    match encode(alloc, &module) {
+        Ok(bytes) if bytes.len() < u32::MAX as usize => tried(alloc, bytes, positions, sites),
         _ => Err(NoMemory),
     }
 }
@@ -53,7 +53,7 @@ fn emitted(
     rows: &Rows,
     room: u32,
     trace: Trace,
-) -> Result<Emitted, NoMemory> {
+) -> Result<Module, NoMemory> {
     let emitted = match trace {
         Trace::Silent => emit(alloc, flat, rows, room),
         Trace::Told => emit_traced(alloc, flat, rows, room),
@@ -61,18 +61,19 @@ fn emitted(
     emitted.map_err(|_| NoMemory)
 }
 
-/// The positions of the iter calls of a program, feature by feature.
-fn iter_calls(alloc: Global, core: &Core) -> Result<Items<Pos>, NoMemory> {
-    let mut calls = Items::new(alloc);
+/// The positions of the sites of a program, feature by feature.
+fn sites(alloc: Global, core: &Core) -> Result<Items<Pos>, NoMemory> {
+    let mut sites = Items::new(alloc);
     for feature in core.features.as_slice() {
-        add_iter_calls(&mut calls, feature)?;
+        add_sites(&mut sites, feature)?;
     }
-    Ok(calls)
+    Ok(sites)
 }
 
-fn add_iter_calls(calls: &mut Items<Pos>, feature: &FeatureCore) -> Result<(), NoMemory> {
+/// Adds the positions of the sites of a feature.
+fn add_sites(to: &mut Items<Pos>, feature: &FeatureCore) -> Result<(), NoMemory> {
     for site in feature.sites.as_slice() {
-        calls.push(site.pos)?;
+        to.push(site.pos)?;
     }
     Ok(())
 }
@@ -81,8 +82,8 @@ fn add_iter_calls(calls: &mut Items<Pos>, feature: &FeatureCore) -> Result<(), N
 fn tried(
     alloc: Global,
     bytes: Vec<u8>,
+    positions: Items<Pos>,
     sites: Items<Pos>,
-    iter_calls: Items<Pos>,
 ) -> Result<Built, NoMemory>
     requires { length bytes.items < 4294967295 }
     ensures { IfOk result IsTried }
@@ -91,8 +92,8 @@ fn tried(
         Ok(module) => Ok(Built {
             module,
             bytes,
+            positions,
             sites,
-            iter_calls,
         }),
         Err(_answer) => Err(NoMemory),
     }

@@ -79,11 +79,11 @@ pub fn run_built<'a, I: Source, O: Sink>(
     let Built {
         module,
         bytes,
-        sites,
-        iter_calls: _,
+        positions,
+        sites: _,
     } = built;
     let ended = run_valid(alloc, &module, fuel, input, out);
-    let cause = at_place(ended.cause, sites.as_slice(), &sources);
+    let cause = at_place(ended.cause, positions.as_slice(), &sources);
     Ended { cause, ..ended }.outcome(sources, "", bytes, stats)
 }
 
@@ -112,29 +112,29 @@ fn run_valid<I: Source, O: Sink>(
 
 /// The cause of a program whose module ended with this one: where the module stopped, the fault at the position whose number
 /// it gave.
-pub fn at_place(cause: Cause, sites: &[Pos], sources: &Sources) -> Cause
+pub fn at_place(cause: Cause, positions: &[Pos], sources: &Sources) -> Cause
     ensures of_module { IsOfModule sources.now cause result }
     ensures placed { IsPlaced sources.now cause → IsPlaced sources.now result }
     ensures untouched { ComesBeforeOutput result → ComesBeforeOutput cause }
 {
     match cause {
-        Cause::Stopped(code, site) => fault_at(code, site, sites, sources),
+        Cause::Stopped(code, place) => fault_at(code, place, positions, sources),
         _ => cause,
     }
 }
 
 /// The fault of this kind at the position with this number. A stop that names no kind of a fault or no position of the
 /// program, which no module of a program makes, stays as it is.
-fn fault_at(code: u32, site: u32, sites: &[Pos], sources: &Sources) -> Cause
-    ensures of_module { IsOfModule sources.now (Cause.Stopped code site) result }
+fn fault_at(code: u32, place: u32, positions: &[Pos], sources: &Sources) -> Cause
+    ensures of_module { IsOfModule sources.now (Cause.Stopped code place) result }
     ensures placed { IsPlaced sources.now result }
     ensures later { ComesBeforeOutput result → ⊥ }
 {
     let Some(kind) = FaultKind::of_number(code) else {
-        return Cause::Stopped(code, site);
+        return Cause::Stopped(code, place);
     };
-    match sites.get(site as usize) {
+    match positions.get(place as usize) {
         Some(pos) if is_place_in(sources.texts.as_slice(), *pos) => Cause::Fault(kind, *pos),
-        _ => Cause::Stopped(code, site),
+        _ => Cause::Stopped(code, place),
     }
 }

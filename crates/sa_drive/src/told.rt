@@ -50,14 +50,14 @@ fn run_built_told<'a, I: Source, O: Sink, E: Sink>(
     let Built {
         module,
         bytes,
+        positions,
         sites,
-        iter_calls,
     } = built;
     let traced = run_traced(
         alloc,
         &module,
         fuel,
-        iter_calls.as_slice(),
+        sites.as_slice(),
         &sources,
         input,
         out,
@@ -65,7 +65,7 @@ fn run_built_told<'a, I: Source, O: Sink, E: Sink>(
     );
     let cause = cause_of(traced.run.answer, fuel);
     let ended = Ended {
-        cause: at_place(cause, sites.as_slice(), &sources),
+        cause: at_place(cause, positions.as_slice(), &sources),
         done: done_of(traced.run.answer),
         steps: traced.run.steps,
     };

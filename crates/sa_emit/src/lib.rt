@@ -18,4 +18,4 @@ mod targets;
 mod texts;
 mod types;
 
-pub use program::{Emitted, emit, emit_traced};
+pub use program::{emit, emit_traced};

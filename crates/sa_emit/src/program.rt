@@ -1,4 +1,4 @@
-//! A flat program as a module, with what its reader has to know of it.
+//! A flat program as a module.
 
 use crate::memory::memory_of;
 use crate::module::{main_of, module};
@@ -9,18 +9,8 @@ use sa_dispatch::Rows;
 use sa_emit_value::{Below, Program};
 use sa_flat::FlatProgram;
 use sa_runtime::trace::{Tellers, Tracing};
-use sa_tree::Pos;
-use sqlite_items::Items;
 use std::alloc::Global;
 use wa_syntax::{Module, NoMemory};
-
-/// A program as a module.
-#[derive(Drop)]
-pub struct Emitted {
-    pub module: Module,
-    /// The positions that places of faults and raises stand for.
-    pub sites: Items<Pos>,
-}
 
 /// The most sites that the bodies of a traced program have together.
 const MOST_SITES: u32 = 200_000;
@@ -31,12 +21,7 @@ const MOST_SITES: u32 = 200_000;
 ///
 /// `NoMemory`, also where an address or a number of the module doesn't fit 32 bits, and where a number of the program names
 /// nothing.
-pub fn emit(
-    alloc: Global,
-    flat: &FlatProgram,
-    rows: &Rows,
-    room: u32,
-) -> Result<Emitted, NoMemory> {
+pub fn emit(alloc: Global, flat: &FlatProgram, rows: &Rows, room: u32) -> Result<Module, NoMemory> {
     emitted(alloc, flat, rows, room, Tracing::Off)
 }
 
@@ -51,7 +36,7 @@ pub fn emit_traced(
     flat: &FlatProgram,
     rows: &Rows,
     room: u32,
-) -> Result<Emitted, NoMemory> {
+) -> Result<Module, NoMemory> {
     if sites_of(flat) > MOST_SITES {
         return Err(NoMemory);
     }
@@ -76,7 +61,7 @@ fn emitted(
     rows: &Rows,
     room: u32,
     tracing: Tracing,
-) -> Result<Emitted, NoMemory> {
+) -> Result<Module, NoMemory> {
     let slot_words = slot_words(flat, tracing)?;
     let memory = memory_of(alloc, flat, slot_bytes(slot_words)?, room)?;
     let below = Below::of(alloc, flat)?;
@@ -90,8 +75,5 @@ fn emitted(
         places: places.of.as_slice(),
         tracing,
     };
-    Ok(Emitted {
-        module: module(alloc, program, &memory, &places, room)?,
-        sites: Items::from_slice(alloc, flat.sites.as_slice())?,
-    })
+    module(alloc, program, &memory, &places, room)
 }

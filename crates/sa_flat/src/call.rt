@@ -46,7 +46,7 @@ pub struct Raised {
 /// What a fault of a step tells and where it goes.
 #[derive(Clone, Copy, Debug, PartialEq, Eq, Hash)]
 pub struct Fail {
-    /// The place of its position in the program's `sites`.
+    /// The place of its position in the program's `positions`.
     pub place: u32,
     /// The line of that position.
     pub line: u32,

@@ -41,8 +41,8 @@ pub struct FlatProgram {
     pub bodies: Items<FlatBody>,
     /// The different texts of the program.
     pub texts: Items<Name>,
-    /// The positions that faults name.
-    pub sites: Items<Pos>,
+    /// The positions that faults name by number.
+    pub positions: Items<Pos>,
     /// The number of attributes of each type.
     pub types: Items<u32>,
     /// For each implementation of a signature, in the order of the signatures and of their implementations, the number of

@@ -40,7 +40,7 @@ module _ (p : FlatProgram) where
 
   -- that of a position, or 0 where the program has none
   abbrev pub IsPlace : ℕ → Type 0
-  IsPlace place = place ≤ length p.sites - 1
+  IsPlace place = place ≤ length p.positions - 1
 
   abbrev pub IsConstant : FlatConst → Type 0
   IsConstant (const.Void ty) = IsType ty

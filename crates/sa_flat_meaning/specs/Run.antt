@@ -101,9 +101,9 @@ stopped output kind (Some at) = whole.Stopped output kind at
 
 abbrev pub end_of : FlatProgram → Outcome Ending → End
 end_of p (Gives (Returned v) s) = whole.Ended s.world.output (status_of (unwrap_or v Void))
-end_of p (Gives (Raised v place kind) s) = stopped s.world.output kind (slice_get p.sites place)
+end_of p (Gives (Raised v place kind) s) = stopped s.world.output kind (slice_get p.positions place)
 end_of p (Gives _ s) = whole.Stuck
-end_of p (Stops (Failed kind place) s) = stopped s.world.output (fault_number kind) (slice_get p.sites place)
+end_of p (Stops (Failed kind place) s) = stopped s.world.output (fault_number kind) (slice_get p.positions place)
 end_of p (Stops InputFailed s) = whole.InFault s.world.output
 end_of p (Stops _ s) = whole.Stuck
 end_of p (Exhausts s) = whole.Spent s.world.output

@@ -109,7 +109,7 @@ abbrev pub program : List FlatBody → List ℕ → List BindEntry → FlatProgr
 program bodies targets binds = record {
   bodies = bodies ++ last_body ∷ [];
   texts = [];
-  sites = here ∷ [];
+  positions = here ∷ [];
   types = map (λ t. length t.attrs) layouts;
   targets = targets;
   layouts = layouts;

@@ -1,5 +1,7 @@
 //! A whole typed program as a flat one.
 
+ghost use Rattle.std.specs.Prelude.{◌≡◌, IfOk, OnOk};
+
 use crate::features::feature_bodies;
 use crate::lines::line_numbers;
 use crate::run::run_body;
@@ -19,11 +21,13 @@ use std::alloc::Global;
 ///
 /// `NoMemory`, also where a number of the typed program is out of range, a position is in none of its texts, or an iter call stands
 /// outside loops.
-pub fn lower(alloc: Global, core: &Core, positions: Items<Pos>) -> Result<FlatProgram, NoMemory> {
+pub fn lower(alloc: Global, core: &Core, positions: Items<Pos>) -> Result<FlatProgram, NoMemory>
+    ensures positions { IfOk result (λ flat. flat.positions ≡ positions) }
+{
     let mut program = empty(alloc, positions);
     add_tables(alloc, core, &mut program)?;
     let types = type_numbers(alloc, core.types.as_slice())?;
-    let positions = program.sites.as_slice();
+    let positions = program.positions.as_slice();
     let lines = line_numbers(alloc, core.feeds.as_slice(), positions)?;
     let tables = Tables::new(alloc, positions, lines.as_slice(), types)?;
     let mut draft = Draft::new(alloc, tables);
@@ -41,7 +45,9 @@ fn add_bodies(
     core: &Core,
     draft: &mut Draft,
     program: &mut FlatProgram,
-) -> Result<(), NoMemory> {
+) -> Result<(), NoMemory>
+    ensures positions { OnOk result (program.new.positions ≡ program.old.positions) }
+{
     program.bodies = feature_bodies(alloc, core, draft)?;
     program.targets = targets(alloc, core, &draft.tables, &mut program.bodies)?;
     program.bodies.push(run_body(alloc, core, draft)?)?;
@@ -49,7 +55,9 @@ fn add_bodies(
 }
 
 /// Puts into a program what the typed one says of its types and shareds.
-fn add_tables(alloc: Global, core: &Core, program: &mut FlatProgram) -> Result<(), NoMemory> {
+fn add_tables(alloc: Global, core: &Core, program: &mut FlatProgram) -> Result<(), NoMemory>
+    ensures positions { OnOk result (program.new.positions ≡ program.old.positions) }
+{
     program.types = slots(alloc, core.types.as_slice())?;
     program.layouts = layouts(alloc, core.types.as_slice())?;
     program.shareds = shared_types(alloc, core.shareds.as_slice())?;
@@ -57,11 +65,13 @@ fn add_tables(alloc: Global, core: &Core, program: &mut FlatProgram) -> Result<(
 }
 
 /// A program with these positions and nothing else.
-fn empty(alloc: Global, positions: Items<Pos>) -> FlatProgram {
+fn empty(alloc: Global, positions: Items<Pos>) -> FlatProgram
+    ensures { result.positions ≡ positions }
+{
     FlatProgram {
         bodies: Items::new(alloc),
         texts: Items::new(alloc),
-        sites: positions,
+        positions,
         types: Items::new(alloc),
         targets: Items::new(alloc),
         layouts: Items::new(alloc),

@@ -3,4 +3,4 @@ use Rattle.sa_signatures.specs.declared.candidates.Candidates.{Candidates}
 use Rattle.sa_signatures.specs.Choice.{Call, call_of}
 
 abbrev pub call_in : Candidates → Call
-call_in held = call_of held.cands.now held.args.now held.wants held.edges.now
+call_in held = call_of held.cands.now held.args.now held.expects_result held.edges.now

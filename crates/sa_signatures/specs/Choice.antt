@@ -7,20 +7,20 @@ use Rattle.sa_signatures.specs.declared.fit.Cand.{Cand}
 use Rattle.sa_signatures.specs.Fit.{is_fit}
 use Rattle.sa_signatures.specs.Specificity.{is_as_specific}
 
--- a call: the candidates of its name, its arguments, whether its place wants a result, and the edges of the types
+-- a call: the candidates of its name, its arguments, whether its place expects a result, and the edges of the types
 pub record Call : Type 0 where
   pub cands : List Cand
   pub args : List ArgIn
-  pub wants : Bool
+  pub expects_result : Bool
   pub edges : Edges
 
 -- the call that these four make
 abbrev pub call_of : List Cand → List ArgIn → Bool → Edges → Call
-call_of cands args wants edges = record { cands = cands; args = args; wants = wants; edges = edges }
+call_of cands args expects_result edges = record { cands = cands; args = args; expects_result = expects_result; edges = edges }
 
 -- whether there is a candidate with this number, from 0, and it fits
 abbrev pub fits_at : Call → ℕ → Bool
-fits_at call k = option_map_or (is_fit call.edges call.args call.wants) (slice_get call.cands k) false
+fits_at call k = option_map_or (is_fit call.edges call.args call.expects_result) (slice_get call.cands k) false
 
 -- whether the first candidate is at least as specific as the second, by their numbers
 abbrev pub is_before : Call → ℕ → ℕ → Bool

@@ -40,4 +40,4 @@ takes edges param arg =
 
 -- whether the candidate fits: presence of a result, number, modes and types agree
 abbrev pub is_fit : Edges → List ArgIn → Bool → Cand → Bool
-is_fit edges args wants cand = beq (is_some cand.result) wants && pointwise (takes edges) cand.args args
+is_fit edges args expects_result cand = beq (is_some cand.result) expects_result && pointwise (takes edges) cand.args args

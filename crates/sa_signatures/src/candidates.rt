@@ -13,7 +13,7 @@ use sa_subtypes::Edges;
 pub struct Candidates<'a> {
     cands: &'a [Cand],
     args: &'a [ArgIn],
-    wants: bool,
+    expects_result: bool,
     edges: &'a Edges,
 }
 
@@ -21,15 +21,15 @@ impl<'a> Candidates<'a> {
     pub fn new(
         cands: &'a [Cand],
         args: &'a [ArgIn],
-        wants: bool,
+        expects_result: bool,
         edges: &'a Edges,
     ) -> Candidates<'a>
-        ensures { call_in result ≡ call_of cands.now args.now wants edges.now }
+        ensures { call_in result ≡ call_of cands.now args.now expects_result edges.now }
     {
         Candidates {
             cands,
             args,
-            wants,
+            expects_result,
             edges,
         }
     }
@@ -47,7 +47,7 @@ impl<'a> Candidates<'a> {
     {
         match self.cands.get(k) {
             None => false,
-            Some(cand) => fits(cand, self.args, self.wants, self.edges),
+            Some(cand) => fits(cand, self.args, self.expects_result, self.edges),
         }
     }
 

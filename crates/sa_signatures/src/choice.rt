@@ -20,20 +20,20 @@ pub enum Choice {
     Several(u32, u32),
 }
 
-/// The candidate that a call with these arguments chooses, where its place wants a result or wants none: the one that fits
+/// The candidate that a call with these arguments chooses, where its place expects a result or expects none: the one that fits
 /// and whose `in` and `once` types are subtypes of those of every other candidate that fits, `out` types being equal. It
 /// takes no memory.
 ///
 /// Each candidate is looked at a few times. But where several fit and none is chosen, each candidate up to `i` is compared
 /// with those that follow it, and an open argument that stands at parameters of several modes may make each pair be
 /// compared.
-pub fn choose(cands: &[Cand], args: &[ArgIn], wants: bool, edges: &Edges) -> Choice
+pub fn choose(cands: &[Cand], args: &[ArgIn], expects_result: bool, edges: &Edges) -> Choice
     requires few { length cands.now < 4294967295 }
-    ensures one { (k : ℕ) → (result ≡ Choice.One k) ↔ Chosen (call_of cands.now args.now wants edges.now) k }
-    ensures none { (result ≡ Choice.NoneFits) ↔ NoneFit (call_of cands.now args.now wants edges.now) }
-    ensures several { (i j : ℕ) → result ≡ Choice.Several i j → NamesPair (call_of cands.now args.now wants edges.now) i j }
+    ensures one { (k : ℕ) → (result ≡ Choice.One k) ↔ Chosen (call_of cands.now args.now expects_result edges.now) k }
+    ensures none { (result ≡ Choice.NoneFits) ↔ NoneFit (call_of cands.now args.now expects_result edges.now) }
+    ensures several { (i j : ℕ) → result ≡ Choice.Several i j → NamesPair (call_of cands.now args.now expects_result edges.now) i j }
 {
-    let call = Candidates::new(cands, args, wants, edges);
+    let call = Candidates::new(cands, args, expects_result, edges);
     let Some(first) = call.next_fit(0) else {
         return Choice::NoneFits;
     };

@@ -27,11 +27,11 @@ pub struct ArgIn {
     pub left: bool,
 }
 
-/// Whether a candidate fits a call with these arguments, whose place wants a result or wants none.
-pub fn fits(cand: &Cand, args: &[ArgIn], wants: bool, edges: &Edges) -> bool
-    ensures { result ≡ is_fit edges.now args.now wants cand.now }
+/// Whether a candidate fits a call with these arguments, whose place expects a result or expects none.
+pub fn fits(cand: &Cand, args: &[ArgIn], expects_result: bool, edges: &Edges) -> bool
+    ensures { result ≡ is_fit edges.now args.now expects_result cand.now }
 {
-    cand.result.is_some() == wants && take_all(cand.args.as_slice(), args, edges)
+    cand.result.is_some() == expects_result && take_all(cand.args.as_slice(), args, edges)
 }
 
 /// Whether there are as many arguments as parameters, and each parameter takes its argument.
