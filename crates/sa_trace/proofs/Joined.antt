@@ -1,11 +1,14 @@
 -- Frames one after another, and what is left of pieces.
-use Rattle.std.proofs.Common.{◌≡◌, ◌⊎◌, inl, inr, Bool, true, false, true≢false, ℕ, List, [], ◌∷◌, ◌++◌, refl, sym, ap, subst, ◌∙◌, append_assoc, append-nil}
+use Rattle.std.proofs.Common.{◌≡◌, ◌≢◌, ◌⊎◌, inl, inr, ◌+◌, ◌≤◌, Bool, true, false, true≢false, ℕ, List, [], ◌∷◌, ◌++◌, length, take, drop, refl, sym, ap, subst, ◌∙◌, arith, append_assoc, append-nil, length-drop}
+use Rattle.std.proofs.Math.Seq.{take-add}
 use Rattle.sa_tree.specs.declared.pos.Pos.{Pos}
 use Rattle.sa_tree.specs.declared.pos.Sources.{Sources}
 use Rattle.sa_trace.specs.declared.frame.Frame.{Frame}
 use Rattle.sa_trace.specs.declared.frame.Frame.TheVariants as frame
 use Rattle.sa_trace.specs.Frames.{AreFrames, ArePlaced, BeginsNone, IsFrame}
-use Rattle.sa_trace.specs.Pieces.{AreWrong, HasRead, Keeps, Left}
+use Rattle.sa_trace.specs.declared.first_frame.Found.{Found}
+use Rattle.sa_trace.specs.declared.first_frame.Found.TheVariants as found
+use Rattle.sa_trace.specs.Pieces.{AreWrong, Finds, HasRead, Keeps, Left, size_of}
 
 module _ (positions : List Pos) (sources : Sources) where
   -- frames behind frames
@@ -22,6 +25,28 @@ module _ (positions : List Pos) (sources : Sources) where
   -- one frame
   pub alone : (bytes : List ℕ) (one : Frame) → IsFrame positions sources bytes one → AreFrames positions sources bytes (one ∷ [])
   alone bytes one is = (bytes, [], sym (append-nil bytes), is, refl)
+
+  -- a frame more
+  pub one-more : (bytes : List ℕ) (at size : ℕ) (left : List ℕ) (frames more : List Frame) (one : Frame) → at ≤ length bytes → left ≡ drop at bytes → AreFrames positions sources (take at bytes) frames → size ≡ size_of one → IsFrame positions sources (take (size_of one) left) one → size_of one ≤ length left → more ≡ frames ++ one ∷ [] → (at + size ≤ length bytes) × AreFrames positions sources (take (at + size) bytes) more
+  one-more bytes at size left frames more one within left_is are size_is is fits more_is = (
+    omega (arith, within, fits, size_is, ap length left_is, length-drop at bytes),
+    subst (AreFrames positions sources (take (at + size) bytes)) (sym more_is)
+        (subst (λ (n : ℕ). AreFrames positions sources (take (at + n) bytes) (frames ++ one ∷ [])) (sym size_is)
+        (subst (λ (xs : List ℕ). AreFrames positions sources xs (frames ++ one ∷ [])) (sym (take-add at (size_of one) bytes))
+        (joined (take at bytes) (take (size_of one) (drop at bytes)) frames (one ∷ []) are (alone (take (size_of one) (drop at bytes)) one
+        (subst (λ (xs : List ℕ). IsFrame positions sources (take (size_of one) xs) one) left_is is))))),
+  )
+
+  -- where no whole frame is found there is none
+  pub found-none : (bytes : List ℕ) (what : Found) → Finds positions sources bytes what → ((one : Frame) → what ≢ found.Whole one) → BeginsNone positions sources bytes
+  found-none bytes (found.Whole one) finds none = absurd (none one refl)
+  found-none bytes found.Part finds none = finds
+  found-none bytes found.Wrong finds none = subst (BeginsNone positions sources) (append-nil bytes) (finds [])
+
+  -- what is left of bytes behind their frames, where this says whether no frame comes of it
+  pub keeps : (kept rest : List ℕ) (wrong : Bool) → kept ≡ rest → BeginsNone positions sources rest → (wrong ≡ true → AreWrong positions sources rest) → Keeps positions sources (record { begun = kept; wrong = wrong }) rest
+  keeps kept rest false is none wrongs = inl (refl, is, none)
+  keeps kept rest true is none wrongs = inr (refl, wrongs refl)
 
   -- the events of frames stand at places
   pub are-placed : (bytes : List ℕ) (frames : List Frame) → AreFrames positions sources bytes frames → ArePlaced sources frames

@@ -56,7 +56,7 @@ abbrev pub Hears : (before after : Listening) → (old new : Sink) → (lines : 
 Hears listening.Yes after old new lines =
     ((after ≡ listening.Yes) × Took old.taken new.taken lines)
     ⊎ (StopsListening after old new × TookFront old.taken new.taken lines)
-Hears before after old new lines = (after ≡ before) × (new.taken ≡ old.taken)
+Hears before after old new lines = (after ≡ before) × (new ≡ old)
 
 -- err takes a front of the lines, and listens as before unless it failed or had no memory
 abbrev pub HearsPart : (before after : Listening) → (old new : Sink) → (lines : List ℕ) → Type 0

@@ -1,6 +1,6 @@
 //! The frame that bytes begin with.
 
-ghost use Rattle.std.specs.Prelude.{◌≡◌, ◌∷◌, MatchOption, Some, slice_get};
+ghost use Rattle.std.specs.Prelude.{◌≡◌, ◌∷◌, Decides, MatchOption, Some, slice_get};
 ghost use Rattle.sa_trace.specs.Frames.{IsPlace};
 ghost use Rattle.sa_trace.specs.Pieces.{Finds, size_of};
 ghost use Rattle.sa_tree.specs.declared.pos.Pos.{Pos as Places};
@@ -74,7 +74,18 @@ fn place(site: u32, positions: &[Pos], sources: &Sources) -> Option<Pos>
     ensures { MatchOption result ((at : Places) → slice_get positions.now site ≡ Some at → IsPlace sources.now at → ⊥)
         (λ at. (slice_get positions.now site ≡ Some at) × IsPlace sources.now at) }
 {
-    let at = *positions.get(site as usize)?;
-    let text = sources.texts.get(at.file as usize)?;
-    (text.len() < u32::MAX as usize).then_some(at)
+    match positions.get(site as usize) {
+        Some(at) if is_place(*at, sources) => Some(*at),
+        _ => None,
+    }
+}
+
+/// Whether a position is in a text whose lines can be counted.
+fn is_place(at: Pos, sources: &Sources) -> bool
+    ensures { Decides result (IsPlace sources.now at) }
+{
+    match sources.texts.get(at.file as usize) {
+        Some(text) => text.len() < u32::MAX as usize,
+        None => false,
+    }
 }

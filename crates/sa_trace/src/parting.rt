@@ -1,8 +1,8 @@
 //! Frames that come in pieces.
 
-ghost use Rattle.std.specs.Prelude.{◌≡◌, ◌≤◌, ◌++◌, ℕ, List, [], false, drop, length, take, IfOk};
+ghost use Rattle.std.specs.Prelude.{◌≡◌, ◌≤◌, ◌++◌, ℕ, List, [], false, drop, length, take, IfOk, IsTrue};
 ghost use Rattle.sa_trace.specs.Frames.{AreFrames, ArePlaced, BeginsNone};
-ghost use Rattle.sa_trace.specs.Pieces.{HasRead};
+ghost use Rattle.sa_trace.specs.Pieces.{AreWrong, HasRead};
 ghost use Rattle.sa_trace.specs.declared.frame.Frame.{Frame as Frames};
 
 use crate::first_frame::{Found, first_frame};
@@ -60,12 +60,17 @@ impl Parting {
         self.begun.extend_from_slice(bytes)?;
         let (frames, end) = frames_of(alloc, self.begun.as_slice(), positions, sources)?;
         let rest = &self.begun[end..];
-        if let Found::Wrong = first_frame(rest, positions, sources) {
-            self.wrong = true;
-        }
+        self.wrong = are_wrong(rest, positions, sources);
         self.begun = Vec::from_slice(alloc, rest)?;
         Ok(frames)
     }
+}
+
+/// Whether no frame comes of the bytes, whatever follows.
+fn are_wrong(bytes: &[u8], positions: &[Pos], sources: &Sources) -> bool
+    ensures { IsTrue result → AreWrong positions.now sources.now bytes.now }
+{
+    matches!(first_frame(bytes, positions, sources), Found::Wrong)
 }
 
 /// The frames that the bytes begin with, and the place behind them.

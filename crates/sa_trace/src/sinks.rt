@@ -58,10 +58,12 @@ pub fn hand_on<O: Sink, E: Sink>(
 /// Holds a byte more.
 fn hold(held: &mut Vec<u8>, byte: u8) -> Result<(), Outage>
     ensures ok { OnOk result (held.new.items ≡ held.old.items ++ byte ∷ []) }
-    ensures err { OnErr result (held.new ≡ held.old) }
     ensures sure { IsOkUnless result Outage.NoMemory }
 {
-    held.push(byte).map_err(|_| Outage::NoMemory)
+    match held.push(byte) {
+        Ok(()) => Ok(()),
+        Err(_) => Err(Outage::NoMemory),
+    }
 }
 
 /// Puts the line of an event on err, if it still takes lines.
@@ -77,6 +79,7 @@ fn tell<E: Sink>(
         (sink (E.output err.new) (E.faults err.new)) (line sources.now event.now)) }
     ensures part { OnErr result (HearsPart listening.old listening.new (sink (E.output err.old) (E.faults err.old))
         (sink (E.output err.new) (E.faults err.new)) (line sources.now event.now)) }
+    ensures listened { OnErr result (listening.old ≡ Listening.Yes) }
     ensures sure { IsOkUnless result Outage.NoMemory }
     ensures count { E.faults err.old ≤ E.faults err.new }
 {
