@@ -60,11 +60,7 @@ pub front-behind : (a b c : Option (List ℕ)) (first more : List ℕ) → Took 
 front-behind a b c first more one (k, two) =
     (length first + k, subst (Took a c) (sym (past first more k (length first + k) refl)) (took-more a b c first (take k more) one two))
 
-pub front-none : (output : Option (List ℕ)) (bytes : List ℕ) → TookFront output output bytes
-front-none None bytes = (0, refl)
-front-none (Some taken) bytes = (0, ap Some (sym (append-nil taken)))
-
-rose-behind : (a b c : ℕ) → a ≤ b → Rose b c → Rose a c
+pub rose-behind : (a b c : ℕ) → a ≤ b → Rose b c → Rose a c
 rose-behind a b c before (inl less) = inl (omega (arith, before, less))
 rose-behind a b c before (inr last) = inr last
 
@@ -73,13 +69,6 @@ on-err (Ok value) holds = tt
 on-err (Err error) holds = holds
 
 -- ---- what err hears
-
-yes-failed : listening.Yes ≡ listening.Failed → ⊥
-yes-failed is = subst (λ (one : Listening). Is one) is tt
-  where
-    Is : Listening → Type 0
-    Is listening.Yes = Unit {0}
-    Is _ = ⊥
 
 pub hears-none : (before : Listening) (s : Sink) → Hears before before s s []
 hears-none listening.Yes s = inl (refl, took-none s.taken)
@@ -109,12 +98,12 @@ hears-more listening.NoMemory middle after old now new lines more count (is, sam
 pub hears-whole : (before after : Listening) (old new : Sink) (lines : List ℕ) → Hears before after old new lines → HearsPart before after old new lines
 hears-whole listening.Yes after old new lines (inl (is, took)) = (inl is, front-whole old.taken new.taken lines took)
 hears-whole listening.Yes after old new lines (inr (stops, front)) = (inr (inl stops), front)
-hears-whole listening.Failed after old new lines (is, same) = (inl is, subst (λ (s : Sink). TookFront old.taken s.taken lines) (sym same) (front-none old.taken lines))
-hears-whole listening.NoMemory after old new lines (is, same) = (inl is, subst (λ (s : Sink). TookFront old.taken s.taken lines) (sym same) (front-none old.taken lines))
+hears-whole listening.Failed after old new lines heard = heard
+hears-whole listening.NoMemory after old new lines heard = heard
 
 -- a part of a line behind lines
-pub hears-part : (before middle after : Listening) (old now new : Sink) (lines more : List ℕ) → old.faults ≤ now.faults → middle ≡ listening.Yes → Hears before middle old now lines → HearsPart middle after now new more → HearsPart before after old new (lines ++ more)
-hears-part listening.Yes middle after old now new lines more count listens (inl (is, took)) next =
+pub hears-part : (before middle after : Listening) (old now new : Sink) (lines more : List ℕ) → old.faults ≤ now.faults → Hears before middle old now lines → HearsPart middle after now new more → HearsPart before after old new (lines ++ more)
+hears-part listening.Yes middle after old now new lines more count (inl (is, took)) next =
     let heard = subst (λ (one : Listening). HearsPart one after now new more) is next in
     (after_is heard.0, front-behind old.taken now.taken new.taken lines more took heard.1)
   where
@@ -122,16 +111,17 @@ hears-part listening.Yes middle after old now new lines more count listens (inl 
     after_is (inl stays) = inl stays
     after_is (inr (inl (stops, rose))) = inr (inl (stops, rose-behind old.faults now.faults new.faults count rose))
     after_is (inr (inr none)) = inr (inr none)
-hears-part listening.Yes middle after old now new lines more count listens (inr ((is, rose), front)) next = absurd (yes-failed (sym listens ∙ is))
-hears-part listening.Failed middle after old now new lines more count listens (is, same) next = absurd (yes-failed (sym listens ∙ is))
-hears-part listening.NoMemory middle after old now new lines more count listens (is, same) next = absurd (yes-none (sym listens ∙ is))
-  where
-    yes-none : listening.Yes ≡ listening.NoMemory → ⊥
-    yes-none is = subst (λ (one : Listening). Is one) is tt
-      where
-        Is : Listening → Type 0
-        Is listening.Yes = Unit {0}
-        Is _ = ⊥
+hears-part listening.Yes middle after old now new lines more count (inr ((is, rose), front)) next =
+    let still = subst (λ (one : Listening). HearsPart one after now new more) is next in (
+      inr (inl (still.0, subst (λ (s : Sink). Rose old.faults s.faults) (sym still.1) rose)),
+      subst (λ (s : Sink). TookFront old.taken s.taken (lines ++ more)) (sym still.1) (front-longer old.taken now.taken lines more front),
+    )
+hears-part listening.Failed middle after old now new lines more count (is, same) next =
+    let still = subst (λ (one : Listening). HearsPart one after now new more) is next in
+    (still.0, still.1 ∙ same)
+hears-part listening.NoMemory middle after old now new lines more count (is, same) next =
+    let still = subst (λ (one : Listening). HearsPart one after now new more) is next in
+    (still.0, still.1 ∙ same)
 
 -- ---- the output and the lines of frames behind frames
 
@@ -215,8 +205,8 @@ module _ {sources : Sources} {front : List Frame} {held : List ℕ} {out_old out
   }
 
   -- or a part of it
-  pub event-part : (event : Event) (out_new : Sink) (after : Listening) (err_new : Sink) → Took out_now.taken out_new.taken held → middle ≡ listening.Yes → HearsPart middle after err_now err_new (line sources event) → TookFront out_old.taken out_new.taken (output_of (front ++ frame.Event event ∷ [])) × HearsPart before after err_old err_new (lines_of sources (front ++ frame.Event event ∷ []))
-  event-part event out_new after err_new took listens part = (
+  pub event-part : (event : Event) (out_new : Sink) (after : Listening) (err_new : Sink) → Took out_now.taken out_new.taken held → HearsPart middle after err_now err_new (line sources event) → TookFront out_old.taken out_new.taken (output_of (front ++ frame.Event event ∷ [])) × HearsPart before after err_old err_new (lines_of sources (front ++ frame.Event event ∷ []))
+  event-part event out_new after err_new took part = (
     subst (TookFront out_old.taken out_new.taken) (sym (output-event event)) (front-whole out_old.taken out_new.taken (output_of front) (all-sent out_new took)),
-    subst (HearsPart before after err_old err_new) (sym (lines-event event)) (hears-part before middle after err_old err_now err_new (lines_of sources front) (line sources event) so_far.err_count listens so_far.hears part),
+    subst (HearsPart before after err_old err_new) (sym (lines-event event)) (hears-part before middle after err_old err_now err_new (lines_of sources front) (line sources event) so_far.err_count so_far.hears part),
   )

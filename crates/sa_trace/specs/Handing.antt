@@ -58,10 +58,11 @@ Hears listening.Yes after old new lines =
     ⊎ (StopsListening after old new × TookFront old.taken new.taken lines)
 Hears before after old new lines = (after ≡ before) × (new ≡ old)
 
--- err takes a front of the lines, and listens as before unless it failed or had no memory
+-- err takes a front of the lines, and listens as before unless it failed or had no memory; where it doesn't listen it takes nothing
 abbrev pub HearsPart : (before after : Listening) → (old new : Sink) → (lines : List ℕ) → Type 0
-HearsPart before after old new lines =
-    ((after ≡ before) ⊎ StopsListening after old new ⊎ (after ≡ listening.NoMemory)) × TookFront old.taken new.taken lines
+HearsPart listening.Yes after old new lines =
+    ((after ≡ listening.Yes) ⊎ StopsListening after old new ⊎ (after ≡ listening.NoMemory)) × TookFront old.taken new.taken lines
+HearsPart before after old new lines = (after ≡ before) × (new ≡ old)
 
 -- the frames are handed on: their output to out, and the lines of their events to err
 pub record Hands (sources : Sources) (frames : List Frame) (out_old out_new : Sink) (before after : Listening)
@@ -69,11 +70,10 @@ pub record Hands (sources : Sources) (frames : List Frame) (out_old out_new : Si
   pub out : Took out_old.taken out_new.taken (output_of frames)
   pub err : Hears before after err_old err_new (lines_of sources frames)
 
--- the first of the frames are handed on, or a part of what they hold
-pub record HandsPart (sources : Sources) (frames : List Frame) (out_old out_new : Sink) (before after : Listening)
-    (err_old err_new : Sink) : Type 0 where
+-- out takes a front of the output of the first of the frames, and this is heard of their events
+pub record HandsFront (sources : Sources) (frames : List Frame) (out_old out_new : Sink) (Heard : (lines : List ℕ) → Type 0) : Type 0 where
   pub told : List Frame
   pub more : List Frame
   pub split : frames ≡ told ++ more
   pub out : TookFront out_old.taken out_new.taken (output_of told)
-  pub err : HearsPart before after err_old err_new (lines_of sources told)
+  pub err : Heard (lines_of sources told)

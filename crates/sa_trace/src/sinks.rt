@@ -3,7 +3,7 @@
 ghost use Rattle.std.specs.Prelude.{◌≡◌, ◌≤◌, ◌++◌, ◌∷◌, [], OnOk, OnErr, IsErrOf, IsOkUnless};
 ghost use Rattle.sa_outside.specs.Faults.{Rose};
 ghost use Rattle.sa_trace.specs.Frames.{ArePlaced, IsPlace};
-ghost use Rattle.sa_trace.specs.Handing.{Hands, HandsPart, Hears, HearsPart, line, sink};
+ghost use Rattle.sa_trace.specs.Handing.{Hands, HandsFront, Hears, HearsPart, line, sink};
 
 use crate::frame::{Event, Frame};
 use crate::line::line;
@@ -34,8 +34,12 @@ pub fn hand_on<O: Sink, E: Sink>(
     ensures ok { OnOk result (Hands sources.now frames.now (sink (O.output out.old) (O.faults out.old))
         (sink (O.output out.new) (O.faults out.new)) listening.old listening.new (sink (E.output err.old) (E.faults err.old))
         (sink (E.output err.new) (E.faults err.new))) }
-    ensures part { OnErr result (HandsPart sources.now frames.now (sink (O.output out.old) (O.faults out.old))
-        (sink (O.output out.new) (O.faults out.new)) listening.old listening.new (sink (E.output err.old) (E.faults err.old))
+    ensures part { OnErr result (HandsFront sources.now frames.now (sink (O.output out.old) (O.faults out.old))
+        (sink (O.output out.new) (O.faults out.new)) (HearsPart listening.old listening.new (sink (E.output err.old) (E.faults err.old))
+        (sink (E.output err.new) (E.faults err.new)))) }
+    // Where out fails, err has the whole lines.
+    ensures lines { IsErrOf result Outage.Failed → HandsFront sources.now frames.now (sink (O.output out.old) (O.faults out.old))
+        (sink (O.output out.new) (O.faults out.new)) (Hears listening.old listening.new (sink (E.output err.old) (E.faults err.old))
         (sink (E.output err.new) (E.faults err.new))) }
     ensures failed { IsErrOf result Outage.Failed → Rose (O.faults out.old) (O.faults out.new) }
     ensures out { O.faults out.old ≤ O.faults out.new }
@@ -79,7 +83,6 @@ fn tell<E: Sink>(
         (sink (E.output err.new) (E.faults err.new)) (line sources.now event.now)) }
     ensures part { OnErr result (HearsPart listening.old listening.new (sink (E.output err.old) (E.faults err.old))
         (sink (E.output err.new) (E.faults err.new)) (line sources.now event.now)) }
-    ensures listened { OnErr result (listening.old ≡ Listening.Yes) }
     ensures sure { IsOkUnless result Outage.NoMemory }
     ensures count { E.faults err.old ≤ E.faults err.new }
 {

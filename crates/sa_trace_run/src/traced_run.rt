@@ -1,22 +1,24 @@
-//! The run of a traced module, in stretches: after each one, what the module has put is parted into frames, and these are handed on.
+//! The run of a traced module, stretch after stretch.
 
-ghost use Rattle.std.specs.Prelude.{◌≡◌, ◌≤◌, ℕ, List, [], Some};
+ghost use Rattle.std.specs.Prelude.{◌≡◌, ◌≤◌, ℕ, List, [], None, Some, ⊥};
 ghost use Rattle.sa_outside.specs.Faults.{Rose};
 ghost use Rattle.sa_outside.specs.Output.{Grew};
-ghost use Rattle.sa_trace.specs.Handing.{sink};
-ghost use Rattle.sa_trace_run.specs.Traced.{AreTold, sinks};
+ghost use Rattle.sa_trace.specs.Handing.{Sink as Taken, sink};
+ghost use Rattle.sa_trace_run.specs.Stretches.{Beginning, GoesOn, HasRunTo};
+ghost use Rattle.sa_trace_run.specs.Traced.{AreTold, SoFar, sinks};
 ghost use Rattle.wa_run.specs.Answers.{IsBeforeRun, IsTold};
 ghost use Rattle.wa_run.specs.Modules.{SaysOfValid};
 ghost use Rattle.wa_run.specs.Runs.{HasRunModule, streams};
 ghost use Rattle.wa_syntax.specs.Runs.{IsLinked, SegmentsFit};
 ghost use Rattle.wa_syntax.specs.ValidModule.{IsValid};
 
-use sa_outside::{Outage, Sink, Source, SureSink};
-use sa_trace::{Listening, Parting, hand_on};
+use crate::stretch::{Running, stretch};
+use sa_outside::{Sink, Source};
+use sa_trace::{Listening, Parting};
 use sa_tree::{Pos, Sources};
 use std::alloc::Global;
 use wa_exec::{Host, Machine};
-use wa_run::{Answer, Run, answer_of_halt, answer_of_start, handed_on};
+use wa_run::{Answer, Run, answer_of_start};
 use wa_valid::Valid;
 
 /// How many steps a machine makes before what it has put is parted.
@@ -28,15 +30,6 @@ pub struct TracedRun {
     pub run: Run,
     /// Whether err has taken all lines of the trace.
     pub listening: Listening,
-}
-
-/// A run that has begun: the machine, what it has put and not handed on, and what has become of its frames.
-#[derive(Drop)]
-struct Running {
-    machine: Machine,
-    host: Host,
-    parting: Parting,
-    listening: Listening,
 }
 
 /// Runs a valid module whose output is frames, with at most `fuel` steps, where the sites of its program have these positions. The
@@ -100,7 +93,11 @@ pub fn run_traced<I: Source, O: Sink, E: Sink>(
 }
 
 /// The run of a module that made no step.
-fn unrun(answer: Answer) -> TracedRun {
+fn unrun(answer: Answer) -> TracedRun
+    ensures answer { result.run.answer ≡ answer }
+    ensures steps { result.run.steps ≡ 0 }
+    ensures listening { result.listening ≡ Listening.Yes }
+{
     TracedRun {
         run: Run { answer, steps: 0 },
         listening: Listening::Yes,
@@ -117,72 +114,25 @@ fn run_on<I: Source, O: Sink, E: Sink>(
     input: &mut I,
     out: &mut O,
     err: &mut E,
-) -> Answer {
+) -> Answer
+    requires halt { running.old.machine.halt ≡ None }
+    requires first { running.old.machine.steps ≡ 0 }
+    ensures told { IsTold result (Rose (I.faults input.old) (I.faults input.new)) (Rose (O.faults out.old) (O.faults out.new)) }
+    ensures runs { IsBeforeRun result → ⊥ }
+    ensures within { running.new.machine.steps ≤ fuel }
+    ensures ran { (b : Beginning) (out_old err_old : Taken)
+        → GoesOn b running.old.machine running.old.host (I.input input.old) (I.ended input.old) []
+        → SoFar positions.now sources.now [] running.old.parting (sinks out_old (sink (O.output out.old) (O.faults out.old)) err_old
+        (sink (E.output err.old) (E.faults err.old)) running.old.listening)
+        → (framed : List ℕ) × HasRunTo b fuel result running.new.machine.steps (I.input input.new) framed
+        × AreTold positions.now sources.now framed (sinks out_old (sink (O.output out.new) (O.faults out.new)) err_old
+        (sink (E.output err.new) (E.faults err.new)) running.new.listening) result }
+{
     let mut end = STRETCH.min(fuel);
-    let mut answer = run_stretch(alloc, running, end, positions, sources, input, out, err);
-    while answer == Answer::Spent && end < fuel {
+    let mut answer = stretch(alloc, running, end, positions, sources, input, out, err);
+    while matches!(answer, Answer::Spent) && end < fuel {
         end = end.saturating_add(STRETCH).min(fuel);
-        answer = run_stretch(alloc, running, end, positions, sources, input, out, err);
+        answer = stretch(alloc, running, end, positions, sources, input, out, err);
     }
     answer
-}
-
-/// Runs until so many steps are made in all, and hands on the frames that end there.
-fn run_stretch<I: Source, O: Sink, E: Sink>(
-    alloc: Global,
-    running: &mut Running,
-    end: u64,
-    positions: &[Pos],
-    sources: &Sources,
-    input: &mut I,
-    out: &mut O,
-    err: &mut E,
-) -> Answer {
-    let mut buffer = SureSink::new(alloc);
-    let halt = running
-        .machine
-        .step_until(end, &mut running.host, input, &mut buffer);
-    let answer = handed_on(answer_of_halt(halt), &mut running.host, &mut buffer);
-    match running.hand_on(alloc, buffer.taken(), positions, sources, out, err) {
-        Ok(()) => answer,
-        Err(outage) => running.answer_behind(answer, outage),
-    }
-}
-
-impl Running {
-    /// The answer of a stretch behind which an outage came. A fault of the input stands, since it came first.
-    fn answer_behind(&mut self, answer: Answer, outage: Outage) -> Answer {
-        match (answer, outage) {
-            (Answer::InFault, Outage::Failed) => Answer::InFault,
-            (Answer::InFault, Outage::NoMemory) => {
-                self.listening = Listening::NoMemory;
-                Answer::InFault
-            }
-            (_, Outage::Failed) => Answer::OutFault,
-            (_, Outage::NoMemory) => Answer::NoMemory,
-        }
-    }
-
-    /// Hands on the frames that end in these bytes.
-    fn hand_on<O: Sink, E: Sink>(
-        &mut self,
-        alloc: Global,
-        bytes: &[u8],
-        positions: &[Pos],
-        sources: &Sources,
-        out: &mut O,
-        err: &mut E,
-    ) -> Result<(), Outage> {
-        let Ok(frames) = self.parting.part(alloc, bytes, positions, sources) else {
-            return Err(Outage::NoMemory);
-        };
-        hand_on(
-            alloc,
-            frames.as_slice(),
-            sources,
-            &mut self.listening,
-            out,
-            err,
-        )
-    }
 }

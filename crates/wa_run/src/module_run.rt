@@ -142,6 +142,8 @@ pub fn handed_on<O: Sink>(answer: Answer, host: &mut Host, out: &mut O) -> Answe
     ensures output { Grew (O.output out.old) (O.output out.new) }
     ensures sink { O.faults out.old ≤ O.faults out.new }
     ensures closed { IsClosed answer result host.old (O.output out.old) (O.output out.new) }
+    // A run that can go on holds nothing then.
+    ensures empties { result ≡ Answer.Spent → host.new ≡ [] }
 {
     match answer {
         Answer::OutFault | Answer::NoMemory => answer,

@@ -1,6 +1,6 @@
 use Rattle.std.proofs.Common.{◌≡◌, ◌+◌, take, drop, subst, sym, arith}
 use Rattle.std.proofs.lemmas.List.{take-append-drop}
-use Rattle.std.proofs.lemmas.Result.{on_err_weaker}
+use Rattle.std.proofs.lemmas.Result.{IfErr-at_err, on_err_weaker}
 use Rattle.sa_outside.specs.Output.{Took, TookFront}
 use Rattle.sa_trace.specs.declared.frame.Frame.TheVariants as frame
 use Rattle.sa_trace.specs.Frames.{ArePlaced}
@@ -18,6 +18,40 @@ returns-in_err-hold-in-Byte-clause-part g c =
       out = none-sent c.loop-frame.invariant;
       err = heard-part c.loop-frame.invariant;
     })
+
+pub returns-in_err-hold-in-Byte-clause-lines : goal.returns-in_err-hold-in-Byte-clause-lines
+returns-in_err-hold-in-Byte-clause-lines g c = λ failed.
+    let i = c.loop-frame.frame-index in
+    record {
+      told = take i c.args.frames.now;
+      more = drop i c.args.frames.now;
+      split = sym (take-append-drop i c.args.frames.now);
+      out = none-sent c.loop-frame.invariant;
+      err = c.loop-frame.invariant.hears;
+    }
+
+pub returns-in_err-put-in-Event-clause-lines : goal.returns-in_err-put-in-Event-clause-lines
+returns-in_err-put-in-Event-clause-lines g c = λ failed.
+    let i = c.loop-frame.frame-index in
+    record {
+      told = take i c.args.frames.now;
+      more = drop i c.args.frames.now;
+      split = sym (take-append-drop i c.args.frames.now);
+      out = part-sent c.loop-frame.invariant _ (subst (TookFront _ _) c.as_slice.ensures.value c.in_err-put-in-Event.ensures.outage);
+      err = c.loop-frame.invariant.hears;
+    }
+
+pub returns-clause-lines : goal.returns-clause-lines
+returns-clause-lines g c = λ failed.
+    let i = c.loop-frame.frame-index in
+    let front = IfErr-at_err _ failed c.put-2.ensures.outage in
+    record {
+      told = take i c.args.frames.now;
+      more = drop i c.args.frames.now;
+      split = sym (take-append-drop i c.args.frames.now);
+      out = part-sent c.loop-frame.invariant _ (subst (TookFront _ _) c.as_slice-2.ensures.value front);
+      err = c.loop-frame.invariant.hears;
+    }
 
 pub returns-in_err-put-in-Event-clause-part : goal.returns-in_err-put-in-Event-clause-part
 returns-in_err-put-in-Event-clause-part g c =
@@ -44,7 +78,7 @@ returns-in_err-tell-in-Event-clause-part g c =
     let i = c.loop-frame.frame-index in
     let next = next-frame c.args.frames.now i _ (frame.Event c.in-Event.event) (omega arith) c.in-Event.is in
     let part = event-part c.loop-frame.invariant c.in-Event.event _ _ _ (subst (Took _ _) c.as_slice.ensures.value c.in_ok-put-in-Event.ensures.ok)
-    c.in_err-tell-in-Event.ensures.listened c.in_err-tell-in-Event.ensures.part
+    c.in_err-tell-in-Event.ensures.part
     in
     on-err c.from_residual-in_err-tell-in-Event.result (record {
       told = take (i + 1) c.args.frames.now;
