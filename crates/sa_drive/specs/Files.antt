@@ -1,9 +1,12 @@
 -- What a cause says of the files of a program.
-use Rattle.std.specs.Prelude.{◌≡◌, ◌<◌, ◌≤◌, ◌⊎◌, ⊤, ℕ, List, [], ◌∷◌, codes, length, slice_index_or, Option, None, Some}
+use Rattle.std.specs.Prelude.{◌≡◌, ◌<◌, ◌≤◌, ◌⊎◌, ⊤, ℕ, Bool, true, false, IsTrue, List, [], ◌∷◌}
+use Rattle.std.specs.Prelude.{codes, length, slice_index_or, Option, None, Some}
 use Rattle.sa_gen.specs.Generated.{generated}
 use Rattle.sa_tree.specs.declared.pos.Sources.{Sources}
 use Rattle.sa_tree.specs.declared.pos.Pos.{Pos}
 use Rattle.sa_tree.specs.declared.refusal.Refusal.{Refusal}
+use Rattle.sa_tree.specs.declared.rule.Rule.{Rule}
+use Rattle.sa_tree.specs.declared.rule.Rule.TheVariants as rule
 use Rattle.sa_outside.specs.Files.{Files}
 use Rattle.sa_prelude.specs.PreludeText.{prelude_text}
 use Rattle.sa_read.specs.Front.{IsRefusalOf, IsTakenUpTo}
@@ -21,9 +24,26 @@ pub record IsPlaceIn (texts : List (List ℕ)) (pos : Pos) : Type 0 where
   pub file : pos.file < length texts
   pub within : pos.at ≤ length (slice_index_or texts pos.file [])
 
+-- the rule is one that the checker decides, and none of tokens, of grammar or of the size of sources
+abbrev pub is_of_checker : Rule → Bool
+is_of_checker rule.BadByte = false
+is_of_checker rule.LiteralNotEnded = false
+is_of_checker rule.NumberTooLarge = false
+is_of_checker rule.NumberForm = false
+is_of_checker rule.UnknownEscape = false
+is_of_checker rule.UnexpectedToken = false
+is_of_checker rule.NestedTooDeep = false
+is_of_checker rule.WordNotTaken = false
+is_of_checker rule.SourceTooLarge = false
+is_of_checker _ = true
+
+-- the refusal can be the checker's of these texts
+abbrev pub IsByChecker : List (List ℕ) → Refusal → Type 0
+IsByChecker texts refusal = IsTakenUpTo texts (length texts) × IsTrue (is_of_checker refusal.rule)
+
 -- the refusal is that of these texts, at a place in one of them: the first by tokens and grammar, or else the checker's
 abbrev pub IsRefusalFor : List (List ℕ) → Refusal → Type 0
-IsRefusalFor texts refusal = (IsRefusalOf texts refusal ⊎ IsTakenUpTo texts (length texts)) × IsPlaceIn texts refusal.pos
+IsRefusalFor texts refusal = (IsRefusalOf texts refusal ⊎ IsByChecker texts refusal) × IsPlaceIn texts refusal.pos
 
 -- the refusal is that of the files: they are too large together, or it is that of their texts
 abbrev pub IsRefusedFor : Option Files → List (List ℕ) → Sources → Refusal → Type 0

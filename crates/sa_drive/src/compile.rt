@@ -4,12 +4,13 @@ ghost use Rattle.std.specs.Prelude.{◌≡◌, ◌≤◌, ◌<◌, ◌⊎◌, Al
 ghost use Rattle.sa_outside.specs.Faults.{Rose};
 ghost use Rattle.sa_read.specs.Front.{IsRefusalOf, IsTakenUpTo};
 ghost use Rattle.sa_drive.specs.Built.{IsTried};
-ghost use Rattle.sa_drive.specs.Files.{ComesOfFiles, ComesOfGenerated, Explains, ExplainsProgram};
+ghost use Rattle.sa_drive.specs.Files.{ComesOfFiles, ComesOfGenerated, Explains, ExplainsProgram, IsByChecker};
 ghost use Rattle.sa_drive.specs.Files.{IsTakenGenerated, IsTakenProgram, generated_sources};
 ghost use Rattle.sa_drive.specs.Lines.{IsPlaced};
 
 use crate::accepted::accepted;
 use crate::cause::Cause;
+use crate::checkers::is_of_checker;
 use crate::module::{Built, module_of};
 use crate::place::is_place_in;
 use sa_core::Core;
@@ -215,14 +216,16 @@ fn typed(alloc: Global, texts: &[Items<u8>], contracts: Contracts) -> Result<Cor
     };
     match accepted(alloc, declared, texts, contracts) {
         Ok(core) => Ok(core),
-        Err(FrontFault::Refused(refusal)) => Err(refused(refusal, texts)),
-        Err(FrontFault::NoMemory) => Err(Cause::NoMemory),
+        Err(FrontFault::Refused(refusal)) if is_of_checker(refusal.rule) => {
+            Err(refused(refusal, texts))
+        }
+        Err(_) => Err(Cause::NoMemory),
     }
 }
 
 /// The cause of the refusal of these texts. A refusal at no place in them, which no phase gives, is answered as out of memory.
 fn refused(refusal: Refusal, texts: &[Items<u8>]) -> Cause
-    requires { IsRefusalOf texts.now refusal ⊎ IsTakenUpTo texts.now (length texts.now) }
+    requires { IsRefusalOf texts.now refusal ⊎ IsByChecker texts.now refusal }
     ensures { Explains texts.now result }
 {
     if is_place_in(texts, refusal.pos) {

@@ -6,6 +6,7 @@ mod assemble;
 mod build;
 mod cause;
 mod check;
+mod checkers;
 mod compile;
 mod exec;
 mod lines;

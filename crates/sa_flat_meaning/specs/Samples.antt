@@ -167,7 +167,7 @@ calling = program (
 abbrev pub deep : FlatProgram
 deep = program (body (Some 0) [] 0 (blocks (block (Me 203 ∷ Call (plan (Body 0) main_type 203 [] None) ∷ []) (Return None)) []) ∷ []) [] []
 
--- The implementation gives an INT, and the signature a $OB, so that the implementation has a body of its own.
+-- The implementation gives an INT, and the signature a $OB, so that the implementation has an adapter.
 -- main is a:$A := #B; x:$OB := a.f; typecase x when INT then #OUT + x; end; end
 -- f:INT is return 7; end, in a class B < $A
 abbrev pub widening_of : FlatStep → FlatProgram
@@ -219,7 +219,7 @@ choosing = choosing_of (New 203 own_type fails)
 abbrev pub choosing_void : FlatProgram
 choosing_void = choosing_of (of_type 203 0)
 
--- The implementation takes a $OB where the signature has an INT, so that it has a body of its own, and the bind widens what
+-- The implementation takes a $OB where the signature has an INT, so that it has an adapter, and the bind widens what
 -- it keeps.
 -- main is a:$A := #B; r ::= bind(a.f(7)); #OUT + r.call; #OUT + r.call; end
 -- f(x:$OB):INT is typecase x when INT then return x; end; return 0; end, in a class B < $A

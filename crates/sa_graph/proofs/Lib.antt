@@ -1,3 +1,4 @@
 pub mod Firsts
 pub mod Turned
 pub mod Trials
+pub mod Ways

@@ -1,5 +1,5 @@
 -- Ways along other edges, and the other way round.
-use Rattle.std.proofs.Common.{◌≡◌, ℕ, List}
+use Rattle.std.proofs.Common.{ℕ, List}
 use Rattle.sa_graph.specs.Paths.{HasEdge, Leads, by_edge, by_edges}
 
 -- one edge, and then a way

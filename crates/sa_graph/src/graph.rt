@@ -2,11 +2,12 @@
 
 ghost use Rattle.std.specs.Prelude.{◌≡◌, IfOk, length};
 ghost use Rattle.sa_graph.specs.Paths.{IsFirstOnCycle, ends_of, node_count, starts_of};
+ghost use Rattle.sa_graph.specs.Reaching.{AreReaching};
 
 use crate::components::Components;
 use crate::grouped::Grouped;
 use crate::list::word;
-use crate::reach::edges_of_walk;
+use crate::reach::{Ways, edges_of_walk, ways_to};
 use crate::walk::leaving_order;
 use sa_tree::NoMemory;
 use std::alloc::Global;
@@ -146,6 +147,21 @@ impl Graph {
             Some(place) => Ok(Some(word(place)?)),
             None => Ok(None),
         }
+    }
+
+    /// For each node whether it is this one, or one edge or more lead from it to this one. The answer is found without a proof,
+    /// and then tried.
+    ///
+    /// # Errors
+    ///
+    /// `NoMemory`, also where there is no such node.
+    pub fn reaching(&self, alloc: Global, node: u32) -> Result<Vec<bool>, NoMemory>
+        ensures { IfOk result (λ marks. AreReaching self.now node marks.items) }
+    {
+        let ways = ways_to(alloc, &self.turned(alloc)?, node)?;
+        self.try_ways(&ways, node)?;
+        let Ways { marks, .. } = ways;
+        Ok(marks)
     }
 
     /// The same edges the other way round.

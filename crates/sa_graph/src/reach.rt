@@ -1,4 +1,4 @@
-//! A walk from a node along all edges, with the edge by which each node is reached.
+//! A walk from a node along all edges, with the edge by which each node is reached, and one back to a node.
 
 use crate::graph::Graph;
 use crate::list::{entry, put};
@@ -49,6 +49,59 @@ impl Reach {
         if entry(&self.edges, node as usize)?.is_none() {
             put(&mut self.edges, node as usize, Some(edge))?;
             self.waiting.push(node)?;
+        }
+        Ok(())
+    }
+}
+
+/// The nodes that lead to one, and how.
+#[derive(Drop)]
+pub(crate) struct Ways {
+    /// For each node whether it is the one, or leads to it.
+    pub(crate) marks: Vec<bool>,
+    /// For each of these the edge by which a way goes on.
+    pub(crate) edges: Vec<u32>,
+    /// How many edges the way has.
+    pub(crate) steps: Vec<u32>,
+}
+
+/// The nodes that lead to this one along the edges of a graph, of which `back` has the edges turned round.
+pub(crate) fn ways_to(alloc: Global, back: &Graph, node: u32) -> Result<Ways, NoMemory> {
+    let mut ways = Ways {
+        marks: vec![in alloc; false; back.count()]?,
+        edges: vec![in alloc; 0; back.count()]?,
+        steps: vec![in alloc; 0; back.count()]?,
+    };
+    let mut waiting = Vec::new(alloc);
+    put(&mut ways.marks, node as usize, true)?;
+    waiting.push(node)?;
+    // Each node waits once.
+    for place in 0..back.count() {
+        let Some(next) = waiting.get(place).copied() else {
+            break;
+        };
+        ways.add_starts(back, next, &mut waiting)?;
+    }
+    Ok(ways)
+}
+
+impl Ways {
+    /// Adds the nodes from which edges lead to a node.
+    fn add_starts(
+        &mut self,
+        back: &Graph,
+        node: u32,
+        waiting: &mut Vec<u32>,
+    ) -> Result<(), NoMemory> {
+        let steps = entry(&self.steps, node as usize)?.saturating_add(1);
+        for edge in back.from(node) {
+            let start = back.end(*edge).ok_or(NoMemory)?;
+            if !entry(&self.marks, start as usize)? {
+                put(&mut self.marks, start as usize, true)?;
+                put(&mut self.edges, start as usize, *edge)?;
+                put(&mut self.steps, start as usize, steps)?;
+                waiting.push(start)?;
+            }
         }
         Ok(())
     }

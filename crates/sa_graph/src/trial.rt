@@ -1,11 +1,14 @@
 //! Where a cycle was found, and that none was found before it, tried: by levels of the nodes, and by edges that lead back to a node.
+//! And the nodes that lead to one: by marks that are closed along edges, and by ways that go on with fewer steps.
 
 ghost use Rattle.std.specs.Prelude.{◌≡◌, IfOk, OnOk};
 ghost use Rattle.sa_graph.specs.Levels.{RisesAt, level_of};
 ghost use Rattle.sa_graph.specs.Paths.{IsEdge, IsOnCycle, NoneBefore};
+ghost use Rattle.sa_graph.specs.Reaching.{AreReaching, IsClosed, IsClosedAt, IsOnWay, WaysGoOn, is_set};
 
 use crate::graph::Graph;
-use crate::list::entry;
+use crate::list::{entry, word};
+use crate::reach::Ways;
 use sa_tree::NoMemory;
 
 impl Graph {
@@ -71,6 +74,101 @@ impl Graph {
         let from = entry(self.starts(), edge)?;
         Ok(from)
     }
+
+    /// Tries that exactly the marked nodes are this one or lead to it.
+    #[tactic(auto, using(crate::proofs::Ways::reaching))]
+    pub(crate) fn try_ways(&self, ways: &Ways, node: u32) -> Result<(), NoMemory>
+        ensures { OnOk result (AreReaching self.now node ways.now.marks.items) }
+    {
+        if !is_marked(ways.marks.as_slice(), node) {
+            return Err(NoMemory);
+        }
+        self.try_all_closed(ways.marks.as_slice())?;
+        self.try_all_ways(ways, node)?;
+        Ok(())
+    }
+
+    /// Tries that the start of each edge is marked where its end is.
+    #[tactic(auto, using(crate::proofs::Ways::closed))]
+    fn try_all_closed(&self, marks: &[bool]) -> Result<(), NoMemory>
+        ensures { OnOk result (IsClosed self.now marks.now) }
+    {
+        for place in 0..self.edges() {
+            self.try_closed(marks, place)?;
+        }
+        Ok(())
+    }
+
+    /// Tries the same of one edge.
+    #[tactic(auto, using(crate::proofs::Ways::closed_at))]
+    fn try_closed(&self, marks: &[bool], place: usize) -> Result<(), NoMemory>
+        ensures { OnOk result (IsClosedAt self.now marks.now place) }
+    {
+        let from = entry(self.starts(), place)?;
+        let next = entry(self.ends(), place)?;
+        if !is_marked(marks, next) {
+            return Ok(());
+        }
+        if !is_marked(marks, from) {
+            return Err(NoMemory);
+        }
+        Ok(())
+    }
+
+    /// Tries that a way goes on from each node that is marked, but for the one that is led to.
+    #[tactic(auto, using(crate::proofs::Ways::on_ways))]
+    fn try_all_ways(&self, ways: &Ways, to: u32) -> Result<(), NoMemory>
+        ensures { OnOk result (WaysGoOn self.now ways.now to) }
+    {
+        for number in 0..ways.marks.len() {
+            self.try_way(ways, to, word(number)?)?;
+        }
+        Ok(())
+    }
+
+    /// Tries the same of one node.
+    #[tactic(auto, using(crate::proofs::Ways::on_way))]
+    fn try_way(&self, ways: &Ways, to: u32, node: u32) -> Result<(), NoMemory>
+        ensures { OnOk result (IsOnWay self.now ways.now to node) }
+    {
+        if node == to {
+            return Ok(());
+        }
+        if !is_marked(ways.marks.as_slice(), node) {
+            return Ok(());
+        }
+        let next = self.end_of(ways.edges.as_slice(), node)?;
+        if !is_marked(ways.marks.as_slice(), next) {
+            return Err(NoMemory);
+        }
+        let left = level(ways.steps.as_slice(), node);
+        let fewer = level(ways.steps.as_slice(), next);
+        if fewer >= left {
+            return Err(NoMemory);
+        }
+        Ok(())
+    }
+
+    /// The end of the edge that is known for a node, at which the edge has to begin.
+    #[tactic(auto, using(crate::proofs::Ways::ends))]
+    fn end_of(&self, edges: &[u32], node: u32) -> Result<u32, NoMemory>
+        ensures { IfOk result (λ next. IsEdge self.now node next) }
+    {
+        let edge = entry(edges, node as usize)? as usize;
+        let from = entry(self.starts(), edge)?;
+        if from != node {
+            return Err(NoMemory);
+        }
+        let next = entry(self.ends(), edge)?;
+        Ok(next)
+    }
+}
+
+/// Whether a node is marked.
+fn is_marked(marks: &[bool], node: u32) -> bool
+    ensures { result ≡ is_set marks.now node }
+{
+    marks.get(node as usize).copied().unwrap_or(false)
 }
 
 /// The level of a node.

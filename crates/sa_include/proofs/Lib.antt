@@ -1,2 +1,1 @@
 pub mod WrittenLemmas
-pub mod Nothing

@@ -1,5 +1,1 @@
 pub mod Stub
-pub mod Signatures
-pub mod Shapes
-pub mod Clashes
-pub mod Known

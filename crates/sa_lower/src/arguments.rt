@@ -1,7 +1,7 @@
 //! The arguments of a body that is made for an implementation of a signature: as that takes them, and those that are widened
 //! behind the call.
 
-use crate::own_body::no_position;
+use crate::adapter::no_position;
 use crate::passing::{Passing, passing_of};
 use crate::signatures::Implemented;
 use sa_flat::{FlatArg, FlatFormal, FlatStep};

@@ -2,12 +2,12 @@
 //! what goes in or comes out, and the body that a run begins with.
 #![tactic(auto)]
 
+mod adapter;
+mod adapter_iter;
 mod arguments;
 mod features;
 mod giving;
 mod lines;
-mod own_body;
-mod own_iter;
 mod passing;
 mod run;
 mod signatures;

@@ -1,7 +1,7 @@
 //! The body that a run begins with: it evaluates the initialisers of the shareds in their order, each for a turn and with the
 //! void value of its class as `self`, and calls `main`.
 
-use crate::own_body::no_position;
+use crate::adapter::no_position;
 use sa_core::{Core, SharedCore};
 use sa_flat::{CallPlan, Callee, FlatBody, FlatConst, FlatExit, FlatStep};
 use sa_lower_draft::{BodyHead, Draft, Inside, OpenBody};

@@ -1,8 +1,8 @@
-//! The body that does each implementation of a signature: that of the feature, or a body of its own. As soon as one
-//! implementation of a signature needs a body of its own, all of them have one, so that a dispatched call, which doesn't know
+//! The body that does each implementation of a signature: that of the feature, or an adapter around it. As soon as one
+//! implementation of a signature needs an adapter, all of them have one, so that a dispatched call, which doesn't know
 //! which one it will reach, can make the checks of a call for all or for none.
 
-use crate::own_body::own_body;
+use crate::adapter::adapter;
 use crate::passing::{Passing, passing_of, widened_result};
 use crate::signatures::{Implemented, SignatureTypes, signature_types};
 use sa_core::{Core, ImplCore, SigCore, Target};
@@ -24,8 +24,8 @@ pub(crate) fn targets(
     let mut targets = Items::new(alloc);
     for signature in core.sigs.as_slice() {
         let types = signature_types(alloc, tables, signature)?;
-        if needs_own_bodies(core, signature, &types)? {
-            add_own_bodies(alloc, core, signature, &types, bodies, &mut targets)?;
+        if needs_adapters(core, signature, &types)? {
+            add_adapters(alloc, core, signature, &types, bodies, &mut targets)?;
         } else {
             add_features(signature.impls.as_slice(), &mut targets)?;
         }
@@ -33,8 +33,8 @@ pub(crate) fn targets(
     Ok(targets)
 }
 
-/// A body of its own for each implementation of a signature.
-fn add_own_bodies(
+/// An adapter for each implementation of a signature.
+fn add_adapters(
     alloc: Global,
     core: &Core,
     signature: &SigCore,
@@ -49,7 +49,7 @@ fn add_own_bodies(
             implementation,
             types,
         };
-        bodies.push(own_body(alloc, implemented)?)?;
+        bodies.push(adapter(alloc, implemented)?)?;
         targets.push(number)?;
     }
     Ok(())
@@ -70,8 +70,8 @@ fn feature_number(target: Target) -> Option<u32> {
     }
 }
 
-/// Whether the implementations of a signature have bodies of their own.
-fn needs_own_bodies(
+/// Whether the implementations of a signature have adapters.
+fn needs_adapters(
     core: &Core,
     signature: &SigCore,
     types: &SignatureTypes,
@@ -82,7 +82,7 @@ fn needs_own_bodies(
             implementation,
             types,
         };
-        if needs_own_body(implemented)? {
+        if needs_adapter(implemented)? {
             return Ok(true);
         }
     }
@@ -90,7 +90,7 @@ fn needs_own_bodies(
 }
 
 /// Whether an implementation is no feature, or is called with another receiver, arguments or result than the signature has.
-fn needs_own_body(implemented: Implemented<'_>) -> Result<bool, NoMemory> {
+fn needs_adapter(implemented: Implemented<'_>) -> Result<bool, NoMemory> {
     if feature_number(implemented.implementation.target).is_none() {
         return Ok(true);
     }

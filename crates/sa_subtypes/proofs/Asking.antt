@@ -8,7 +8,7 @@ use Rattle.sa_tree.specs.declared.pos.Pos.{Pos}
 use Rattle.sa_tree.specs.declared.ty.ModeTy.{ModeTy}
 use Rattle.sa_tree.specs.declared.ty.Ty.{Ty}
 use Rattle.sa_tree.specs.declared.ty.Ty.TheVariants as ty
-use Rattle.sa_tree.specs.Types.{BareTy, Named, Same, Rout, Iter, no_types, bare, all_bare, bare_tys}
+use Rattle.sa_tree.specs.Types.{BareTy, Named, no_types, bare, all_bare, bare_tys}
 use Rattle.sa_tree.specs.TypeEquality.{same_type, same_types}
 use Rattle.sa_tree.proofs.BareTypes.{bare-Named, bare-Same, bare-Rout, bare-Iter}
 use Rattle.sa_tree.proofs.TypeTests.{same_types-all_bare}

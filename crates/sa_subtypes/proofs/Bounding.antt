@@ -6,7 +6,7 @@ use Rattle.sa_tree.specs.declared.pos.Pos.{Pos}
 use Rattle.sa_tree.specs.declared.ty.ModeTy.{ModeTy}
 use Rattle.sa_tree.specs.declared.ty.Ty.{Ty}
 use Rattle.sa_tree.specs.declared.ty.Ty.TheVariants as ty
-use Rattle.sa_tree.specs.Types.{BareTy, Named, Same, Rout, Iter, bare, bare_arg, all_bare_args, option_bare}
+use Rattle.sa_tree.specs.Types.{BareTy, Rout, Iter, bare, bare_arg, all_bare_args, option_bare}
 use Rattle.sa_tree.proofs.BareTypes.{bare-Named, bare-Same, bare-Rout, bare-Iter, bare_arg-parts, by_variants}
 use Rattle.sa_tree.specs.TypeEquality.{same_mode, same_type}
 use Rattle.sa_subtypes.specs.Bounds.{goes_by, rises, stands_as, holds, args_hold, arg_holds, result_holds}

@@ -1,5 +1,5 @@
 -- The edges of the relation and those that the classes declare as nodes are the same: each edge of the relation is spelled by the nodes of one that is declared, at terms for its variables; and the nodes of each that is declared, at any terms, are read as an edge of the relation.
-use Rattle.std.proofs.Common.{◌≡◌, inl, inr, ◌≢◌, true≢false, ℕ, zero, suc, ◌+◌, ◌<◌, Bool, true, false, cond, nat_eq, List, [], ◌∷◌, ◌++◌, Option, Some, None, length, flat_map, slice_get, refl, sym, ap, subst, ◌∙◌, arith}
+use Rattle.std.proofs.Common.{◌≡◌, inl, inr, ◌≢◌, true≢false, ℕ, zero, suc, ◌<◌, Bool, true, false, cond, nat_eq, List, [], ◌∷◌, ◌++◌, Option, Some, None, length, flat_map, slice_get, refl, sym, ap, subst, ◌∙◌, arith}
 use Rattle.std.proofs.lemmas.Bool.{eqb-true, eq-eqb}
 use Rattle.std.proofs.lemmas.Option.{none-some, slice_get_within}
 use Rattle.sa_tree.specs.declared.class.Class.{Class}

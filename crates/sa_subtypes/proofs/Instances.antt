@@ -10,7 +10,7 @@ use Rattle.sa_tree.specs.declared.ty.Ty.TheOpen.{Ty-F}
 use Rattle.sa_tree.specs.declared.ty.Ty.TheFolds.{map-Ty, ind-Ty}
 use Rattle.sa_tree.specs.declared.ty.Ty.TheVariants as ty
 use Rattle.sa_tree.specs.declared.ty.Ty.TheViews.{roll-Ty}
-use Rattle.sa_tree.specs.Types.{BareTy, Named, Same, Rout, Iter, type, arg, gives, bare, bare_arg, all_bare, all_bare_args, option_bare}
+use Rattle.sa_tree.specs.Types.{BareTy, Named, Rout, Iter, type, arg, gives, bare, bare_arg, all_bare, all_bare_args, option_bare}
 use Rattle.sa_tree.proofs.BareTypes.{bare-Named, bare-Same, bare-Rout, bare-Iter, bare_arg-parts, by_variants}
 use Rattle.sa_types.specs.Substitution.{place_of, given_for, placed, named_alone, named, substituted, substituted_arg}
 use Rattle.sa_types.proofs.Substituting.{placed-Named, placed-Same, placed-Rout, placed-Iter, substituted-Named, substituted-Same, substituted-Rout, substituted-Iter, substituted_arg-parts}

@@ -1,5 +1,5 @@
 -- What is among the elements of a list, by cases on the list.
-use Rattle.std.proofs.Common.{◌≡◌, ◌⊎◌, inl, inr, ℕ, zero, suc, ◌+◌, ◌<◌, List, [], ◌∷◌, ◌++◌, Contains, length, get_or, flat_map, refl, sym, subst, arith}
+use Rattle.std.proofs.Common.{◌≡◌, ◌⊎◌, inl, inr, ℕ, zero, suc, ◌<◌, List, [], ◌∷◌, ◌++◌, Contains, length, get_or, flat_map, refl, sym, subst, arith}
 
 module _ {A : Type 0} where
   abbrev pub Among : A → List A → Type 0

@@ -7,7 +7,7 @@ use Rattle.std.proofs.lemmas.Bool.{eqb-true, eq-eqb}
 use Rattle.std.proofs.lemmas.List.{append_cancel_left, append-nil}
 use Rattle.std.proofs.lemmas.Option.{none-some}
 use Rattle.sa_tree.specs.TypeEquality.{same_type_Decides}
-use Rattle.sa_tree.specs.Types.{BareTy, BareTys, type, bare_tys}
+use Rattle.sa_tree.specs.Types.{BareTy, BareTys, bare_tys}
 use Rattle.sa_subtypes_pairs.specs.declared.pattern.Node.{Node}
 use Rattle.sa_subtypes_pairs.specs.declared.pattern.Node.TheVariants as node
 use Rattle.sa_subtypes.specs.Questions.{term_of, IsPairFor, Seen, found, past, unlike, walk_all, sought, seeking, item_seen, first_in, is_number, counts_up, value_below, value_from, same_item, stands, passed_if, comparing, is_past, is_end, both_fit, class_fits, upper_fits, first_fits, pair_fits}

@@ -1,8 +1,7 @@
 -- What the edges of a program are refused by, from what its tables say.
-use Rattle.std.proofs.Common.{◌≡◌, ℕ, List, [], ◌∷◌, Option, None, Some, map, slice_get, refl, sym, ap, subst, ◌∙◌, inl, inr}
+use Rattle.std.proofs.Common.{◌≡◌, ℕ, List, [], ◌∷◌, None, Some, map, slice_get, refl, sym, ap, subst, ◌∙◌, inl, inr}
 use Rattle.std.proofs.Math.Path.{fun_ext}
 use Rattle.std.specs.List.{Contains}
-use Rattle.sa_tree.specs.declared.class.Class.{Class}
 use Rattle.sa_tree.specs.declared.class.Flat.{Flat}
 use Rattle.sa_tree.specs.declared.pos.Pos.{Pos}
 use Rattle.sa_tree.specs.declared.refusal.FrontFault.{FrontFault}
@@ -11,19 +10,19 @@ use Rattle.sa_tree.specs.declared.refusal.Refusal.{Refusal}
 use Rattle.sa_tree.specs.declared.rule.Rule.TheVariants as rule
 use Rattle.sa_subtypes_pairs.specs.declared.names.Names.{Names}
 use Rattle.sa_subtypes_pairs.specs.declared.written.Written.{Written}
-use Rattle.sa_subtypes_pairs.specs.Edges.{EdgeNodes, declared_edges, edge_of, ends_written, seen}
+use Rattle.sa_subtypes_pairs.specs.Edges.{declared_edges, edge_of, ends_written, seen}
 use Rattle.sa_subtypes_pairs.specs.Numbers.{AreNamesOf, class_place, kind_of_name, number_in}
 use Rattle.sa_subtypes_pairs.specs.Supertypes.{misplaced}
 use Rattle.sa_subtypes_lineage.specs.Cycles.{HasNoCycle, IsBetween, RefusesCycle}
 use Rattle.sa_subtypes_lineage.proofs.Between.{first_along, none_along}
-use Rattle.sa_subtypes.specs.Refusals.{AreEdgesRight, ClassEdge, RefusesEdges, kind_named, misplaced_in}
+use Rattle.sa_subtypes.specs.Refusals.{AreEdgesRight, ClassEdge, RefusesEdges, ends_declared, kind_named, misplaced_in}
 use Rattle.sa_subtypes.proofs.ClassFacts.{kind-named}
 
 none_first : {A : Type 0} (xs : List A) → None ≡ slice_get xs 0 → xs ≡ []
 none_first [] h = refl
 none_first (x ∷ xs) h = cc
 
-ends_seen : (written : List Written) → map (λ (e : EdgeNodes). (e.0, e.1)) (map edge_of written) ≡ map ends_written written
+ends_seen : (written : List Written) → map ends_declared (map edge_of written) ≡ map ends_written written
 ends_seen [] = refl
 ends_seen (e ∷ written) = ap (λ es. ends_written e ∷ es) (ends_seen written)
 
@@ -44,8 +43,8 @@ module _ (flat : Flat) (names : Names) (are : AreNamesOf flat.classes names) whe
   none_misplaced none = sym supertypes ∙ none_first (misplaced (kind_of_name names) flat.classes) none
 
   module _ (written : List Written) (all : seen written ≡ declared_edges (number_in names.places) flat.classes) where
-    same : map (λ (e : EdgeNodes). (e.0, e.1)) (declared_edges (class_place flat.classes 0) flat.classes) ≡ map ends_written written
-    same = ap (λ number. map (λ (e : EdgeNodes). (e.0, e.1)) (declared_edges number flat.classes)) (sym (fun_ext are.0)) ∙ ap (map (λ (e : EdgeNodes). (e.0, e.1))) (sym all) ∙ ends_seen written
+    same : map ends_declared (declared_edges (class_place flat.classes 0) flat.classes) ≡ map ends_written written
+    same = ap (λ number. map ends_declared (declared_edges number flat.classes)) (sym (fun_ext are.0)) ∙ ap (map ends_declared) (sym all) ∙ ends_seen written
 
     forth : (a b : ℕ) → IsBetween written a b → ClassEdge flat a b
     forth a b h = subst (λ ps. Contains ps (a, b)) (sym same) h

@@ -8,11 +8,15 @@ use Rattle.sa_tree.specs.declared.refusal.FrontFault.{FrontFault}
 use Rattle.sa_tree.specs.declared.refusal.FrontFault.TheVariants.{NoMemory, Refused}
 use Rattle.sa_tree.specs.declared.refusal.Refusal.{Refusal}
 use Rattle.sa_tree.specs.declared.rule.Rule.TheVariants as rule
-use Rattle.sa_subtypes_pairs.specs.Edges.{declared_edges}
+use Rattle.sa_subtypes_pairs.specs.Edges.{EdgeNodes, declared_edges}
 use Rattle.sa_subtypes_pairs.specs.Numbers.{class_place}
 use Rattle.sa_subtypes_pairs.specs.Supertypes.{misplaced}
 use Rattle.sa_subtypes_lineage.specs.Cycles.{HasNoCycle, IsFirstCycle}
 use Rattle.sa_subtypes.specs.Subtypes.{class_named}
+
+-- the numbers of the two classes of an edge
+abbrev pub ends_declared : EdgeNodes → ℕ × ℕ
+ends_declared e = (e.0, e.1)
 
 module _ (flat : Flat) where
   abbrev pub kind_named : List ℕ → Option Kind
@@ -24,7 +28,7 @@ module _ (flat : Flat) where
 
   -- an edge that a class declares leads from one class to another, by their numbers and whatever their parameters are
   abbrev pub ClassEdge : ℕ → ℕ → Type 0
-  ClassEdge lower upper = Contains (map (λ e. (e.0, e.1)) (declared_edges (class_place flat.classes 0) flat.classes)) (lower, upper)
+  ClassEdge lower upper = Contains (map ends_declared (declared_edges (class_place flat.classes 0) flat.classes)) (lower, upper)
 
   -- the first type after `<` that is no abstract class
   pub record RefusesSupertype (refusal : Refusal) : Type 0 where

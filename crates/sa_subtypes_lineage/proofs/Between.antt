@@ -1,5 +1,5 @@
 -- The edges of the graph of the classes are those that are written, and so are the cycles.
-use Rattle.std.proofs.Common.{◌≡◌, ℕ, zero, suc, ◌<◌, List, [], ◌∷◌, Option, Some, None, length, get_or, map, slice_get, refl, sym, ap, subst, ◌∙◌, arith}
+use Rattle.std.proofs.Common.{◌≡◌, ℕ, zero, suc, ◌<◌, List, [], ◌∷◌, Some, length, get_or, map, slice_get, sym, ap, subst, ◌∙◌, arith}
 use Rattle.std.specs.List.{Contains}
 use Rattle.sa_graph.specs.Paths.{HasEdge, IsEdge, IsFirst, Leads, NoneBefore, node_count}
 use Rattle.sa_graph.specs.Paths as paths
@@ -36,7 +36,7 @@ some_pair : (edges : List Edge) (k a b : ℕ) → slice_get (map (λ e. e.lower)
 some_pair [] k a b h g = cc
 some_pair (e ∷ edges) zero a b h g = (omega arith, pair (e.lower) (e.upper) h g)
   where
-    pair : (x y : ℕ) → Some x ≡ Some a → Some y ≡ Some b → (x, y) ≡ (a, b)
+    pair : (x y : ℕ) → Some x ≡ Some a → Some y ≡ Some b → ◌≡◌ {A = ℕ × ℕ} (x, y) (a, b)
     pair x y p q = cc
 some_pair (e ∷ edges) (suc k) a b h g = let r = some_pair edges k a b h g in (omega (arith, r.0), r.1)
 

@@ -5,7 +5,7 @@ use Rattle.sa_tree.specs.declared.pos.Pos.{Pos}
 use Rattle.sa_tree.specs.declared.ty.ModeTy.{ModeTy}
 use Rattle.sa_tree.specs.declared.ty.Ty.{Ty}
 use Rattle.sa_tree.specs.declared.ty.Ty.TheVariants as ty
-use Rattle.sa_tree.specs.Types.{Named, Rout, Iter, all_bare, all_bare_args, option_bare}
+use Rattle.sa_tree.specs.Types.{Named, all_bare, all_bare_args, option_bare}
 use Rattle.sa_tree.proofs.BareTypes.{bare-Named, bare-Same, bare-Rout, bare-Iter, bare_arg-parts}
 use Rattle.sa_subtypes_pairs.specs.declared.header.Header.{Header}
 use Rattle.sa_subtypes_pairs.specs.declared.pattern.Node.{Node}

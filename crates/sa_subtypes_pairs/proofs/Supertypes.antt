@@ -1,5 +1,5 @@
 -- The position of a type, at each variant, and the first supertype that is no abstract class.
-use Rattle.std.proofs.Common.{◌≡◌, ℕ, ◌+◌, ◌<◌, ◌≤◌, Bool, true, false, cond, List, [], ◌∷◌, Option, Some, None, length, flat_map, get_or, drop, slice_get, refl, sym, ap, ◌∙◌}
+use Rattle.std.proofs.Common.{◌≡◌, ℕ, ◌+◌, ◌<◌, ◌≤◌, true, false, cond, List, [], ◌∷◌, Option, Some, None, length, flat_map, get_or, drop, slice_get, sym, ap, ◌∙◌}
 use Rattle.sa_graph.proofs.Firsts.{first_here, first_later, first_nowhere}
 use Rattle.sa_tree.specs.declared.class.Class.{Class}
 use Rattle.sa_tree.specs.declared.class.Kind.{Kind}
@@ -34,10 +34,10 @@ pub ruleset positions = (position-Named, position-Same, position-Rout, position-
 
 module _ (kind : List ℕ → Option Kind) where
   pub types_here : (types : List Ty) (i : ℕ) (t : Ty) → i < length types → t ≡ get_or types i t → is_abstract_class kind (bare t) ≡ false → slice_get (flat_map (misplaced_type kind) (drop i types)) 0 ≡ Some (position_of t)
-  types_here types i t lt is no = first_here (misplaced_type kind) types i t (position_of t) lt is (ap (λ b. slice_get (cond b [] (position_of t ∷ [])) 0) no)
+  types_here types i t lt is other = first_here (misplaced_type kind) types i t (position_of t) lt is (ap (λ b. slice_get (cond b [] (position_of t ∷ [])) 0) other)
 
   pub types_later : (types : List Ty) (i : ℕ) (t : Ty) → i < length types → t ≡ get_or types i t → is_abstract_class kind (bare t) ≡ true → slice_get (flat_map (misplaced_type kind) (drop i types)) 0 ≡ slice_get (flat_map (misplaced_type kind) (drop (i + 1) types)) 0
-  types_later types i t lt is yes = first_later (misplaced_type kind) types i t lt is (ap (λ b. slice_get (cond b [] (position_of t ∷ [])) 0) yes)
+  types_later types i t lt is abstract_class = first_later (misplaced_type kind) types i t lt is (ap (λ b. slice_get (cond b [] (position_of t ∷ [])) 0) abstract_class)
 
   pub types_nowhere : (types : List Ty) (i : ℕ) → length types ≤ i → slice_get (flat_map (misplaced_type kind) (drop i types)) 0 ≡ None
   types_nowhere = first_nowhere (misplaced_type kind)

@@ -1,9 +1,9 @@
-//! The body that is made for an implementation of a signature by an iter. It is entered for an instance at its start and at
+//! The adapter of an implementation of a signature by an iter. It is entered for an instance at its start and at
 //! each resumption, and does both by one step. The receiver and the `once` arguments are handed over at a start alone, so
 //! they are unwrapped and widened there alone.
 
+use crate::adapter::{receiver, value_of};
 use crate::arguments::{Arguments, pass, widen_back, widened, widened_value};
-use crate::own_body::{receiver, value_of};
 use crate::passing::{Passing, passing_of, widened_result};
 use crate::signatures::Implemented;
 use sa_flat::{FlatArg, FlatBody, FlatExit, FlatFormal, FlatStep};
@@ -20,8 +20,8 @@ struct Begun {
     vars: Items<u32>,
 }
 
-/// The body of an implementation by the iter with this number, which has begun.
-pub(crate) fn own_iter(
+/// The adapter of an implementation by the iter with this number, a body that has begun.
+pub(crate) fn adapter_iter(
     alloc: Global,
     implemented: Implemented<'_>,
     iter: u32,

@@ -1,10 +1,10 @@
-//! The body that is made for an implementation of a signature: it takes the arguments as the signature has them, calls the
+//! The adapter of an implementation of a signature, a body that is made for it alone: it takes the arguments as the signature has them, calls the
 //! implementation with them as that has them, and gives back what the signature gives. Its faults are those of the call that
 //! entered it, so its steps tell no position.
 
+use crate::adapter_iter::adapter_iter;
 use crate::arguments::{Arguments, pass_all, widen_back, widened_value};
 use crate::giving::given;
-use crate::own_iter::own_iter;
 use crate::passing::widened_result;
 use crate::signatures::{Implemented, SignatureTypes};
 use sa_core::Target;
@@ -15,13 +15,13 @@ use sa_tree::{NoMemory, held};
 use sqlite_items::Items;
 use std::alloc::Global;
 
-/// The body of an implementation of a signature with these types.
-pub(crate) fn own_body(alloc: Global, implemented: Implemented<'_>) -> Result<FlatBody, NoMemory> {
+/// The adapter of an implementation of a signature.
+pub(crate) fn adapter(alloc: Global, implemented: Implemented<'_>) -> Result<FlatBody, NoMemory> {
     let iter = iter_number(implemented)?;
     let head = head(alloc, iter, implemented.types)?;
     let mut body = OpenBody::begin(alloc, head)?;
     if let Some(iter) = iter {
-        return own_iter(alloc, implemented, iter, &mut body);
+        return adapter_iter(alloc, implemented, iter, &mut body);
     }
     let value = call(alloc, implemented, &mut body)?;
     body.finish(alloc, FlatExit::Return { value })
