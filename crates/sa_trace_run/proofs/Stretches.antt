@@ -17,6 +17,7 @@ use Rattle.wa_code.specs.Codes.{row_of}
 use Rattle.wa_code.specs.Laid.{Row}
 use Rattle.wa_exec.specs.declared.halt.Halt.{Halt}
 use Rattle.wa_exec.specs.declared.halt.Halt.TheVariants as halt
+use Rattle.wa_exec.specs.declared.link.Linked.{Linked}
 use Rattle.wa_exec.specs.Goes.{Standing, first}
 use Rattle.wa_exec.specs.Linking.{flat_of}
 use Rattle.wa_exec.specs.Machines.{Flat, Stands}
@@ -34,7 +35,7 @@ use Rattle.wa_run.proofs.Runs.{run-passed, seen}
 use Rattle.sa_trace_run.specs.Stretches.{Beginning, CameTo, GoesOn}
 
 -- what was put before stands in front of what a call puts
-behind : (before : List ℕ) → Sides → (output : List ℕ) → Sides
+abbrev behind : (before : List ℕ) → Sides → (output : List ℕ) → Sides
 behind before s output = sides s.input s.ended (Some (before ++ output))
 
 module _ (m : Module) (row : Row) where
@@ -68,11 +69,11 @@ module _ (m : Module) (row : Row) where
     handed = makes.handed ++ left;
     took = all here.output (sym taken ∙ makes.took);
     did = λ s rest front stands safe reads output_is.
-        subst (λ (bytes : List ℕ). Carried m row new makes.n rest (front ++ bytes) s) (sym (append-nil (makes.handed ++ left)))
+        subst (λ (bytes : List ℕ). Carried m row new makes.n rest bytes s) (append_assoc front makes.handed left ∙ sym (append-nil (front ++ (makes.handed ++ left))))
         (makes.did s rest front stands safe reads output_is).carried;
   }
     where
-      all : (o : Option (List ℕ)) → Some output ≡ option_map (λ (t : List ℕ). t ++ makes.handed) o → Some (output ++ left) ≡ option_map (λ (t : List ℕ). t ++ makes.handed ++ left) o
+      all : (o : Option (List ℕ)) → Some output ≡ option_map (λ (t : List ℕ). t ++ makes.handed) o → Some (output ++ left) ≡ option_map (λ (t : List ℕ). t ++ (makes.handed ++ left)) o
       all None is = ap (option_map (λ (t : List ℕ). t ++ left)) is
       all (Some t) is = ap (option_map (λ (x : List ℕ). x ++ left)) is ∙ ap Some (append_assoc t makes.handed left)
 
@@ -100,25 +101,22 @@ closed-moved answer.InFault result left before output whole closed = handed-move
 
 -- ---- the answers that aren't Spent
 
-IsOther : Answer → Type 0
+abbrev IsOther : Answer → Type 0
 IsOther answer.Spent = ⊥
 IsOther _ = Unit {0}
 
 other : (given : Answer) → IsOther given → given ≡ answer.Spent → ⊥
-unfolding IsOther
 other given is same = subst IsOther same is
 
-IsOtherHalt : Halt → Type 0
+abbrev IsOtherHalt : Halt → Type 0
 IsOtherHalt halt.Spent = ⊥
 IsOtherHalt _ = Unit {0}
 
 other-halt : (h : Halt) → IsOtherHalt h → h ≡ halt.Spent → ⊥
-unfolding IsOtherHalt
 other-halt h is same = subst IsOtherHalt same is
 
 -- nor is what an outage makes of an answer
 pub outage-other : (given : Answer) → (given ≡ answer.OutFault) ⊎ (given ≡ answer.NoMemory) → given ≡ answer.Spent → ⊥
-unfolding IsOther
 outage-other given (inl is) same = other answer.OutFault tt (sym is ∙ same)
 outage-other given (inr is) same = other answer.NoMemory tt (sym is ∙ same)
 
@@ -126,9 +124,19 @@ handed-other : (given result : Answer) (left : List ℕ) (before after : Option 
 handed-other given result left before after is (inl (same, took)) spent = other given is (sym same ∙ spent)
 handed-other given result left before after is (inr (some, fault, front)) spent = outage-other result fault spent
 
+pub fault-other : answer.InFault ≡ answer.Spent → ⊥
+fault-other same = other answer.InFault tt same
+
+abbrev IsNoInFault : Answer → Type 0
+IsNoInFault answer.InFault = ⊥
+IsNoInFault _ = Unit {0}
+
+outage-no-input : (given : Answer) → (given ≡ answer.OutFault) ⊎ (given ≡ answer.NoMemory) → given ≢ answer.InFault
+outage-no-input given (inl is) same = subst IsNoInFault (sym is ∙ same) tt
+outage-no-input given (inr is) same = subst IsNoInFault (sym is ∙ same) tt
+
 -- where what is held is handed on behind a halt, and the answer is Spent, the halt is
 pub closed-spent : (h : Halt) (result : Answer) (left : List ℕ) (before after : Option (List ℕ)) → IsClosed (answer_of_halt h) result left before after → result ≡ answer.Spent → h ≡ halt.Spent
-unfolding IsOther
 closed-spent (halt.Ended value) result left before after closed spent = absurd (handed-other (answer.Ended value) result left before after tt closed spent)
 closed-spent (halt.Stopped code site) result left before after closed spent = absurd (handed-other (answer.Stopped code site) result left before after tt closed spent)
 closed-spent (halt.Trap kind) result left before after closed spent = absurd (handed-other (answer.Trap kind) result left before after tt closed spent)
@@ -237,26 +245,13 @@ module _ (b : Beginning) (new : Flat) (fuel steps : ℕ) (within : steps ≤ fue
       cut b.program b.valid b.linked b.row b.flat new b.begins fuel steps outage is_outage makes.answers makes.handed left (seen here) (seen mid) there makes.gave makes.read makes.took input_is h result
       (subst (λ (n : ℕ). Did b.program b.row (Some h) b.flat new n makes.answers [] makes.handed left) at makes.did) closed not
 
-  outage-no-input : (given : Answer) → (given ≡ answer.OutFault) ⊎ (given ≡ answer.NoMemory) → given ≢ answer.InFault
-  outage-no-input given (inl is) same = absurd (subst Is (sym is ∙ same) tt)
-    where
-      Is : Answer → Type 0
-      Is answer.InFault = ⊥
-      Is _ = Unit {0}
-  outage-no-input given (inr is) same = absurd (subst Is (sym is ∙ same) tt)
-    where
-      Is : Answer → Type 0
-      Is answer.InFault = ⊥
-      Is _ = Unit {0}
-
   ended : (h : Halt) (result : Answer) → Makes b.program b.row b.flat new 0 steps (Some h) here mid [] left → IsClosed (answer_of_halt h) result left mid.output there.output → (h ≡ halt.Spent → steps ≡ fuel) → Passed (seen here) there (λ answers handed. IsAnswered b.program answers handed fuel result steps)
   ended h result makes closed spent =
       run-passed b.program b.valid b.linked b.row b.flat new b.begins fuel steps within h spent result [] left here mid there refl makes closed input_is
 
   -- it ends, or has spent its fuel
   pub run-whole : (h : Halt) (result : Answer) → Makes b.program b.row b.flat new 0 steps (Some h) here mid [] left → IsClosed (answer_of_halt h) result left mid.output there.output → (result ≡ answer.Spent → steps ≡ fuel) → Passed (seen here) there (λ answers handed. IsAnswered b.program answers handed fuel result steps)
-  unfolding IsOtherHalt
-  run-whole (halt.Ended value) result makes closed spent = ended (halt.Ended value) result makes closed (λ same. absurd (other-halt (halt.Ended value) tt same))
+    run-whole (halt.Ended value) result makes closed spent = ended (halt.Ended value) result makes closed (λ same. absurd (other-halt (halt.Ended value) tt same))
   run-whole (halt.Stopped code site) result makes closed spent = ended (halt.Stopped code site) result makes closed (λ same. absurd (other-halt (halt.Stopped code site) tt same))
   run-whole (halt.Trap kind) result makes closed spent = ended (halt.Trap kind) result makes closed (λ same. absurd (other-halt (halt.Trap kind) tt same))
   run-whole halt.TooDeep result makes closed spent = ended halt.TooDeep result makes closed (λ same. absurd (other-halt halt.TooDeep tt same))
@@ -300,14 +295,13 @@ module _ (b : Beginning) (fuel : ℕ) (put : List ℕ) (old new : Progress) (hel
       on spends (inr (some, fault, front)) = absurd (outage-other result fault answer_spent)
 
   pub came-to : new.steps ≤ fuel → (result ≡ answer.Spent → kept ≡ []) → (h ≢ halt.NoMemory → Runs b.program new) → new.linked ≡ old.linked → CameTo b fuel result new kept to ended_after (put ++ taken)
-  unfolding IsOtherHalt
-  came-to within empties runs linked = record {
+    came-to within empties runs linked = record {
     whole = λ spent. run-whole b (flat_of new.state) fuel new.steps within left whole-sides (streams to (Some (put ++ taken))) refl h result all-makes all-closed spent;
     cut = λ not outage is. run-cut b (flat_of new.state) fuel new.steps within left whole-sides (streams to (Some (put ++ taken))) refl h result all-makes all-closed not outage is;
     goes = λ spent. record {
       makes = makes-on spent;
       none = empties spent;
       runs = runs (λ same. absurd (subst IsOtherHalt (sym same ∙ closed-spent h result left (Some mid) (Some taken) closed spent) tt));
-      row_is = ap (λ l. row_of l.code) linked ∙ goes.row_is;
+      row_is = ap (λ (l : Linked). row_of l.code) linked ∙ goes.row_is;
     };
   }

@@ -20,7 +20,7 @@ use Rattle.wa_run.specs.declared.answer.Answer.TheVariants as answer
 use Rattle.sa_outside.specs.Input as source
 use Rattle.sa_trace_run.specs.Stretches.{Beginning, CameTo, HasRunTo, IsStretch}
 use Rattle.sa_trace_run.specs.Traced.{AreHandedOn, AreTold, FrontIsHandedOn, Sinks, SoFar, sinks}
-use Rattle.sa_trace_run.proofs.Stretches.{outage-other}
+use Rattle.sa_trace_run.proofs.Stretches.{fault-other, outage-other}
 
 module _ (positions : List Pos) (sources : Sources) where
   -- the first of the frames are a front of the bytes
@@ -122,13 +122,6 @@ module _ {b : Beginning} {positions : List Pos} {sources : Sources} {fuel : ℕ}
   abbrev Ran : Answer → Type 0
   Ran result = HasRunTo b fuel result machine.steps input put
 
-  in-fault-other : answer.InFault ≡ answer.Spent → ⊥
-  in-fault-other same = subst Is same tt
-    where
-      Is : Answer → Type 0
-      Is answer.Spent = ⊥
-      Is _ = Unit {0}
-
   -- all was told
   pub stretch-told-all : (left : Left) (s : Sinks) → SoFar positions sources put left s → IsStretch b positions sources fuel given machine held left input ended s
   stretch-told-all left s so_far = record {
@@ -157,13 +150,13 @@ module _ {b : Beginning} {positions : List Pos} {sources : Sources} {fuel : ℕ}
   pub stretch-in-fault : (left : Left) (out_old out_new err_old err_new : Sink) (before after : Listening) (what : Outage) → given ≡ answer.InFault → (what ≡ outage.Failed → after ≡ before) → (what ≡ outage.NoMemory → after ≡ listening.NoMemory) → (what ≡ outage.Failed → Rose out_old.faults out_new.faults × FrontIsHandedOn positions sources put (sinks out_old out_new err_old err_new before) (Hears listening.Yes before err_old err_new)) → FrontIsHandedOn positions sources put (sinks out_old out_new err_old err_new before) (HearsPart listening.Yes before err_old err_new) → IsStretch b positions sources fuel answer.InFault machine held left input ended (sinks out_old out_new err_old err_new after)
   stretch-in-fault left out_old out_new err_old err_new before after outage.Failed is failed short lines part = record {
     put = put;
-    whole = λ spent. subst (λ (a : Answer). Ran a) is (came.whole (λ same. absurd (in-fault-other (sym is ∙ same))));
+    whole = λ spent. subst (λ (a : Answer). Ran a) is (came.whole (λ same. absurd (fault-other (sym is ∙ same))));
     told = inr (inl (subst (λ (l : Listening). Rose out_old.faults out_new.faults × FrontIsHandedOn positions sources put (sinks out_old out_new err_old err_new l) (Hears listening.Yes l err_old err_new)) (sym (failed refl)) (lines refl)));
-    goes = λ spent. absurd (in-fault-other spent);
+    goes = λ spent. absurd (fault-other spent);
   }
   stretch-in-fault left out_old out_new err_old err_new before after outage.NoMemory is failed short lines part = record {
     put = put;
-    whole = λ spent. subst (λ (a : Answer). Ran a) is (came.whole (λ same. absurd (in-fault-other (sym is ∙ same))));
+    whole = λ spent. subst (λ (a : Answer). Ran a) is (came.whole (λ same. absurd (fault-other (sym is ∙ same))));
     told = inr (inr (inl (short refl), record {
       front = part.front;
       rest = part.rest;
@@ -173,5 +166,5 @@ module _ {b : Beginning} {positions : List Pos} {sources : Sources} {fuel : ℕ}
       out = part.out;
       err = (inr (inr (short refl)), part.err.1);
     }));
-    goes = λ spent. absurd (in-fault-other spent);
+    goes = λ spent. absurd (fault-other spent);
   }

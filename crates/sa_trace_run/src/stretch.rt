@@ -1,6 +1,6 @@
 //! A stretch of a run: the module runs up to a number of steps, and what it has put is parted into frames, which are handed on.
 
-ghost use Rattle.std.specs.Prelude.{◌≡◌, ◌≤◌, ◌++◌, ℕ, List, [], None, IsErrOf, OnErr, OnOk, ⊥};
+ghost use Rattle.std.specs.Prelude.{◌≡◌, ◌≤◌, ◌++◌, ℕ, List, [], None, IsErrOf, OnErr, OnOk};
 ghost use Rattle.sa_outside.specs.Faults.{Rose};
 ghost use Rattle.sa_trace.specs.Handing.{Hears, HearsPart, Sink as Taken, sink};
 ghost use Rattle.sa_trace_run.specs.Stretches.{Beginning, CameTo, GoesOn, IsStretch};

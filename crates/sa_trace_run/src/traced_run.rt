@@ -1,6 +1,6 @@
 //! The run of a traced module, stretch after stretch.
 
-ghost use Rattle.std.specs.Prelude.{◌≡◌, ◌≤◌, ℕ, List, [], None, Some, ⊥};
+ghost use Rattle.std.specs.Prelude.{◌≡◌, ◌≤◌, ℕ, List, [], None, Some};
 ghost use Rattle.sa_outside.specs.Faults.{Rose};
 ghost use Rattle.sa_outside.specs.Output.{Grew};
 ghost use Rattle.sa_trace.specs.Handing.{Sink as Taken, sink};
