@@ -157,14 +157,17 @@ module _ {b : Beginning} {positions : List Pos} {sources : Sources} {fuel : ℕ}
   stretch-in-fault left out_old out_new err_old err_new before after outage.NoMemory is failed short lines part = record {
     put = put;
     whole = λ spent. subst (λ (a : Answer). Ran a) is (came.whole (λ same. absurd (fault-other (sym is ∙ same))));
-    told = inr (inr (inl (short refl), record {
-      front = part.front;
-      rest = part.rest;
-      split = part.split;
-      told = part.told;
-      are = part.are;
-      out = part.out;
-      err = (inr (inr (short refl)), part.err.1);
-    }));
+    told = inr (inr (
+      inl (short refl),
+      record {
+        front = part.front;
+        rest = part.rest;
+        split = part.split;
+        told = part.told;
+        are = part.are;
+        out = part.out;
+        err = (inr (inr (short refl)), part.err.1);
+      },
+    ));
     goes = λ spent. absurd (fault-other spent);
   }
