@@ -141,6 +141,7 @@ fn accepted_up_to(resolved: &[Flattened], from: usize) -> Result<usize, FrontFau
 }
 
 /// The classes without includes, each with the features that its includes bring and those of its own that stay.
+#[tactic(auto, using(crate::proofs::Nothing::puts_nothing))]
 fn whole_classes(
     alloc: Global,
     classes: &[Class],
