@@ -96,12 +96,12 @@ module _ (immutable : Bool) where
       each (f ∷ fs) a b = (clash_none f g a.0 b.0, each fs a.1 b.1)
 
   pub none_apart : (known : List Sig) → known ≡ [] → AreApart immutable [] known
-  none_apart known is = record { known = is; none_clash = λ i j d lt within. absurd (omega (arith, within)) }
+  none_apart known is = record { listed = is; none_clash = λ i j d lt within. absurd (omega (arith, within)) }
 
   pub more_apart : (features : List Feature) (i : ℕ) (g : Feature) (known new : List Sig) → i < length features → g ≡ get_or features i g → AreApart immutable (take i features) known → AddsFeature immutable g known new → AreApart immutable (take (i + 1) features) new
   more_apart features i g known new lt is apart adds = subst (λ fs. AreApart immutable fs new) (sym more) (record {
-    known = adds.added ∙ ap (λ ks. ks ++ signatures_of immutable g) apart.known ∙ sym (flat-push (take i features));
-    none_clash = pairs_push (take i features) apart.none_clash (apart_from_all (take i features) g known new apart.known adds);
+    listed = adds.added ∙ ap (λ ks. ks ++ signatures_of immutable g) apart.listed ∙ sym (flat-push (take i features));
+    none_clash = pairs_push (take i features) apart.none_clash (apart_from_all (take i features) g known new apart.listed adds);
   })
     where
       more : take (i + 1) features ≡ take i features ++ g ∷ []
