@@ -148,11 +148,11 @@ module _ (classes : List Class) (numbers : ClassNumbers) (numbered : HasNumbers 
 pub no_classes : (classes : List Class) (edges : Edges) → edges.starts.items ≡ [] → edges.ends.items ≡ [] → AreEdgesUpTo classes 0 edges
 no_classes classes edges starts ends = record {
   count = ap length starts ∙ sym (ap length ends);
-  includes = λ a b. (λ h. absurd (none (ap (λ xs. slice_get xs h.0) (sym starts) ∙ h.1)), λ h. absurd (omega (arith, h.0)));
+  includes = λ a b. (λ h. absurd (none h.0 (ap (λ xs. slice_get xs h.0) (sym starts) ∙ h.1)), λ h. absurd (omega (arith, h.0)));
 }
   where
-    none : {a : ℕ} {k : ℕ} → slice_get {A = ℕ} [] k ≡ Some a → ⊥
-    none q = cc
+    none : {a : ℕ} (k : ℕ) → slice_get [] k ≡ Some a → ⊥
+    none k q = cc
 
 pub all_classes : (classes : List Class) (edges : Edges) (n : ℕ) → length classes ≡ n → AreEdgesUpTo classes n edges → AreEdges classes edges
 all_classes classes edges n e upto = record {

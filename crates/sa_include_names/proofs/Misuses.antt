@@ -1,5 +1,5 @@
 -- Where a type may not stand, at each variant of a type.
-use Rattle.std.proofs.Common.{◌≡◌, ◌==◌, ◌&&◌, ◌<◌, ℕ, Bool, not, List, [], ◌∷◌, ◌++◌, Option, None, Some, length, get_or, drop, map, flat_map, slice_get, refl, sym, ap, ◌∙◌}
+use Rattle.std.proofs.Common.{◌≡◌, ◌==◌, ◌&&◌, ◌<◌, ℕ, Bool, true, false, not, List, [], ◌∷◌, ◌++◌, Option, None, Some, length, get_or, drop, map, flat_map, slice_get, refl, sym, ap, ◌∙◌}
 use Rattle.std.proofs.lemmas.List.{length-map}
 use Rattle.sa_tree.specs.declared.class.Class.{Class}
 use Rattle.sa_tree.specs.declared.class.Kind.{Kind}
@@ -90,6 +90,17 @@ module _ (classes : List Class) (number : List ℕ → Option ℕ) (arrays : Lis
   pub include-Iter : (args : List ModeTy) (of : Option Ty) (pos : Pos) → misused_include classes number arrays kind hidden (ty.Iter args of pos) ≡ pos ∷ []
   unfolding misused_include
   include-Iter args of pos = ap (misused_include_level classes number arrays kind hidden) (ap out-Ty (sym (ty.rolls-Iter args of pos)) ∙ out-roll-Ty (Ty-F.Iter args of pos))
+
+module _ (classes : List Class) (number : List ℕ → Option ℕ) (arrays : List Bool) (kind : Kind) (hidden : List ℕ → Bool) where
+  -- what an included class is given
+  pub include_given : (t : Ty) (name : List ℕ) (given : List Ty) (pos : Pos) (may : Bool) (found : Option Pos) → t ≡ ty.Named name given pos → may ≡ may_include classes number arrays kind hidden name → not may ≡ false → found ≡ slice_get (misused_types (may_stand classes number arrays kind hidden) given) 0 → found ≡ slice_get (misused_include classes number arrays kind hidden t) 0
+  include_given t name given pos may found same is held found_is =
+      found_is ∙ ap (λ b. slice_get (unless b pos ++ misused_types (may_stand classes number arrays kind hidden) given) 0) (sym (sym is ∙ set may held))
+      ∙ ap (λ ps. slice_get ps 0) (sym (include-Named classes number arrays kind hidden name given pos)) ∙ ap (λ u. slice_get (misused_include classes number arrays kind hidden u) 0) (sym same)
+    where
+      set : (b : Bool) → not b ≡ false → b ≡ true
+      set true h = refl
+      set false h = cc
 
 pub ruleset above = (above-Named, above-Same, above-Rout, above-Iter)
 

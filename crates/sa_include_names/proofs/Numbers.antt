@@ -74,8 +74,8 @@ differ_push cs c apart new = record { differ = λ place d at. by place d at (at_
 
 -- ---- the classes up to one
 
-pub record NumbersSoFar (classes : List Class) (n : ℕ) (numbers : ClassNumbers) : Type 0 where
-  pub numbers : HasNumbers (take n classes) numbers
+pub record NumbersSoFar (classes : List Class) (n : ℕ) (table : ClassNumbers) : Type 0 where
+  pub numbers : HasNumbers (take n classes) table
   pub differ : DifferInName (take n classes)
 
 pub numbers-none : (classes : List Class) (numbers : ClassNumbers) → ((name : List ℕ) → number_in numbers name ≡ None) → NumbersSoFar classes 0 numbers

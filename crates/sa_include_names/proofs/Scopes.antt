@@ -9,15 +9,15 @@ use Rattle.sa_include_names.specs.declared.names.ClassNumbers.{ClassNumbers}
 use Rattle.sa_include_names.specs.declared.names.ParamNames.{ParamNames}
 use Rattle.sa_include_names.specs.Headers.{misused_class, misused_in, misused_names}
 use Rattle.sa_include_names.specs.Names.{hides, number_of}
-use Rattle.sa_include_names.specs.Tables.{HasNumbers, HasParams, MisusedAt, hidden_in, number_in}
+use Rattle.sa_include_names.specs.Tables.{HasNumbers, HasParams, MisusedAt, NoneMisused, hidden_in, number_in}
 
 pub class_is : (classes : List Class) (numbers : ClassNumbers) (arrays : List Bool) (params : ParamNames) (c : Class) (found : Option Pos) → found ≡ slice_get (misused_in classes (number_in numbers) arrays c.kind (hidden_in params) c) 0 → HasNumbers classes numbers → HasParams c.params params → found ≡ slice_get (misused_class classes arrays c) 0
 class_is classes numbers arrays params c found is numbered named =
     is ∙ ap (λ f. slice_get (misused_in classes f arrays c.kind (hidden_in params) c) 0) (fun_ext numbered.each)
     ∙ ap (λ f. slice_get (misused_in classes (number_of classes) arrays c.kind f c) 0) (fun_ext named)
 
-pub names-none : (classes : List Class) (arrays : List Bool) (found : Option Pos) → found ≡ slice_get (misused_names classes arrays) 0 → found ≡ None → misused_names classes arrays ≡ []
-names-none classes arrays found is none = by (misused_names classes arrays) (sym is ∙ none)
+pub names-none : (classes : List Class) (arrays : List Bool) (found : Option Pos) → found ≡ slice_get (misused_names classes arrays) 0 → found ≡ None → NoneMisused classes arrays
+names-none classes arrays found is none = record { none = by (misused_names classes arrays) (sym is ∙ none) }
   where
     by : (ps : List Pos) → slice_get ps 0 ≡ None → ps ≡ []
     by [] h = refl

@@ -14,7 +14,7 @@ use Rattle.sa_include_names.specs.Includes.{AreArrays, DoesInclude, HasArrayPart
 use Rattle.sa_include_names.specs.Names.{DifferInName, number_of}
 use Rattle.sa_include_names.specs.Headers.{misused_names}
 use Rattle.sa_include_names.specs.Refusals.{AreIncludesRight, RefusesNames, RefusesRepeated}
-use Rattle.sa_include_names.specs.Tables.{AreEdges, AreGraphOf, CycleAt, HasNumbers, IsNamed, MisusedAt, number_in}
+use Rattle.sa_include_names.specs.Tables.{AreEdges, AreGraphOf, CycleAt, HasNumbers, IsNamed, MisusedAt, NoneMisused, number_in}
 
 -- ---- the graph of the include clauses
 
@@ -65,9 +65,9 @@ module _ (classes : List Class) (graph : Graph) (of : AreGraphOf classes graph) 
 
   -- ---- cycles
 
-  pub refuses-cycle : (arrays : List Bool) (refusal : Refusal) → DifferInName classes → AreArrays classes arrays → misused_names classes arrays ≡ [] → CycleAt classes graph refusal → RefusesNames classes refusal
+  pub refuses-cycle : (arrays : List Bool) (refusal : Refusal) → DifferInName classes → AreArrays classes arrays → NoneMisused classes arrays → CycleAt classes graph refusal → RefusesNames classes refusal
   refuses-cycle arrays refusal differ marked right cycle = inr (inr (record {
-    right = record { differ = differ; arrays = arrays; marked = marked; right = right };
+    right = record { differ = differ; arrays = arrays; marked = marked; right = right.none };
     number = cycle.number;
     class = cycle.named.class;
     at = cycle.named.at;
@@ -76,9 +76,9 @@ module _ (classes : List Class) (graph : Graph) (of : AreGraphOf classes graph) 
     is = cycle.named.is;
   }))
 
-  pub includes-right : (arrays : List Bool) → DifferInName classes → AreArrays classes arrays → misused_names classes arrays ≡ [] → NoneBefore graph (node_count graph) → AreIncludesRight classes
+  pub includes-right : (arrays : List Bool) → DifferInName classes → AreArrays classes arrays → NoneMisused classes arrays → NoneBefore graph (node_count graph) → AreIncludesRight classes
   includes-right arrays differ marked right none = record {
-    names = record { differ = differ; arrays = arrays; marked = marked; right = right };
+    names = record { differ = differ; arrays = arrays; marked = marked; right = right.none };
     cycle = λ number h. none.none number (subst (λ n. number < n) (sym of.count) (inside number number h)) (graph_way number number h);
   }
     where

@@ -1,5 +1,5 @@
 -- The tables of names.
-use Rattle.std.specs.Prelude.{◌≡◌, ◌⊎◌, ◌↔◌, Bool, ℕ, List, Option, None, Some, Contains, cond, length, nat_eq, slice_get}
+use Rattle.std.specs.Prelude.{◌≡◌, ◌⊎◌, ◌↔◌, Bool, ℕ, List, [], Option, None, Some, Contains, cond, length, nat_eq, slice_get}
 use Rattle.std.specs.Cmp.Lexicographic.{pointwise}
 use Rattle.indexmap.specs.IndexMap.{get}
 use Rattle.indexmap.specs.IndexSet.{contains}
@@ -94,6 +94,10 @@ pub record AreEdges (classes : List Class) (edges : Edges) : Type 0 where
 pub record AreGraphOf (classes : List Class) (graph : Graph) : Type 0 where
   pub count : node_count graph ≡ length classes
   pub includes : (a b : ℕ) → IsEdge graph a b ↔ DoesInclude classes a b
+
+-- no type may not stand where it does
+pub record NoneMisused (classes : List Class) (arrays : List Bool) : Type 0 where
+  pub none : misused_names classes arrays ≡ []
 
 -- the refusal of the first type that may not stand where it does, where the classes with an array part are marked
 pub record MisusedAt (classes : List Class) (arrays : List Bool) (refusal : Refusal) : Type 0 where

@@ -73,16 +73,16 @@ fn in_one(
 fn in_class(scope: &Scope<'_>, class: &Class) -> Option<Pos>
     ensures { result ≡ first (misused_class_in scope.now class.now) }
 {
-    if let Some(pos) = in_bounds(scope, class.params.as_slice()) {
-        return Some(pos);
+    match in_bounds(scope, class.params.as_slice()) {
+        Some(pos) => Some(pos),
+        None => match in_types(scope, class.below.as_slice()) {
+            Some(pos) => Some(pos),
+            None => match in_all_above(scope, class.above.as_slice()) {
+                Some(pos) => Some(pos),
+                None => in_includes(scope, class.includes.as_slice()),
+            },
+        },
     }
-    if let Some(pos) = in_types(scope, class.below.as_slice()) {
-        return Some(pos);
-    }
-    if let Some(pos) = in_all_above(scope, class.above.as_slice()) {
-        return Some(pos);
-    }
-    in_includes(scope, class.includes.as_slice())
 }
 
 #[tactic(auto, using(crate::proofs::Misuses::firsts))]

@@ -1,16 +1,15 @@
 //! An order in which each class stands behind those that it includes. There is none where a class includes itself, by itself
 //! or by others (E15).
 
-ghost use Rattle.std.specs.Prelude.{◌≡◌, ◌≤◌, [], Err, IfOk, MatchOption, OnOk, count_by};
+ghost use Rattle.std.specs.Prelude.{◌≡◌, ◌≤◌, Err, IfOk, MatchOption, OnOk, count_by};
 ghost use Rattle.sa_graph.specs.Paths.{NoneBefore, node_count};
 ghost use Rattle.sa_tree.specs.declared.refusal.FrontFault.TheVariants.{Refused};
 ghost use Rattle.sa_tree.specs.declared.refusal.Refusal.{Refusal};
 ghost use Rattle.sa_tree.specs.declared.rule.Rule.TheVariants.{ClassNotUsable};
 ghost use Rattle.sa_tree.specs.Types.{bare};
-ghost use Rattle.sa_include_names.specs.Headers.{misused_names};
 ghost use Rattle.sa_include_names.specs.Includes.{AreArrays, IsSecond, brings_array, number_named};
 ghost use Rattle.sa_include_names.specs.Refusals.{AreIncludesRight, RefusesNames};
-ghost use Rattle.sa_include_names.specs.Tables.{CycleAt, HasNumbers, IsNamed, MisusedAt, number_in};
+ghost use Rattle.sa_include_names.specs.Tables.{CycleAt, HasNumbers, IsNamed, MisusedAt, NoneMisused, number_in};
 
 use crate::graph::{array_parts, include_graph, is_marked};
 use crate::header::first_misused;
@@ -117,7 +116,7 @@ fn names_stand(
     arrays: &[bool],
 ) -> Result<(), FrontFault>
     requires { HasNumbers classes.now numbers.now }
-    ensures none { OnOk result (misused_names classes.now arrays.now ≡ []) }
+    ensures none { OnOk result (NoneMisused classes.now arrays.now) }
     ensures misused { (refusal : Refusal) → result ≡ Err (Refused refusal) → MisusedAt classes.now arrays.now refusal }
 {
     match first_misused(alloc, classes, numbers, arrays)? {
