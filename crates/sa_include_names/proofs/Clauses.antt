@@ -1,5 +1,5 @@
 -- The include clauses of classes as edges.
-use Rattle.std.proofs.Common.{◌≡◌, ◌↔◌, ℕ, zero, suc, ◌+◌, ◌<◌, Bool, cond, List, [], ◌∷◌, ◌++◌, Option, None, Some, length, get_or, take, slice_get, refl, sym, ap, subst, ◌∙◌, ◌⊎◌, inl, inr, ⊎_elim, arith}
+use Rattle.std.proofs.Common.{◌≡◌, ◌↔◌, ℕ, zero, suc, ◌+◌, ◌<◌, ◌≤◌, Bool, cond, List, [], ◌∷◌, ◌++◌, Option, None, Some, length, get_or, take, slice_get, refl, sym, ap, subst, ◌∙◌, ◌⊎◌, inl, inr, ⊎_elim, arith}
 use Rattle.std.proofs.lemmas.List.{length-append, take_more}
 use Rattle.std.proofs.lemmas.List.Elements.{Contains-append_left, Contains-push, Contains-push_cases}
 use Rattle.std.specs.List.{Contains}
@@ -154,7 +154,7 @@ no_classes classes edges starts ends = record {
     none : {a : ℕ} (k : ℕ) → slice_get [] k ≡ Some a → ⊥
     none k q = cc
 
-pub all_classes : (classes : List Class) (edges : Edges) (n : ℕ) → length classes ≡ n → AreEdgesUpTo classes n edges → AreEdges classes edges
+pub all_classes : (classes : List Class) (edges : Edges) (n : ℕ) → length classes ≤ n → AreEdgesUpTo classes n edges → AreEdges classes edges
 all_classes classes edges n e upto = record {
   count = upto.count;
   includes = λ a b. (λ h. ((upto.includes a b).0 h).1, λ d. (upto.includes a b).1 (omega (arith, e, slice_get_within classes a d.class d.at), d));

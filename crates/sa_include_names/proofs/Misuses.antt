@@ -93,14 +93,15 @@ module _ (classes : List Class) (number : List ℕ → Option ℕ) (arrays : Lis
 
 module _ (classes : List Class) (number : List ℕ → Option ℕ) (arrays : List Bool) (kind : Kind) (hidden : List ℕ → Bool) where
   -- what an included class is given
-  pub include_given : (t : Ty) (name : List ℕ) (given : List Ty) (pos : Pos) (may : Bool) (found : Option Pos) → t ≡ ty.Named name given pos → may ≡ may_include classes number arrays kind hidden name → not may ≡ false → found ≡ slice_get (misused_types (may_stand classes number arrays kind hidden) given) 0 → found ≡ slice_get (misused_include classes number arrays kind hidden t) 0
+  pub include_given : (t : Ty) (name : List ℕ) (given : List Ty) (pos : Pos) (may : Bool) (found : Option Pos) → t ≡ ty.Named name given pos → may ≡ may_include classes number arrays kind hidden name → may ≡ true → found ≡ slice_get (misused_types (may_stand classes number arrays kind hidden) given) 0 → found ≡ slice_get (misused_include classes number arrays kind hidden t) 0
   include_given t name given pos may found same is held found_is =
-      found_is ∙ ap (λ b. slice_get (unless b pos ++ misused_types (may_stand classes number arrays kind hidden) given) 0) (sym (sym is ∙ set may held))
+      found_is ∙ ap (λ b. slice_get (unless b pos ++ misused_types (may_stand classes number arrays kind hidden) given) 0) (sym (sym is ∙ held))
       ∙ ap (λ ps. slice_get ps 0) (sym (include-Named classes number arrays kind hidden name given pos)) ∙ ap (λ u. slice_get (misused_include classes number arrays kind hidden u) 0) (sym same)
-    where
-      set : (b : Bool) → not b ≡ false → b ≡ true
-      set true h = refl
-      set false h = cc
+
+-- the first of four lists, of which the first three are empty
+pub first_fourth : (xs ys zs us : List Pos) (x y z u : Option Pos) → x ≡ slice_get xs 0 → x ≡ None → y ≡ slice_get ys 0 → y ≡ None → z ≡ slice_get zs 0 → z ≡ None → u ≡ slice_get us 0 → u ≡ slice_get (xs ++ ys ++ zs ++ us) 0
+first_fourth xs ys zs us x y z u x_is x_none y_is y_none z_is z_none u_is =
+    u_is ∙ sym (first_none xs (ys ++ zs ++ us) (sym x_is ∙ x_none) ∙ first_none ys (zs ++ us) (sym y_is ∙ y_none) ∙ first_none zs us (sym z_is ∙ z_none))
 
 pub ruleset above = (above-Named, above-Same, above-Rout, above-Iter)
 

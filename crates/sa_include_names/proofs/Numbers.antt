@@ -81,11 +81,11 @@ pub record NumbersSoFar (classes : List Class) (n : ℕ) (table : ClassNumbers) 
 pub numbers-none : (classes : List Class) (numbers : ClassNumbers) → ((name : List ℕ) → number_in numbers name ≡ None) → NumbersSoFar classes 0 numbers
 numbers-none classes numbers none = record {
   numbers = record { each = none };
-  differ = record { differ = λ place c at. absurd (nothing at) };
+  differ = record { differ = λ place c at. absurd (nothing c place at) };
 }
   where
-    nothing : {c : Class} {place : ℕ} → slice_get [] place ≡ Some c → ⊥
-    nothing q = cc
+    nothing : (c : Class) (place : ℕ) → slice_get [] place ≡ Some c → ⊥
+    nothing c place q = cc
 
 pub numbers-more : (classes : List Class) (i word : ℕ) (c : Class) (old new : ClassNumbers) (fresh : Bool) → i < length classes → c ≡ get_or classes i c → NumbersSoFar classes i old → word ≡ i → Updates (pointwise nat_eq) old.by_name new.by_name c.name.name (Some word) → fresh ≡ true → (fresh ≡ true → number_in old c.name.name ≡ None) → NumbersSoFar classes (i + 1) new
 numbers-more classes i word c old new fresh lt is so_far same updates held unknown = record {
