@@ -101,7 +101,7 @@ module _ (classes : List Class) (number : List ℕ → Option ℕ) (arrays : Lis
 -- the first of four lists, of which the first three are empty
 pub first_fourth : (xs ys zs us : List Pos) (x y z u : Option Pos) → x ≡ slice_get xs 0 → x ≡ None → y ≡ slice_get ys 0 → y ≡ None → z ≡ slice_get zs 0 → z ≡ None → u ≡ slice_get us 0 → u ≡ slice_get (xs ++ ys ++ zs ++ us) 0
 first_fourth xs ys zs us x y z u x_is x_none y_is y_none z_is z_none u_is =
-    u_is ∙ sym (first_none xs (ys ++ zs ++ us) (sym x_is ∙ x_none) ∙ first_none ys (zs ++ us) (sym y_is ∙ y_none) ∙ first_none zs us (sym z_is ∙ z_none))
+    u_is ∙ sym (first_none (xs ++ ys ++ zs) us (first_none (xs ++ ys) zs (first_none xs ys (sym x_is ∙ x_none) ∙ sym y_is ∙ y_none) ∙ sym z_is ∙ z_none))
 
 pub ruleset above = (above-Named, above-Same, above-Rout, above-Iter)
 
