@@ -124,6 +124,13 @@ module _ (immutable : Bool) where
           here : (n : ℕ) → n < length (fs ++ g ∷ []) → (n < length fs) ⊎ (n ≡ length fs)
           here n h = grind (arith, h, count)
 
+          last : (n : ℕ) → n ≡ length fs → get_or (fs ++ g ∷ []) n d ≡ g
+          last n e = subst (λ m. get_or (fs ++ g ∷ []) m d ≡ g) (sym e) (at_end fs)
+            where
+              at_end : (xs : List Feature) → get_or (xs ++ g ∷ []) (length xs) d ≡ g
+              at_end [] = refl
+              at_end (x ∷ xs) = at_end xs
+
           by : ((j < length fs) ⊎ (j ≡ length fs)) → do_clash immutable (get_or (fs ++ g ∷ []) i d) (get_or (fs ++ g ∷ []) j d) ≡ false
           by (inl b) =
               subst (λ x. do_clash immutable x (get_or (fs ++ g ∷ []) j d) ≡ false) (sym (get_or_append_left fs (g ∷ []) d i (omega (arith, lt, b))))
@@ -131,10 +138,3 @@ module _ (immutable : Bool) where
           by (inr e) =
               subst (λ x. do_clash immutable x (get_or (fs ++ g ∷ []) j d) ≡ false) (sym (get_or_append_left fs (g ∷ []) d i (omega (arith, lt, e))))
               (subst (λ x. do_clash immutable (get_or fs i d) x ≡ false) (sym (last j e)) (All-contains (λ f. do_clash immutable f g ≡ false) fs (get_or fs i d) (All-from_recursion (λ f. do_clash immutable f g ≡ false) fs all) (Contains-get_or fs i d (omega (arith, lt, e)))))
-
-          last : (n : ℕ) → n ≡ length fs → get_or (fs ++ g ∷ []) n d ≡ g
-          last n e = subst (λ m. get_or (fs ++ g ∷ []) m d ≡ g) (sym e) (at_end fs)
-            where
-              at_end : (xs : List Feature) → get_or (xs ++ g ∷ []) (length xs) d ≡ g
-              at_end [] = refl
-              at_end (x ∷ xs) = at_end xs
