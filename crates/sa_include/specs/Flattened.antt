@@ -1,8 +1,8 @@
 -- What a class without its includes has of the class as it is written.
-use Rattle.std.specs.Prelude.{◌≡◌, ◌⊎◌, Bool, true, false, IsTrue, List, [], None}
+use Rattle.std.specs.Prelude.{◌≡◌, ◌⊎◌, Bool, true, false, IsTrue, List, []}
 use Rattle.std.specs.List.{All, AllZip, Contains}
 use Rattle.sa_include_conflicts.specs.Clashes.{NoneClash}
-use Rattle.sa_include_conflicts.specs.Stub.{is_stub_part, stub_left}
+use Rattle.sa_include_conflicts.specs.Stub.{is_stub_part, keeps_stub}
 use Rattle.sa_tree.specs.declared.class.Class.{Class}
 use Rattle.sa_tree.specs.declared.class.Feature.{Feature}
 use Rattle.sa_tree.specs.declared.class.Kind.{Kind}
@@ -27,7 +27,7 @@ pub record IsFlattened (written : Class) (flat : Class) : Type 0 where
   pub includes : flat.includes ≡ []
   pub wins : All (Wins flat.features) written.features
   pub none_clash : NoneClash (is_immutable flat.kind) flat.features
-  pub no_stub : stub_left flat.kind flat.features ≡ None
+  pub no_stub : keeps_stub flat.kind flat.features ≡ false
 
 -- one for one
 abbrev pub AreFlattened : List Class → List Class → Type 0

@@ -1,16 +1,16 @@
 //! A class without its includes: its header, the features that its includes bring, and those that it writes itself, but for
 //! its stubs that are replaced.
 
-ghost use Rattle.std.specs.Prelude.{◌≡◌, IfOk, IsTrue, None, OnOk};
+ghost use Rattle.std.specs.Prelude.{◌≡◌, IfOk, IsTrue, OnOk, false};
 ghost use Rattle.std.specs.List.{All};
 ghost use Rattle.sa_include_conflicts.specs.Clashes.{NoneClash};
-ghost use Rattle.sa_include_conflicts.specs.Stub.{is_stub_part, stub_left};
+ghost use Rattle.sa_include_conflicts.specs.Stub.{is_stub_part, keeps_stub};
 ghost use Rattle.sa_include.specs.Flattened.{IsFlattened, Wins, is_immutable};
 ghost use Rattle.sa_include.specs.Parts.{PutsNothing};
 
 use crate::resolved::Flattened;
 use crate::substitute::subst_part;
-use sa_include_conflicts::{first_stub, is_set, is_stub, try_apart};
+use sa_include_conflicts::{is_set, is_stub, keeps_stub, try_apart};
 use sa_tree::{Class, Feature, Formal, Kind, Local, NoMemory, Param, Ty};
 use sa_types::Substitution;
 use sqlite_items::Items;
@@ -45,9 +45,9 @@ pub(crate) fn whole_class(
 /// doesn't hold has been refused.
 fn try_features(alloc: Global, kind: Kind, features: &[Feature]) -> Result<(), NoMemory>
     ensures none_clash { OnOk result (NoneClash (is_immutable kind) features.now) }
-    ensures no_stub { OnOk result (stub_left kind features.now ≡ None) }
+    ensures no_stub { OnOk result (keeps_stub kind features.now ≡ false) }
 {
-    if first_stub(kind, features).is_some() {
+    if keeps_stub(kind, features) {
         return Err(NoMemory);
     }
     try_apart(alloc, features, is_immutable(kind))

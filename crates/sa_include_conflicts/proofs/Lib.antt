@@ -1,2 +1,2 @@
 pub mod Hashes
-pub mod Apart
+pub mod Separate

@@ -25,5 +25,5 @@ module _ (immutable : Bool) where
 
   -- the known signatures are those of the features, no two of which conflict
   pub record AreApart (features : List Feature) (known : List Sig) : Type 0 where
-    pub known : known ≡ flat_map signatures_of features
-    pub none_clash : NoneClash features
+    pub listed : known ≡ flat_map signatures_of features
+    pub none_clash : NoneClash immutable features

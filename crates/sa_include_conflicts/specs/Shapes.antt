@@ -84,9 +84,9 @@ clash_seen f g = by (is_abstract_type f) (is_abstract_type g) (same_type (bare f
         → (s || a && b) ≡ option_eq same_type (cond a None (Some (bare f))) (cond b None (Some (bare g)))
     by true true true p q r = refl
     by true true false p q r = refl
-    by true false true p q r = sym (alike_abstract f g true false p q r)
+    by true false true p q r = alike_abstract f g true false p q r
     by true false false p q r = refl
-    by false true true p q r = alike_abstract f g true false (cc) (cc) r
+    by false true true p q r = sym (alike_abstract f g false true p q r)
     by false true false p q r = refl
     by false false true p q r = sym r
     by false false false p q r = sym r

@@ -22,7 +22,7 @@ struct Known {
 /// # Errors
 ///
 /// `NoMemory`, also where two conflict.
-#[tactic(auto, using(crate::proofs::Apart::none_apart, crate::proofs::Apart::more_apart))]
+#[tactic(auto, using(crate::proofs::Separate::none_apart, crate::proofs::Separate::more_apart))]
 pub fn try_apart(alloc: Global, features: &[Feature], immutable: bool) -> Result<(), NoMemory>
     ensures { OnOk result (NoneClash immutable features.now) }
 {
@@ -37,7 +37,7 @@ pub fn try_apart(alloc: Global, features: &[Feature], immutable: bool) -> Result
 
 impl Known {
     /// Adds the signatures of a feature.
-    #[tactic(auto, using(crate::proofs::Apart::adds_one, crate::proofs::Apart::adds_two))]
+    #[tactic(auto, using(crate::proofs::Separate::adds_one, crate::proofs::Separate::adds_two))]
     fn add_feature(
         &mut self,
         alloc: Global,
@@ -57,7 +57,7 @@ impl Known {
     }
 
     /// Adds a signature, which conflicts with none of the others.
-    #[tactic(auto, using(crate::proofs::Apart::adds_new))]
+    #[tactic(auto, using(crate::proofs::Separate::adds_new))]
     fn add(&mut self, sig: Sig) -> Result<(), NoMemory>
         ensures { OnOk result (AddsSignature sig self.old.shapes.keys self.new.shapes.keys) }
     {

@@ -15,4 +15,4 @@ pub use conflicts::{Conflicts, first_conflict, group_features};
 pub use features::{ClassFeatures, is_stub};
 pub use lists::{is_set, item};
 pub use replaced::staying;
-pub use stubs::{first_stub, stub_left};
+pub use stubs::{keeps_stub, stub_left};

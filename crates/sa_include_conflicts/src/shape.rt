@@ -20,8 +20,12 @@ pub(crate) struct Shape {
 
 impl Model for Shape {
     ghost use Rattle.sa_types.specs.declared.sig.Sig.{Sig};
+    ghost use Rattle.sa_tree.specs.contracts.ty.Ty as e;
+    ghost use Rattle.std.specs.Coded.{codes};
 
     ghost Value = { Sig };
+
+    ghost coded = { Prim.hlevel (codes, e.the_row.coded) };
 
     ghost view = { λ s. s.sig };
 }

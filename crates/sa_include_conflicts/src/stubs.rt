@@ -5,7 +5,7 @@ ghost use Rattle.sa_include_conflicts.specs.Stub as spec;
 
 use crate::features::{ClassFeatures, is_stub};
 use crate::lists::is_set;
-use sa_tree::{Feature, Kind, NoMemory, Pos, Refusal, Rule};
+use sa_tree::{Feature, Kind, NoMemory, Refusal, Rule};
 
 /// The refusal, with E22 at its name, of the first stub that stays, of a class that isn't partial.
 ///
@@ -29,25 +29,26 @@ pub fn stub_left(
     Ok(None)
 }
 
-/// Where the first stub of a class stands that isn't partial.
-pub fn first_stub(kind: Kind, features: &[Feature]) -> Option<Pos>
-    ensures { result ≡ spec.stub_left kind features.now }
+/// Whether a class that isn't partial has a stub among these features.
+pub fn keeps_stub(kind: Kind, features: &[Feature]) -> bool
+    ensures { result ≡ spec.keeps_stub kind features.now }
 {
     match kind {
-        Kind::Partial => None,
-        Kind::Reference => first_among(features),
-        Kind::Immutable => first_among(features),
-        Kind::Abstract => first_among(features),
+        Kind::Partial => false,
+        Kind::Reference => has_stub(features),
+        Kind::Immutable => has_stub(features),
+        Kind::Abstract => has_stub(features),
     }
 }
 
-fn first_among(features: &[Feature]) -> Option<Pos>
-    ensures { result ≡ spec.first_stub features.now }
+#[tactic(auto, using(std::proofs::lemmas::List::Folds::list_any_more, std::proofs::lemmas::List::Folds::list_any_at))]
+fn has_stub(features: &[Feature]) -> bool
+    ensures { result ≡ spec.has_stub features.now }
 {
     for feature in features {
         if is_stub(feature) {
-            return Some(feature.name.pos);
+            return true;
         }
     }
-    None
+    false
 }

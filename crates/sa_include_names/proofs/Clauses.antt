@@ -1,5 +1,5 @@
 -- The include clauses of classes as edges.
-use Rattle.std.proofs.Common.{◌≡◌, ◌↔◌, ℕ, zero, suc, ◌+◌, ◌<◌, Bool, cond, List, [], ◌∷◌, ◌++◌, Option, None, Some, length, get_or, take, slice_get, refl, sym, ap, subst, ◌∙◌, ◌⊎◌, inl, inr, ⊎_elim, arith}
+use Rattle.std.proofs.Common.{◌≡◌, ◌↔◌, ℕ, zero, suc, ◌+◌, ◌<◌, ◌≤◌, Bool, cond, List, [], ◌∷◌, ◌++◌, Option, None, Some, length, get_or, take, slice_get, refl, sym, ap, subst, ◌∙◌, ◌⊎◌, inl, inr, ⊎_elim, arith}
 use Rattle.std.proofs.lemmas.List.{length-append, take_more}
 use Rattle.std.proofs.lemmas.List.Elements.{Contains-append_left, Contains-push, Contains-push_cases}
 use Rattle.std.specs.List.{Contains}
@@ -12,7 +12,7 @@ use Rattle.sa_include_names.specs.declared.names.ClassNumbers.{ClassNumbers}
 use Rattle.sa_include_names.specs.declared.names.ParamNames.{ParamNames}
 use Rattle.sa_include_names.specs.Includes.{DoesInclude, number_included}
 use Rattle.sa_include_names.specs.Names.{hides}
-use Rattle.sa_include_names.specs.Tables.{AddsEdges, AreEdges, HasEdgeIn, HasNumbers, HasParams, NamesHere, included_in, number_in}
+use Rattle.sa_include_names.specs.Tables.{AddsEdges, AreEdges, HasEdgeIn, HasNumbers, HasParams, IsNumber, NamesHere, included_in, number_in}
 use Rattle.std.proofs.lemmas.Option.{slice_get_read, slice_get_within}
 use Rattle.sa_include_names.proofs.Numbers.{at_push}
 
@@ -65,30 +65,35 @@ module _ (params : ParamNames) (numbers : ClassNumbers) (from : ℕ) (includes :
   either : (to : ℕ) → NamesHere params numbers (take (i + 1) includes) to → NamesHere params numbers (take i includes) to ⊎ (included_in params numbers (bare clause.ty) ≡ Some to)
   either to h = ⊎_elim (λ g. inl (h.0, g, h.2)) (λ same. inr (subst (λ (c : Include). included_in params numbers (bare c.ty) ≡ Some to) (sym same) h.2)) (Contains-push_cases (take i includes) clause h.0 (subst (λ cs. Contains cs h.0) more h.1))
 
-  pub clause_added : (s t u : Edges) (to : ℕ) → AddsEdges from (NamesHere params numbers (take i includes)) s t → AddsEdges from (λ b. b ≡ to) t u → included_in params numbers (bare clause.ty) ≡ Some to → AddsEdges from (NamesHere params numbers (take (i + 1) includes)) s u
-  clause_added s t u to a b e = record {
+  pub clause_added : (s t u : Edges) → AddsEdges from (NamesHere params numbers (take i includes)) s t → AddsEdges from (IsNumber (included_in params numbers (bare clause.ty))) t u → AddsEdges from (NamesHere params numbers (take (i + 1) includes)) s u
+  clause_added s t u a b = record {
     count = λ h. b.count (a.count h);
     kept = λ h x y g. b.kept (a.count h) x y (a.kept h x y g);
-    added = λ h y g. ⊎_elim (λ k. b.kept (a.count h) from y (a.added h y k)) (λ k. b.added (a.count h) y (same y k)) (either y g);
-    only = λ h x y g. ⊎_elim (λ k. ⊎_elim inl (λ m. inr (m.0, earlier y m.1)) (a.only h x y k)) (λ k. inr (k.0, here y (e ∙ ap Some (sym k.1)))) (b.only (a.count h) x y g);
+    added = λ h y g. ⊎_elim (λ k. b.kept (a.count h) from y (a.added h y k)) (λ k. b.added (a.count h) y k) (either y g);
+    only = λ h x y g. ⊎_elim (λ k. ⊎_elim inl (λ m. inr (m.0, earlier y m.1)) (a.only h x y k)) (λ k. inr (k.0, here y k.1)) (b.only (a.count h) x y g);
   }
-    where
-      same : (y : ℕ) → included_in params numbers (bare clause.ty) ≡ Some y → y ≡ to
-      same y k = by (sym k ∙ e)
-        where
-          by : Some y ≡ Some to → y ≡ to
-          by q = cc
 
-  pub clause_left : (s t : Edges) → AddsEdges from (NamesHere params numbers (take i includes)) s t → included_in params numbers (bare clause.ty) ≡ None → AddsEdges from (NamesHere params numbers (take (i + 1) includes)) s t
-  clause_left s t a e = record {
-    count = a.count;
-    kept = a.kept;
-    added = λ h y g. ⊎_elim (a.added h y) (λ k. absurd (differs y (sym k ∙ e))) (either y g);
-    only = λ h x y g. ⊎_elim inl (λ m. inr (m.0, earlier y m.1)) (a.only h x y g);
-  }
-    where
-      differs : (y : ℕ) → Some y ≡ None → ⊥
-      differs y q = cc
+pub edge_named : (s t : Edges) (from to : ℕ) (found named : Option ℕ) → AddsEdges from (λ b. b ≡ to) s t → found ≡ named → found ≡ Some to → AddsEdges from (IsNumber named) s t
+edge_named s t from to found named a same is = record {
+  count = a.count;
+  kept = a.kept;
+  added = λ h b g. a.added h b (one (sym g ∙ sym same ∙ is));
+  only = λ h x y g. ⊎_elim inl (λ m. inr (m.0, sym same ∙ is ∙ ap Some (sym m.1))) (a.only h x y g);
+}
+  where
+    one : {x y : ℕ} → Some x ≡ Some y → x ≡ y
+    one q = cc
+
+pub edge_none : (s : Edges) (from : ℕ) (found named : Option ℕ) → found ≡ named → found ≡ None → AddsEdges from (IsNumber named) s s
+edge_none s from found named same is = record {
+  count = λ h. h;
+  kept = λ h a b g. g;
+  added = λ h b g. absurd (differs (sym g ∙ sym same ∙ is));
+  only = λ h a b g. inl g;
+}
+  where
+    differs : {x : ℕ} → Some x ≡ None → ⊥
+    differs q = cc
 
 pub no_clauses : (params : ParamNames) (numbers : ClassNumbers) (from : ℕ) (s : Edges) → AddsEdges from (NamesHere params numbers []) s s
 no_clauses params numbers from s = record {
@@ -110,7 +115,7 @@ pub record AreEdgesUpTo (classes : List Class) (n : ℕ) (edges : Edges) : Type 
 
 module _ (classes : List Class) (numbers : ClassNumbers) (numbered : HasNumbers classes numbers) where
   same_class : (params : ParamNames) (c : Class) → HasParams c.params params → (t : BareTy) → included_in params numbers t ≡ number_included classes c t
-  same_class params c h (Named name given) = ap (λ b. cond b None (number_in numbers name)) (h name) ∙ ap (cond (hides c.params name) None) (numbered name)
+  same_class params c h (Named name given) = ap (λ b. cond b None (number_in numbers name)) (h name) ∙ ap (cond (hides c.params name) None) (numbered.each name)
   same_class params c h Same = refl
   same_class params c h (Rout args of) = refl
   same_class params c h (Iter args of) = refl
@@ -143,14 +148,20 @@ module _ (classes : List Class) (numbers : ClassNumbers) (numbered : HasNumbers 
 pub no_classes : (classes : List Class) (edges : Edges) → edges.starts.items ≡ [] → edges.ends.items ≡ [] → AreEdgesUpTo classes 0 edges
 no_classes classes edges starts ends = record {
   count = ap length starts ∙ sym (ap length ends);
-  includes = λ a b. (λ h. absurd (none (ap (λ xs. slice_get xs h.0) (sym starts) ∙ h.1)), λ h. absurd (omega (arith, h.0)));
+  includes = λ a b. (λ h. absurd (none h.0 (ap (λ xs. slice_get xs h.0) (sym starts) ∙ h.1)), λ h. absurd (omega (arith, h.0)));
 }
   where
-    none : {a k : ℕ} → slice_get [] k ≡ Some a → ⊥
-    none q = cc
+    none : {a : ℕ} (k : ℕ) → slice_get [] k ≡ Some a → ⊥
+    none k q = cc
 
-pub all_classes : (classes : List Class) (edges : Edges) (n : ℕ) → length classes ≡ n → AreEdgesUpTo classes n edges → AreEdges classes edges
+pub all_classes : (classes : List Class) (edges : Edges) (n : ℕ) → length classes ≤ n → AreEdgesUpTo classes n edges → AreEdges classes edges
 all_classes classes edges n e upto = record {
   count = upto.count;
   includes = λ a b. (λ h. ((upto.includes a b).0 h).1, λ d. (upto.includes a b).1 (omega (arith, e, slice_get_within classes a d.class d.at), d));
 }
+
+pub ruleset classes_added = (no_classes, class_added, all_classes)
+
+pub ruleset clauses = (no_clauses, clause_added)
+
+pub ruleset named_edges = (edge_named, edge_none)

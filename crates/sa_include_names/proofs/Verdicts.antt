@@ -1,22 +1,20 @@
 -- The includes of a program's classes, put together.
 use Rattle.std.proofs.Common.{◌≡◌, ◌↔◌, ℕ, ◌<◌, Bool, true, false, List, [], ◌∷◌, Option, None, Some, length, set, slice_get, refl, sym, ap, subst, ◌∙◌, ◌⊎◌, inl, inr, ⊎_elim}
 use Rattle.std.proofs.lemmas.Bool.{false≢true}
-use Rattle.sa_graph.specs.Paths.{HasEdge, IsEdge, IsFirst, IsOnCycle, Leads, ends_of, node_count, starts_of}
+use Rattle.sa_graph.specs.Paths.{HasEdge, IsEdge, IsFirst, IsOnCycle, Leads, NoneBefore, ends_of, node_count, starts_of}
 use Rattle.sa_graph.specs.Reaching.{AreReaching, Reaches}
 use Rattle.sa_graph.specs.declared.graph.Graph.{Graph}
 use Rattle.sa_graph.proofs.Turned.{leads_along, first_edge}
 use Rattle.std.proofs.lemmas.Option.{slice_get_within}
 use Rattle.sa_tree.specs.declared.class.Class.{Class}
-use Rattle.sa_tree.specs.declared.pos.Pos.{Pos}
-use Rattle.sa_tree.specs.declared.rule.Rule.TheVariants as rule
 use Rattle.sa_tree.specs.declared.refusal.Refusal.{Refusal}
 use Rattle.sa_include_names.specs.declared.graph.Edges.{Edges}
 use Rattle.sa_include_names.specs.declared.names.ClassNumbers.{ClassNumbers}
 use Rattle.sa_include_names.specs.Includes.{AreArrays, DoesInclude, HasArrayPart, IncludesItself, array_name, is_set}
 use Rattle.sa_include_names.specs.Names.{DifferInName, number_of}
 use Rattle.sa_include_names.specs.Headers.{misused_names}
-use Rattle.sa_include_names.specs.Refusals.{AreIncludesRight, AreNamesRight, RefusesCycle, RefusesMisused}
-use Rattle.sa_include_names.specs.Tables.{AreEdges, AreGraphOf, CycleAt, HasNumbers, IsNamed, number_in}
+use Rattle.sa_include_names.specs.Refusals.{AreIncludesRight, RefusesNames, RefusesRepeated}
+use Rattle.sa_include_names.specs.Tables.{AreEdges, AreGraphOf, CycleAt, HasNumbers, IsNamed, MisusedAt, NoneMisused, number_in}
 
 -- ---- the graph of the include clauses
 
@@ -35,46 +33,53 @@ module _ (classes : List Class) (graph : Graph) (of : AreGraphOf classes graph) 
 
   -- ---- array parts
 
-  pub no_array : (marks : List Bool) → number_of classes array_name ≡ None → ((n : ℕ) → is_set marks n ≡ false) → AreArrays classes marks
-  no_array marks none unset n = (λ h. absurd (false≢true (sym (unset n) ∙ h)), λ h. absurd (differs h.0 (sym h.1 ∙ none)))
+  pub no-array : (numbers : ClassNumbers) (name : List ℕ) (found : Option ℕ) (marks : List Bool) → HasNumbers classes numbers → found ≡ number_in numbers name → name ≡ array_name → found ≡ None → ((n : ℕ) → is_set marks n ≡ false) → AreArrays classes marks
+  no-array numbers name found marks numbered is named none unset = record {
+    exactly = λ n. (λ h. absurd (false≢true (sym (unset n) ∙ h)), λ h. absurd (differs h.0 (sym h.1 ∙ sym (numbered.each array_name) ∙ ap (number_in numbers) (sym named) ∙ sym is ∙ none)));
+  }
     where
       differs : (k : ℕ) → Some k ≡ None → ⊥
       differs k q = cc
 
-  pub array_marks : (array : ℕ) (marks : List Bool) → number_of classes array_name ≡ Some array → AreReaching graph array marks → AreArrays classes marks
-  array_marks array marks is reaching n = (λ h. (array, is, way ((reaching n).0 h)), λ h. (reaching n).1 (subst (λ a. Reaches graph a n) (same h.0 h.1) (back h.0 h.2)))
+  pub array-marks : (numbers : ClassNumbers) (name : List ℕ) (found : Option ℕ) (array : ℕ) (marks : List Bool) → HasNumbers classes numbers → found ≡ number_in numbers name → name ≡ array_name → found ≡ Some array → AreReaching graph array marks → AreArrays classes marks
+  array-marks numbers name found array marks numbered is named some reaching = record {
+    exactly = λ n. (λ h. (array, known, way n ((reaching.exactly n).0 h)), λ h. (reaching.exactly n).1 (subst (λ a. Reaches graph a n) (same h.0 h.1) (back n h.0 h.2)));
+  }
     where
-      way : Reaches graph array n → (n ≡ array) ⊎ Leads (DoesInclude classes) n array
-      way (inl e) = inl e
-      way (inr w) = inr (include_way n array w)
+      known : number_of classes array_name ≡ Some array
+      known = sym (numbered.each array_name) ∙ ap (number_in numbers) (sym named) ∙ sym is ∙ some
 
-      back : (a : ℕ) → (n ≡ a) ⊎ Leads (DoesInclude classes) n a → Reaches graph a n
-      back a (inl e) = inl e
-      back a (inr w) = inr (graph_way n a w)
+      way : (n : ℕ) → Reaches graph array n → (n ≡ array) ⊎ Leads (DoesInclude classes) n array
+      way n (inl e) = inl e
+      way n (inr w) = inr (include_way n array w)
+
+      back : (n a : ℕ) → (n ≡ a) ⊎ Leads (DoesInclude classes) n a → Reaches graph a n
+      back n a (inl e) = inl e
+      back n a (inr w) = inr (graph_way n a w)
 
       same : (a : ℕ) → number_of classes array_name ≡ Some a → a ≡ array
-      same a h = one (sym h ∙ is)
+      same a h = one (sym h ∙ known)
         where
           one : Some a ≡ Some array → a ≡ array
           one q = cc
 
   -- ---- cycles
 
-  pub cycle_refused : (refusal : Refusal) → AreNamesRight classes → CycleAt classes graph refusal → RefusesCycle classes refusal
-  cycle_refused refusal right cycle = record {
-    right = right;
+  pub refuses-cycle : (arrays : List Bool) (refusal : Refusal) → DifferInName classes → AreArrays classes arrays → NoneMisused classes arrays → CycleAt classes graph refusal → RefusesNames classes refusal
+  refuses-cycle arrays refusal differ marked right cycle = inr (inr (record {
+    right = record { differ = differ; arrays = arrays; marked = marked; right = right.none };
     number = cycle.number;
     class = cycle.named.class;
     at = cycle.named.at;
     cycle = include_way cycle.number cycle.number cycle.first.cycle;
-    first = λ earlier lt h. cycle.first.first earlier lt (graph_way earlier earlier h);
+    first = λ earlier lt h. cycle.first.first.none earlier lt (graph_way earlier earlier h);
     is = cycle.named.is;
-  }
+  }))
 
-  pub none_includes_itself : AreNamesRight classes → ((number : ℕ) → number < node_count graph → ¬ IsOnCycle graph number) → AreIncludesRight classes
-  none_includes_itself right none = record {
-    names = right;
-    cycle = λ number h. none number (subst (λ n. number < n) (sym of.count) (inside number number h)) (graph_way number number h);
+  pub includes-right : (arrays : List Bool) → DifferInName classes → AreArrays classes arrays → NoneMisused classes arrays → NoneBefore graph (node_count graph) → AreIncludesRight classes
+  includes-right arrays differ marked right none = record {
+    names = record { differ = differ; arrays = arrays; marked = marked; right = right.none };
+    cycle = λ number h. none.none number (subst (λ n. number < n) (sym of.count) (inside number number h)) (graph_way number number h);
   }
     where
       inside : (a b : ℕ) → Leads (DoesInclude classes) a b → a < length classes
@@ -85,20 +90,18 @@ first_named classes graph number refusal first named = record { number = number;
 
 -- ---- names
 
-none_first : (ps : List Pos) → None ≡ slice_get ps 0 → ps ≡ []
-none_first [] h = refl
-none_first (p ∷ ps) h = cc
+pub refuses-repeated : (classes : List Class) (refusal : Refusal) → RefusesRepeated classes refusal → RefusesNames classes refusal
+refuses-repeated classes refusal repeated = inl repeated
 
-pub names_right : (classes : List Class) (arrays : List Bool) → DifferInName classes → AreArrays classes arrays → None ≡ slice_get (misused_names classes arrays) 0 → AreNamesRight classes
-names_right classes arrays differ marked none = record { differ = differ; arrays = arrays; marked = marked; right = none_first (misused_names classes arrays) none }
-
-pub misused_refused : (classes : List Class) (arrays : List Bool) (pos : Pos) (refusal : Refusal) → DifferInName classes → AreArrays classes arrays → Some pos ≡ slice_get (misused_names classes arrays) 0 → refusal ≡ record { rule = rule.ClassNotUsable; pos = pos } → RefusesMisused classes refusal
-misused_refused classes arrays pos refusal differ marked first is = record {
+pub refuses-misused : (classes : List Class) (arrays : List Bool) (refusal : Refusal) → DifferInName classes → AreArrays classes arrays → MisusedAt classes arrays refusal → RefusesNames classes refusal
+refuses-misused classes arrays refusal differ marked at = inr (inl (record {
   differ = differ;
   arrays = arrays;
   marked = marked;
-  first = sym first ∙ ap (λ (r : Refusal). Some r.pos) (sym is);
-  rule = ap (λ (r : Refusal). r.rule) is;
-}
+  first = at.first;
+  rule = at.rule;
+}))
 
-pub ruleset verdicts = (graph_of, cycle_refused, none_includes_itself, names_right, misused_refused)
+pub ruleset arrays = (no-array, array-marks)
+
+pub ruleset verdicts = (refuses-cycle, includes-right, refuses-repeated, refuses-misused)

@@ -73,8 +73,8 @@ is_no_immutable _ = true
 abbrev pub never_included : List (List ℕ)
 never_included = codes "BOOL" ∷ codes "INT" ∷ codes "CHAR" ∷ codes "STR" ∷ codes "OUT" ∷ codes "IN" ∷ codes "SYS" ∷ []
 
-abbrev pub is_never_included : List ℕ → Bool
-is_never_included name = list_any (λ other. pointwise nat_eq other name) never_included
+unfoldable pub is_never_included : List ℕ → Bool
+is_never_included name = list_any (pointwise nat_eq name) never_included
 
 -- in a class of this kind, where the names of classes have these numbers, the classes with an array part are marked, and some names
 -- are those of parameters
@@ -93,10 +93,11 @@ module _ (classes : List Class) (number : List ℕ → Option ℕ) (arrays : Lis
   may_stand name alone = alone && hidden name || class_passes (λ k c. is_no_partial c.kind) (number_seen name)
 
   -- a class may be included: it isn't abstract, and none of those; and an immutable class includes none with an array part
-  abbrev pub may_include : List ℕ → Bool
-  may_include name =
-      class_passes (λ k c. is_no_abstract c.kind && not (is_never_included name) && (is_no_immutable including || not (is_set arrays k)))
-      (number_seen name)
+  abbrev pub passes_as_included : List ℕ → ℕ → Class → Bool
+  passes_as_included name k c = is_no_abstract c.kind && not (is_never_included name) && (is_no_immutable including || not (is_set arrays k))
+
+  unfoldable pub may_include : List ℕ → Bool
+  may_include name = class_passes (passes_as_included name) (number_seen name)
 
   -- ---- types by where they stand
 
@@ -121,11 +122,15 @@ module _ (classes : List Class) (number : List ℕ → Option ℕ) (arrays : Lis
   misused_include t = misused_include_level (out-Ty t)
 
   -- in the bounds, after `<`, after `>` and in the include clauses of a class
-  abbrev pub misused_in : Class → List Pos
+  unfoldable pub misused_in : Class → List Pos
   misused_in c =
       flat_map (λ p. misused_option may_stand p.bound) c.params ++ misused_types may_stand c.below
       ++ flat_map misused_above c.above ++ flat_map (λ i. misused_include i.ty) c.includes
 
--- in all classes of a program, where the classes with an array part are marked
-abbrev pub misused_names : List Class → List Bool → List Pos
-misused_names classes arrays = flat_map (λ c. misused_in classes (number_of classes) arrays c.kind (hides c.params) c) classes
+-- in a class of a program, where the classes with an array part are marked
+abbrev pub misused_class : List Class → List Bool → Class → List Pos
+misused_class classes arrays c = misused_in classes (number_of classes) arrays c.kind (hides c.params) c
+
+-- in all of them
+unfoldable pub misused_names : List Class → List Bool → List Pos
+misused_names classes arrays = flat_map (misused_class classes arrays) classes

@@ -40,8 +40,8 @@ abbrev pub is_set : List Bool → ℕ → Bool
 is_set marks number = slice_index_or marks number false
 
 -- the classes with an array part are marked
-abbrev pub AreArrays : List Class → List Bool → Type 0
-AreArrays classes marks = (number : ℕ) → (is_set marks number ≡ true) ↔ HasArrayPart classes number
+pub record AreArrays (classes : List Class) (marks : List Bool) : Type 0 where
+  pub exactly : (number : ℕ) → (is_set marks number ≡ true) ↔ HasArrayPart classes number
 
 -- ---- include clauses with an array part, where the classes that have it are marked
 

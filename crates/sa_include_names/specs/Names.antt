@@ -15,8 +15,8 @@ abbrev pub number_of : List Class → List ℕ → Option ℕ
 number_of classes name = number_from 0 classes name
 
 -- no class has the name of an earlier one
-abbrev pub DifferInName : List Class → Type 0
-DifferInName classes = (place : ℕ) (c : Class) → slice_get classes place ≡ Some c → number_of (take place classes) c.name.name ≡ None
+pub record DifferInName (classes : List Class) : Type 0 where
+  pub differ : (place : ℕ) (c : Class) → slice_get classes place ≡ Some c → number_of (take place classes) c.name.name ≡ None
 
 -- the class at a place has the name of an earlier one, and none before it does
 pub record RepeatsName (classes : List Class) (place : ℕ) (c : Class) : Type 0 where

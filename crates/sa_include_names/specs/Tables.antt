@@ -1,5 +1,5 @@
 -- The tables of names.
-use Rattle.std.specs.Prelude.{◌≡◌, ◌⊎◌, ◌↔◌, Bool, ℕ, List, Option, None, Some, Contains, cond, length, nat_eq, slice_get}
+use Rattle.std.specs.Prelude.{◌≡◌, ◌⊎◌, ◌↔◌, Bool, ℕ, List, [], Option, None, Some, Contains, cond, length, nat_eq, slice_get}
 use Rattle.std.specs.Cmp.Lexicographic.{pointwise}
 use Rattle.indexmap.specs.IndexMap.{get}
 use Rattle.indexmap.specs.IndexSet.{contains}
@@ -13,7 +13,7 @@ use Rattle.sa_tree.specs.declared.ty.Ty.{Ty}
 use Rattle.sa_tree.specs.Types.{BareTy, Named, bare}
 use Rattle.sa_graph.specs.Paths.{HasEdge, IsEdge, IsFirst, node_count}
 use Rattle.sa_graph.specs.declared.graph.Graph.{Graph}
-use Rattle.sa_include_names.specs.Headers.{may_include, may_stand, misused_above, misused_in, misused_include}
+use Rattle.sa_include_names.specs.Headers.{may_include, may_stand, misused_above, misused_in, misused_include, misused_names, passes_as_included}
 use Rattle.sa_include_names.specs.declared.graph.Edges.{Edges}
 use Rattle.sa_include_names.specs.declared.header.Scope.{Scope}
 use Rattle.sa_include_names.specs.declared.names.ClassNumbers.{ClassNumbers}
@@ -24,8 +24,8 @@ use Rattle.sa_include_names.specs.Names.{hides, number_of}
 abbrev pub number_in : ClassNumbers → List ℕ → Option ℕ
 number_in numbers name = get (pointwise nat_eq) numbers.by_name name
 
-abbrev pub HasNumbers : List Class → ClassNumbers → Type 0
-HasNumbers classes numbers = (name : List ℕ) → number_in numbers name ≡ number_of classes name
+pub record HasNumbers (classes : List Class) (numbers : ClassNumbers) : Type 0 where
+  pub each : (name : List ℕ) → number_in numbers name ≡ number_of classes name
 
 abbrev pub hidden_in : ParamNames → List ℕ → Bool
 hidden_in params name = contains (pointwise nat_eq) params.names name
@@ -44,6 +44,10 @@ misused_above_in scope = misused_above scope.classes.now (number_in scope.number
 abbrev pub includes_in : Scope → List ℕ → Bool
 includes_in scope = may_include scope.classes.now (number_in scope.numbers.now) scope.arrays.now scope.kind (hidden_in scope.params)
 
+abbrev pub passes_in : Scope → List ℕ → ℕ → Class → Bool
+passes_in scope =
+    passes_as_included scope.classes.now (number_in scope.numbers.now) scope.arrays.now scope.kind (hidden_in scope.params)
+
 abbrev pub misused_include_in : Scope → Ty → List Pos
 misused_include_in scope =
     misused_include scope.classes.now (number_in scope.numbers.now) scope.arrays.now scope.kind (hidden_in scope.params)
@@ -61,6 +65,10 @@ first list = slice_get list 0
 abbrev pub included_in : ParamNames → ClassNumbers → BareTy → Option ℕ
 included_in params numbers (Named name given) = cond (hidden_in params name) None (number_in numbers name)
 included_in params numbers other = None
+
+-- a number, where there is one
+abbrev pub IsNumber : Option ℕ → ℕ → Type 0
+IsNumber found number = found ≡ Some number
 
 -- one of the clauses names the class
 abbrev pub NamesHere : ParamNames → ClassNumbers → List Include → ℕ → Type 0
@@ -86,6 +94,15 @@ pub record AreEdges (classes : List Class) (edges : Edges) : Type 0 where
 pub record AreGraphOf (classes : List Class) (graph : Graph) : Type 0 where
   pub count : node_count graph ≡ length classes
   pub includes : (a b : ℕ) → IsEdge graph a b ↔ DoesInclude classes a b
+
+-- no type may not stand where it does
+pub record NoneMisused (classes : List Class) (arrays : List Bool) : Type 0 where
+  pub none : misused_names classes arrays ≡ []
+
+-- the refusal of the first type that may not stand where it does, where the classes with an array part are marked
+pub record MisusedAt (classes : List Class) (arrays : List Bool) (refusal : Refusal) : Type 0 where
+  pub first : slice_get (misused_names classes arrays) 0 ≡ Some refusal.pos
+  pub rule : refusal.rule ≡ rule.ClassNotUsable
 
 -- the refusal of a cycle, at the name of the class with this number
 pub record IsNamed (classes : List Class) (number : ℕ) (refusal : Refusal) : Type 0 where

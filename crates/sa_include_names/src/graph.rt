@@ -1,10 +1,9 @@
 //! Which classes include which, and which have the array part by their includes.
 
-ghost use Rattle.std.specs.Prelude.{◌≡◌, IfOk, List, OnOk};
+ghost use Rattle.std.specs.Prelude.{◌≡◌, IfOk, OnOk};
 ghost use Rattle.sa_tree.specs.Types.{bare};
-ghost use Rattle.sa_tree.specs.declared.class.Class.{Class};
 ghost use Rattle.sa_include_names.specs.Includes.{AreArrays, is_set};
-ghost use Rattle.sa_include_names.specs.Tables.{AddsEdges, AreEdges, AreGraphOf, HasNumbers, NamesHere, included_in};
+ghost use Rattle.sa_include_names.specs.Tables.{AddsEdges, AreEdges, AreGraphOf, HasNumbers, IsNumber, NamesHere, included_in};
 
 use crate::names::{ClassNumbers, ParamNames};
 use sa_graph::{Graph, word};
@@ -17,18 +16,14 @@ const ARRAY_PART: &'static [u8] = b"AREF";
 /// An edge from a class to the class of each of its include clauses, by the numbers of classes. A clause that names no class
 /// has no edge.
 #[derive(Drop)]
-pub(crate) struct Edges {
-    pub(crate) starts: Vec<u32>,
-    pub(crate) ends: Vec<u32>,
+struct Edges {
+    starts: Vec<u32>,
+    ends: Vec<u32>,
 }
 
 impl Edges {
-    #[tactic(auto, using(crate::proofs::Clauses::no_classes, crate::proofs::Clauses::class_added, crate::proofs::Clauses::all_classes))]
-    pub(crate) fn new(
-        alloc: Global,
-        classes: &[Class],
-        numbers: &ClassNumbers,
-    ) -> Result<Edges, NoMemory>
+    #[tactic(auto, using(crate::proofs::Clauses::classes_added))]
+    fn new(alloc: Global, classes: &[Class], numbers: &ClassNumbers) -> Result<Edges, NoMemory>
         requires { HasNumbers classes.now numbers.now }
         ensures { IfOk result (AreEdges classes.now) }
     {
@@ -44,7 +39,7 @@ impl Edges {
     }
 
     /// Adds the edges of a class with this number.
-    #[tactic(auto, using(crate::proofs::Clauses::no_clauses, crate::proofs::Clauses::clause_added, crate::proofs::Clauses::clause_left))]
+    #[tactic(auto, using(crate::proofs::Clauses::clauses))]
     fn add_clauses(
         &mut self,
         number: u32,
@@ -55,11 +50,29 @@ impl Edges {
         ensures { OnOk result (AddsEdges number (NamesHere params.now numbers.now includes.now) self.old self.new) }
     {
         for include in includes {
-            if let Some(included) = included_class(&include.ty, params, numbers) {
-                self.add(number, included)?;
-            }
+            self.add_clause(number, &include.ty, params, numbers)?;
         }
         Ok(())
+    }
+
+    /// Adds the edge of a clause of this type, if it names a class.
+    #[tactic(auto, using(crate::proofs::Clauses::named_edges))]
+    fn add_clause(
+        &mut self,
+        number: u32,
+        ty: &Ty,
+        params: &ParamNames,
+        numbers: &ClassNumbers,
+    ) -> Result<(), NoMemory>
+        ensures { OnOk result (AddsEdges number (IsNumber (included_in params.now numbers.now (bare ty.now))) self.old self.new) }
+    {
+        match included_class(ty, params, numbers) {
+            Some(included) => {
+                self.add(number, included)?;
+                Ok(())
+            }
+            None => Ok(()),
+        }
     }
 
     #[tactic(auto, using(crate::proofs::Clauses::edge_added))]
@@ -91,15 +104,32 @@ fn included_class(ty: &Ty, params: &ParamNames, numbers: &ClassNumbers) -> Optio
     }
 }
 
+/// The graph of the classes in which an edge leads from each to those that it includes.
+#[tactic(auto, using(crate::proofs::Verdicts::graph_of))]
+pub(crate) fn include_graph(
+    alloc: Global,
+    classes: &[Class],
+    numbers: &ClassNumbers,
+) -> Result<Graph, NoMemory>
+    requires { HasNumbers classes.now numbers.now }
+    ensures { IfOk result (AreGraphOf classes.now) }
+{
+    let Edges { starts, ends } = Edges::new(alloc, classes, numbers)?;
+    let graph = Graph::new(alloc, classes.len(), starts, ends)?;
+    Ok(graph)
+}
+
 /// For each class whether it is AREF or reaches it by its includes.
-#[tactic(auto, using(crate::proofs::Verdicts::no_array, crate::proofs::Verdicts::array_marks))]
+#[tactic(auto, using(crate::proofs::Verdicts::arrays))]
 pub(crate) fn array_parts(
     alloc: Global,
+    classes: &[Class],
     graph: &Graph,
     numbers: &ClassNumbers,
 ) -> Result<Vec<bool>, NoMemory>
-    ensures { (classes : List Class) → HasNumbers classes numbers.now → AreGraphOf classes graph.now
-        → IfOk result (λ marks. AreArrays classes marks.items) }
+    requires numbers { HasNumbers classes.now numbers.now }
+    requires graph { AreGraphOf classes.now graph.now }
+    ensures { IfOk result (λ marks. AreArrays classes.now marks.items) }
 {
     let name = Name::from_slice(alloc, ARRAY_PART)?;
     match numbers.of(&name) {
@@ -108,7 +138,7 @@ pub(crate) fn array_parts(
             Ok(marks)
         }
         None => {
-            let marks = vec![in alloc; false; graph.count()]?;
+            let marks = vec![in alloc; false; classes.len()]?;
             Ok(marks)
         }
     }

@@ -1,20 +1,16 @@
 //! The names in headers and include clauses: each is that of a class, or of a parameter, that may stand there (E12).
 
-ghost use Rattle.std.specs.Prelude.{◌≡◌, ◌==◌, IfOk, None, cond, flat_map, length};
-ghost use Rattle.sa_include_names.specs.Headers.{is_never_included, misused, misused_arg, misused_names, misused_option, misused_types};
+ghost use Rattle.std.specs.Prelude.{◌≡◌, ◌&&◌, ◌==◌, IfOk, None, cond, flat_map, length};
+ghost use Rattle.sa_include_names.specs.Headers.{is_never_included, misused, misused_arg, misused_class, misused_names, misused_option};
+ghost use Rattle.sa_include_names.specs.Headers.{misused_types};
 ghost use Rattle.sa_include_names.specs.Tables.{HasNumbers, first, hidden_in, includes_in, misused_above_in, misused_class_in};
-ghost use Rattle.sa_include_names.specs.Tables.{misused_include_in, number_in, stands_in};
+ghost use Rattle.sa_include_names.specs.Tables.{misused_include_in, number_in, passes_in, stands_in};
 
 use crate::graph::is_marked;
 use crate::names::{ClassNumbers, ParamNames};
 use sa_tree::{Class, Include, Kind, ModeTy, Name, NoMemory, Param, Pos, Ty};
 use sqlite_items::Boxed;
 use std::alloc::Global;
-
-/// The classes of the prelude that can't be included in any class.
-const NEVER_INCLUDED: [&'static [u8]; 7] = [
-    b"BOOL", b"INT", b"CHAR", b"STR", b"OUT", b"IN", b"SYS",
-];
 
 /// What names may mean in a class.
 #[derive(Drop)]
@@ -30,6 +26,7 @@ struct Scope<'a> {
 
 /// Where the first type stands in a header or an include clause, in text order and a type before those inside it, whose name
 /// may not stand there.
+#[tactic(auto, using(crate::proofs::Misuses::firsts), unfolding(crate::specs::Headers::misused_names))]
 pub(crate) fn first_misused(
     alloc: Global,
     classes: &[Class],
@@ -40,51 +37,76 @@ pub(crate) fn first_misused(
     ensures { IfOk result (λ pos. pos ≡ first (misused_names classes.now arrays.now)) }
 {
     for class in classes {
-        let scope = Scope {
-            classes,
-            numbers,
-            arrays,
-            kind: class.kind,
-            params: ParamNames::new(alloc, class.params.as_slice())?,
-        };
-        let pos = in_class(&scope, class);
-        if pos.is_some() {
-            return Ok(pos);
+        if let Some(pos) = in_one(alloc, classes, numbers, arrays, class)? {
+            return Ok(Some(pos));
         }
     }
     Ok(None)
 }
 
+/// The same in one of the classes.
+#[tactic(auto, using(crate::proofs::Scopes::scopes))]
+fn in_one(
+    alloc: Global,
+    classes: &[Class],
+    numbers: &ClassNumbers,
+    arrays: &[bool],
+    class: &Class,
+) -> Result<Option<Pos>, NoMemory>
+    requires { HasNumbers classes.now numbers.now }
+    ensures { IfOk result (λ pos. pos ≡ first (misused_class classes.now arrays.now class.now)) }
+{
+    let scope = Scope {
+        classes,
+        numbers,
+        arrays,
+        kind: class.kind,
+        params: ParamNames::new(alloc, class.params.as_slice())?,
+    };
+    let pos = in_class(&scope, class);
+    Ok(pos)
+}
+
 /// The same in the header of a class, in which are the bounds of parameters, the types after `<` and those after `>`, and in its
 /// include clauses.
+#[tactic(auto, using(crate::proofs::Misuses::firsts), unfolding(crate::specs::Headers::misused_in))]
 fn in_class(scope: &Scope<'_>, class: &Class) -> Option<Pos>
     ensures { result ≡ first (misused_class_in scope.now class.now) }
 {
-    if let Some(pos) = in_bounds(scope, class.params.as_slice()) {
-        return Some(pos);
+    match in_bounds(scope, class.params.as_slice()) {
+        Some(pos) => Some(pos),
+        None => match in_types(scope, class.below.as_slice()) {
+            Some(pos) => Some(pos),
+            None => match in_all_above(scope, class.above.as_slice()) {
+                Some(pos) => Some(pos),
+                None => in_includes(scope, class.includes.as_slice()),
+            },
+        },
     }
-    if let Some(pos) = in_types(scope, class.below.as_slice()) {
-        return Some(pos);
-    }
-    if let Some(pos) = in_all_above(scope, class.above.as_slice()) {
-        return Some(pos);
-    }
-    in_includes(scope, class.includes.as_slice())
 }
 
+#[tactic(auto, using(crate::proofs::Misuses::firsts))]
 fn in_bounds(scope: &Scope<'_>, params: &[Param]) -> Option<Pos>
     ensures { result ≡ first (flat_map (λ p. misused_option (stands_in scope.now) p.bound) params.now) }
 {
     for param in params {
-        if let Some(bound) = &param.bound {
-            if let Some(pos) = in_type(scope, bound) {
-                return Some(pos);
-            }
+        if let Some(pos) = in_bound(scope, &param.bound) {
+            return Some(pos);
         }
     }
     None
 }
 
+fn in_bound(scope: &Scope<'_>, bound: &Option<Ty>) -> Option<Pos>
+    ensures { result ≡ first (misused_option (stands_in scope.now) bound.now) }
+{
+    match bound {
+        None => None,
+        Some(ty) => in_type(scope, ty),
+    }
+}
+
+#[tactic(auto, using(crate::proofs::Misuses::firsts))]
 fn in_all_above(scope: &Scope<'_>, above: &[Ty]) -> Option<Pos>
     ensures { result ≡ first (flat_map (misused_above_in scope.now) above.now) }
 {
@@ -97,12 +119,13 @@ fn in_all_above(scope: &Scope<'_>, above: &[Ty]) -> Option<Pos>
 }
 
 /// The same in a type after `>`, which is no bound type and no parameter.
+#[tactic(auto, using(crate::proofs::Misuses::above))]
 fn in_above(scope: &Scope<'_>, ty: &Ty) -> Option<Pos>
     ensures { result ≡ first (misused_above_in scope.now ty.now) }
 {
     match ty {
         Ty::Named(name, given, pos) => {
-            if given.as_slice().is_empty() && scope.params.hides(name) {
+            if is_param(scope, name, given.as_slice()) {
                 return Some(*pos);
             }
             in_type(scope, ty)
@@ -111,6 +134,13 @@ fn in_above(scope: &Scope<'_>, ty: &Ty) -> Option<Pos>
         Ty::Rout(_, _, pos) => Some(*pos),
         Ty::Iter(_, _, pos) => Some(*pos),
     }
+}
+
+/// Whether a name with these parameters is that of a parameter of the class.
+fn is_param(scope: &Scope<'_>, name: &Name, given: &[Ty]) -> bool
+    ensures { result ≡ ((length given.now == 0) && hidden_in scope.now.params name.now) }
+{
+    given.is_empty() && scope.params.hides(name)
 }
 
 /// The same in a type: each name in it is that of a parameter, or of a class that isn't partial.
@@ -203,6 +233,7 @@ fn class_of(scope: &Scope<'_>, name: &Name) -> Option<u32>
     }
 }
 
+#[tactic(auto, using(crate::proofs::Misuses::firsts))]
 fn in_includes(scope: &Scope<'_>, includes: &[Include]) -> Option<Pos>
     ensures { result ≡ first (flat_map (λ i. misused_include_in scope.now i.ty) includes.now) }
 {
@@ -215,6 +246,7 @@ fn in_includes(scope: &Scope<'_>, includes: &[Include]) -> Option<Pos>
 }
 
 /// The same in the type of an include clause: that of a class that may be included in the class. What it is given are types.
+#[tactic(auto, using(crate::proofs::Misuses::including))]
 fn in_include(scope: &Scope<'_>, ty: &Ty) -> Option<Pos>
     ensures { result ≡ first (misused_include_in scope.now ty.now) }
 {
@@ -233,23 +265,45 @@ fn in_include(scope: &Scope<'_>, ty: &Ty) -> Option<Pos>
 
 /// Whether the class may include the class with this name: an abstract class and the classes of the built-in values and of
 /// input and output are never included, and an immutable class has no array part.
+#[tactic(auto, unfolding(crate::specs::Headers::may_include))]
 fn may_include(scope: &Scope<'_>, name: &Name) -> bool
     ensures { result ≡ includes_in scope.now name.now }
 {
-    let Some(number) = class_of(scope, name) else {
-        return false;
-    };
-    let Some(class) = scope.classes.get(number as usize) else {
-        return false;
-    };
-    if class.kind == Kind::Abstract || is_never_included(name.as_slice()) {
-        return false;
+    match class_of(scope, name) {
+        Some(number) => match scope.classes.get(number as usize) {
+            Some(class) => passes(scope, name, number, class),
+            None => false,
+        },
+        None => false,
     }
-    scope.kind != Kind::Immutable || !is_marked(scope.arrays, number)
 }
 
+/// The same of the class with this name and number.
+fn passes(scope: &Scope<'_>, name: &Name, number: u32, class: &Class) -> bool
+    ensures { result ≡ passes_in scope.now name.now number class.now }
+{
+    if class.kind == Kind::Abstract {
+        return false;
+    }
+    if is_never_included(name.as_slice()) {
+        return false;
+    }
+    if scope.kind != Kind::Immutable {
+        return true;
+    }
+    !is_marked(scope.arrays, number)
+}
+
+/// Whether it is one of the classes of the prelude that can't be included in any class.
+#[tactic(auto, unfolding(crate::specs::Headers::is_never_included))]
 fn is_never_included(name: &[u8]) -> bool
     ensures { result ≡ is_never_included name.now }
 {
-    NEVER_INCLUDED.iter().any(|other| *other == name)
+    name == b"BOOL".as_slice()
+        || name == b"INT".as_slice()
+        || name == b"CHAR".as_slice()
+        || name == b"STR".as_slice()
+        || name == b"OUT".as_slice()
+        || name == b"IN".as_slice()
+        || name == b"SYS".as_slice()
 }

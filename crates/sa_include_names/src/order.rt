@@ -1,20 +1,21 @@
 //! An order in which each class stands behind those that it includes. There is none where a class includes itself, by itself
 //! or by others (E15).
 
-ghost use Rattle.std.specs.Prelude.{◌≡◌, ℕ, ◌<◌, ◌≤◌, Err, IfOk, MatchOption, OnOk, count_by};
-ghost use Rattle.sa_graph.specs.Paths.{IsOnCycle, node_count};
+ghost use Rattle.std.specs.Prelude.{◌≡◌, ◌≤◌, Err, IfOk, MatchOption, OnOk, count_by};
+ghost use Rattle.sa_graph.specs.Paths.{NoneBefore, node_count};
 ghost use Rattle.sa_tree.specs.declared.refusal.FrontFault.TheVariants.{Refused};
 ghost use Rattle.sa_tree.specs.declared.refusal.Refusal.{Refusal};
+ghost use Rattle.sa_tree.specs.declared.rule.Rule.TheVariants.{ClassNotUsable};
 ghost use Rattle.sa_tree.specs.Types.{bare};
 ghost use Rattle.sa_include_names.specs.Includes.{AreArrays, IsSecond, brings_array, number_named};
 ghost use Rattle.sa_include_names.specs.Refusals.{AreIncludesRight, RefusesNames};
-ghost use Rattle.sa_include_names.specs.Tables.{CycleAt, HasNumbers, IsNamed, number_in};
+ghost use Rattle.sa_include_names.specs.Tables.{CycleAt, HasNumbers, IsNamed, MisusedAt, NoneMisused, number_in};
 
-use crate::graph::{Edges, array_parts, is_marked};
+use crate::graph::{array_parts, include_graph, is_marked};
 use crate::header::first_misused;
 use crate::names::ClassNumbers;
 use sa_graph::Graph;
-use sa_tree::{Class, FrontFault, Include, Rule, Ty};
+use sa_tree::{Class, FrontFault, Include, Pos, Rule, Ty};
 use std::alloc::Global;
 
 /// Which classes of a program include which. A class has the number of its place in the program's list.
@@ -43,12 +44,9 @@ impl Includes {
         ensures refused { (refusal : Refusal) → result ≡ Err (Refused refusal) → RefusesNames classes.now refusal }
     {
         let numbers = ClassNumbers::new(alloc, classes)?;
-        let Edges { starts, ends } = Edges::new(alloc, classes, &numbers)?;
-        let graph = Graph::new(alloc, classes.len(), starts, ends)?;
-        let arrays = array_parts(alloc, &graph, &numbers)?;
-        if let Some(pos) = first_misused(alloc, classes, &numbers, &arrays)? {
-            return Err(Rule::ClassNotUsable.at(pos).into());
-        }
+        let graph = include_graph(alloc, classes, &numbers)?;
+        let arrays = array_parts(alloc, classes, &graph, &numbers)?;
+        names_stand(alloc, classes, &numbers, &arrays)?;
         let order = include_order(alloc, classes, &graph)?;
         Ok(Includes {
             numbers,
@@ -105,6 +103,35 @@ impl Includes {
     }
 }
 
+/// Sees that each name in a header or an include clause may stand there.
+///
+/// # Errors
+///
+/// E12 at the first type, in text order and before those inside it, whose name may not.
+#[tactic(auto, using(crate::proofs::Scopes::misused_first))]
+fn names_stand(
+    alloc: Global,
+    classes: &[Class],
+    numbers: &ClassNumbers,
+    arrays: &[bool],
+) -> Result<(), FrontFault>
+    requires { HasNumbers classes.now numbers.now }
+    ensures none { OnOk result (NoneMisused classes.now arrays.now) }
+    ensures misused { (refusal : Refusal) → result ≡ Err (Refused refusal) → MisusedAt classes.now arrays.now refusal }
+{
+    match first_misused(alloc, classes, numbers, arrays)? {
+        None => Ok(()),
+        Some(pos) => Err(misused_at(pos)),
+    }
+}
+
+/// The refusal of a name that may not stand at this position.
+fn misused_at(pos: Pos) -> FrontFault
+    ensures { (refusal : Refusal) → result ≡ Refused refusal → refusal ≡ record { rule = ClassNotUsable; pos = pos } }
+{
+    Rule::ClassNotUsable.at(pos).into()
+}
+
 /// The numbers of the classes in an order in which each class stands behind those that it includes.
 ///
 /// # Errors
@@ -112,7 +139,7 @@ impl Includes {
 /// E15 at the name of the first class in text order that includes itself, by itself or by others.
 #[tactic(auto, using(crate::proofs::Verdicts::first_named))]
 fn include_order(alloc: Global, classes: &[Class], graph: &Graph) -> Result<Vec<u32>, FrontFault>
-    ensures none { OnOk result ((number : ℕ) → number < node_count graph.now → ¬ IsOnCycle graph.now number) }
+    ensures none { OnOk result (NoneBefore graph.now (node_count graph.now)) }
     ensures cycle { (refusal : Refusal) → result ≡ Err (Refused refusal) → CycleAt classes.now graph.now refusal }
 {
     let order = graph.order(alloc)?;

@@ -96,12 +96,12 @@ module _ (immutable : Bool) where
       each (f ∷ fs) a b = (clash_none f g a.0 b.0, each fs a.1 b.1)
 
   pub none_apart : (known : List Sig) → known ≡ [] → AreApart immutable [] known
-  none_apart known is = record { known = is; none_clash = λ i j d lt within. absurd (omega (arith, within)) }
+  none_apart known is = record { listed = is; none_clash = λ i j d lt within. absurd (omega (arith, within)) }
 
   pub more_apart : (features : List Feature) (i : ℕ) (g : Feature) (known new : List Sig) → i < length features → g ≡ get_or features i g → AreApart immutable (take i features) known → AddsFeature immutable g known new → AreApart immutable (take (i + 1) features) new
   more_apart features i g known new lt is apart adds = subst (λ fs. AreApart immutable fs new) (sym more) (record {
-    known = adds.added ∙ ap (λ ks. ks ++ signatures_of immutable g) apart.known ∙ sym (flat-push (take i features));
-    none_clash = pairs_push (take i features) apart.none_clash (apart_from_all (take i features) g known new apart.known adds);
+    listed = adds.added ∙ ap (λ ks. ks ++ signatures_of immutable g) apart.listed ∙ sym (flat-push (take i features));
+    none_clash = pairs_push (take i features) apart.none_clash (apart_from_all (take i features) g known new apart.listed adds);
   })
     where
       more : take (i + 1) features ≡ take i features ++ g ∷ []
@@ -124,6 +124,13 @@ module _ (immutable : Bool) where
           here : (n : ℕ) → n < length (fs ++ g ∷ []) → (n < length fs) ⊎ (n ≡ length fs)
           here n h = grind (arith, h, count)
 
+          last : (n : ℕ) → n ≡ length fs → get_or (fs ++ g ∷ []) n d ≡ g
+          last n e = subst (λ m. get_or (fs ++ g ∷ []) m d ≡ g) (sym e) (at_end fs)
+            where
+              at_end : (xs : List Feature) → get_or (xs ++ g ∷ []) (length xs) d ≡ g
+              at_end [] = refl
+              at_end (x ∷ xs) = at_end xs
+
           by : ((j < length fs) ⊎ (j ≡ length fs)) → do_clash immutable (get_or (fs ++ g ∷ []) i d) (get_or (fs ++ g ∷ []) j d) ≡ false
           by (inl b) =
               subst (λ x. do_clash immutable x (get_or (fs ++ g ∷ []) j d) ≡ false) (sym (get_or_append_left fs (g ∷ []) d i (omega (arith, lt, b))))
@@ -131,10 +138,3 @@ module _ (immutable : Bool) where
           by (inr e) =
               subst (λ x. do_clash immutable x (get_or (fs ++ g ∷ []) j d) ≡ false) (sym (get_or_append_left fs (g ∷ []) d i (omega (arith, lt, e))))
               (subst (λ x. do_clash immutable (get_or fs i d) x ≡ false) (sym (last j e)) (All-contains (λ f. do_clash immutable f g ≡ false) fs (get_or fs i d) (All-from_recursion (λ f. do_clash immutable f g ≡ false) fs all) (Contains-get_or fs i d (omega (arith, lt, e)))))
-
-          last : (n : ℕ) → n ≡ length fs → get_or (fs ++ g ∷ []) n d ≡ g
-          last n e = subst (λ m. get_or (fs ++ g ∷ []) m d ≡ g) (sym e) (at_end fs)
-            where
-              at_end : (xs : List Feature) → get_or (xs ++ g ∷ []) (length xs) d ≡ g
-              at_end [] = refl
-              at_end (x ∷ xs) = at_end xs
