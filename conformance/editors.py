@@ -19,9 +19,8 @@ import sys
 import examples
 import report
 
-TOP = os.path.join(os.path.dirname(os.path.abspath(__file__)), '..')
-VIM = os.path.join(TOP, 'editors', 'vim')
-PAGE = os.path.join(TOP, 'hosts', 'web', 'sather.js')
+VIM = os.path.join(report.TOP, 'editors', 'vim')
+PAGE = os.path.join(report.TOP, 'hosts', 'web', 'sather.js')
 # The kinds: the letter that stands for one in the samples, its group in Vim, and its scope in the grammar without `.sather`.
 KINDS = [
     ('c', 'satherConditional', 'keyword.control.conditional'),
@@ -96,15 +95,9 @@ console.log(JSON.stringify([WORDS, lines.map(piecesOfLine)]));
 '''
 
 
-def text_of(*path):
-    """The text of a file of the repository."""
-    with open(os.path.join(TOP, *path), encoding='utf-8') as file:
-        return file.read()
-
-
 def words_of_lexer():
     """The words of the lexer: those that are taken, and those that are refused."""
-    text = text_of('crates', 'sa_lex', 'src', 'word.rt')
+    text = report.text_of('crates', 'sa_lex', 'src', 'word.rt')
     spelled = dict(re.findall(r'Word::(\w+) => "(\w+)"', text))
     refused = re.findall(r'Word::(\w+)', re.search(r'fn is_refused.*?matches!\((.*?)\)', text, re.S).group(1))
     return [spelled[word] for word in spelled if word not in refused], [spelled[word] for word in refused]
@@ -112,7 +105,7 @@ def words_of_lexer():
 
 def words_of_vim():
     """The lists of words of the syntax file, each with its kind."""
-    found = re.findall(r'^syntax keyword (\w+) (.*)$', text_of('editors', 'vim', 'syntax', 'sather.vim'), re.M)
+    found = re.findall(r'^syntax keyword (\w+) (.*)$', report.text_of('editors', 'vim', 'syntax', 'sather.vim'), re.M)
     return [(OF_GROUP[group], words.split()) for group, words in found]
 
 
@@ -120,7 +113,7 @@ class Grammar:
     """The TextMate grammar."""
 
     def __init__(self):
-        grammar = json.loads(text_of('editors', 'textmate', 'sather.tmLanguage.json'))
+        grammar = json.loads(report.text_of('editors', 'textmate', 'sather.tmLanguage.json'))
         self.patterns, self.escapes = grammar['patterns'], grammar['repository']['escape']['patterns']
 
     def words(self):
@@ -170,7 +163,7 @@ def words_differ(lists):
 
 def indent_words_differ():
     """The words of the indent file that aren't the lexer's, or None."""
-    lists = re.findall(r"\\<(?:\\%\()?([a-z\\|]+?)(?:\\\))?\\>", text_of('editors', 'vim', 'indent', 'sather.vim'))
+    lists = re.findall(r"\\<(?:\\%\()?([a-z\\|]+?)(?:\\\))?\\>", report.text_of('editors', 'vim', 'indent', 'sather.vim'))
     words = {word for found in lists for word in found.split('\\|')}
     wrong = sorted(words - set(words_of_lexer()[0]))
     return 'no words of the language, or none at all: %s' % wrong if wrong or not words else None

@@ -13,19 +13,12 @@ import sys
 
 import report
 
-TOP = os.path.join(os.path.dirname(os.path.abspath(__file__)), '..')
 PAGE = 'docs/ERRORS.md'
 CODES = re.compile(r'codes "((?:[^"\\]|\\.)*)"')
 PIECE = re.compile(r'(about_place)|(about_file)|\b(file) \+\+|decimal (\w+)|\b((?:rule|fault)_text)\b|' + CODES.pattern)
 SECTION = re.compile(r'^### (.*)\n\n`(.*)`, status (\d+)\b', re.M)
 BLOCK = re.compile(r'^```(.*)\n((?:(?!```).*\n)*)```\n((?:(?!```|#).*\n)*)', re.M)
 BEHIND = re.compile(r'(gives|prints|is accepted|ends well)(?: with `(--[^`]*)`)?(?: `([^`]*)`)?')
-
-
-def read(path):
-    """The text of a file of the repository."""
-    with open(os.path.join(TOP, path), encoding='utf-8') as file:
-        return file.read()
 
 
 class Line:
@@ -51,10 +44,10 @@ def forms(expression, texts):
 
 def lines():
     """Each line that the program can end with, by its form."""
-    texts = {'rule_text': re.findall(r'^rule_text \S+ = ' + CODES.pattern, read('crates/sa_tree/specs/Rules.antt'), re.M),
-             'fault_text': re.findall(r'^fault_text \S+ = ' + CODES.pattern, read('crates/sa_tree/specs/Faults.antt'), re.M)}
-    statuses = dict(re.findall(r'^status_of \(?(\w+).* = (\d+)$', read('crates/sa_drive/specs/Status.antt'), re.M))
-    equations = dict(re.findall(r'^(\w.*?) = (.+)$', read('crates/sa_drive/specs/Lines.antt'), re.M))
+    texts = {'rule_text': re.findall(r'^rule_text \S+ = ' + CODES.pattern, report.text_of('crates/sa_tree/specs/Rules.antt'), re.M),
+             'fault_text': re.findall(r'^fault_text \S+ = ' + CODES.pattern, report.text_of('crates/sa_tree/specs/Faults.antt'), re.M)}
+    statuses = dict(re.findall(r'^status_of \(?(\w+).* = (\d+)$', report.text_of('crates/sa_drive/specs/Status.antt'), re.M))
+    equations = dict(re.findall(r'^(\w.*?) = (.+)$', report.text_of('crates/sa_drive/specs/Lines.antt'), re.M))
     found = {}
     for left, right in equations.items():
         if match := re.fullmatch(r'line_of_cause sources file \(?(\w+).*', left):
@@ -100,7 +93,7 @@ def examples(heading, first, text):
 
 def sections():
     """The sections of the page."""
-    text = read(PAGE)
+    text = report.text_of(PAGE)
     found = list(SECTION.finditer(text))
     ends = [match.start() for match in re.finditer(r'^##', text, re.M)] + [len(text)]
     for match in found:
@@ -159,7 +152,7 @@ def fault_of(section, known, contents):
 def try_all(program, told, word=''):
     """Compares the sections whose names hold the word, and asks whether each ending has exactly one."""
     known, found = lines(), list(sections())
-    contents = read(PAGE).partition('\n## ')[0]
+    contents = report.text_of(PAGE).partition('\n## ')[0]
     chosen = [section for section in found if word in 'errors: ' + section.heading]
     of_chosen = [example for section in chosen for example in section.examples]
     told.part('the errors that docs/ERRORS.md tells', len(chosen) + len(of_chosen))

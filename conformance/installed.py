@@ -19,10 +19,9 @@ import sys
 import report
 from report import Left
 
-TOP = os.path.join(os.path.dirname(os.path.abspath(__file__)), '..')
-INSTALL = os.path.join(TOP, 'install')
-BASH = os.path.join(TOP, 'completions', 'sather.bash')
-ZSH = os.path.join(TOP, 'completions', '_sather')
+INSTALL = os.path.join(report.TOP, 'install')
+BASH = os.path.join(report.TOP, 'completions', 'sather.bash')
+ZSH = os.path.join(report.TOP, 'completions', '_sather')
 USAGE = 124
 VALUES = {'--fuel': ['1000'], '--room': ['64'], '--stats': [], '--contracts': [], '-o': ['out']}
 HELLO = b'class MAIN is main is #OUT + "Hello\\n"; end; end;'
@@ -30,15 +29,9 @@ HELLO = b'class MAIN is main is #OUT + "Hello\\n"; end; end;'
 IN_BASH = 'source "$0"; COMP_WORDS=("$@"); COMP_CWORD=$(($# - 1)); _sather; printf "%s\\n" "${COMPREPLY[@]}"'
 
 
-def text_of(*path):
-    """The text of a file of the repository."""
-    with open(os.path.join(TOP, *path), encoding='utf-8') as file:
-        return file.read()
-
-
 def sections():
     """The sections of the man page by their names, without the marks of fonts."""
-    page = re.sub(r'^\.(?:[BIR]{1,2}|br) ?', '', text_of('man', 'sather.1'), flags=re.M).replace('\\-', '-')
+    page = re.sub(r'^\.(?:[BIR]{1,2}|br) ?', '', report.text_of('man', 'sather.1'), flags=re.M).replace('\\-', '-')
     parts = re.split(r'^\.SH (.*)\n', page, flags=re.M)
     return dict(zip(parts[1::2], parts[2::2]))
 
@@ -78,7 +71,7 @@ def page_differs():
         if found != wanted:
             return '%s: expected %s, and came %s' % (section, wanted, found)
     statuses = set(re.findall(r'^\.TP\n(\d+)', sections()['EXIT STATUS'], re.M))
-    tables = text_of('docs', 'LANGUAGE.md') + text_of('docs', 'WEBASSEMBLY.md')
+    tables = report.text_of('docs', 'LANGUAGE.md') + report.text_of('docs', 'WEBASSEMBLY.md')
     of_docs = set(re.findall(r'^\|(?:[^|]*\|)? (12\d) \|', tables, re.M))
     return None if statuses == of_docs else 'the page has the statuses %s, and docs/ %s' % (sorted(statuses), sorted(of_docs))
 
@@ -86,7 +79,7 @@ def page_differs():
 def bash_differs():
     """Where bash offers something else than the synopsis, or None."""
     def offered(*words):
-        left = report.run(['bash', '-c', IN_BASH, BASH, 'sather', *words], TOP)
+        left = report.run(['bash', '-c', IN_BASH, BASH, 'sather', *words], report.TOP)
         return sorted(left.output.decode().split()), left.lines
     wanted = {('',): list(synopsis()), **{(command, '-'): options for command, options in synopsis().items()}}
     for words, told in wanted.items():
@@ -97,7 +90,7 @@ def bash_differs():
 
 def zsh_differs():
     """Where the words of the zsh completion are others than those of the synopsis, or None."""
-    text = text_of('completions', '_sather')
+    text = report.text_of('completions', '_sather')
     commands = re.findall(r"^  '(\w+):", text, re.M)
     if commands != list(synopsis()):
         return 'expected the commands %s, and came %s' % (list(synopsis()), commands)

@@ -20,11 +20,10 @@ import sys
 
 import report
 
-TOP = os.path.join(os.path.dirname(os.path.abspath(__file__)), '..')
-LIB = os.path.join(TOP, 'lib')
+LIB = os.path.join(report.TOP, 'lib')
 TESTS = os.path.join(LIB, 'tests')
-PRELUDE = os.path.join(TOP, 'crates', 'sa_prelude', 'src', 'source.rt')
-PAGE = os.path.join(TOP, 'docs', 'LIBRARY.md')
+PRELUDE = os.path.join(report.TOP, 'crates', 'sa_prelude', 'src', 'source.rt')
+PAGE = os.path.join(report.TOP, 'docs', 'LIBRARY.md')
 OPTIONS = [[], ['--contracts']]
 
 # The text of the prelude, in the source that holds it.
@@ -42,11 +41,6 @@ CODE = re.compile(r'`([^`]*)`')
 # A line of the example at the head of a file, and what it says of what is printed.
 EXAMPLE = re.compile(r'--    (.*)')
 PRINTED = re.compile(r'\s-- (.*)')
-
-
-def text_of(path):
-    with open(path, encoding='utf-8') as file:
-        return file.read()
 
 
 def bytes_of(path):
@@ -102,15 +96,15 @@ def shown(feature):
 
 def sources():
     """The texts of the prelude and of the library's files, by the names that they have on the page."""
-    texts = {'prelude': PRELUDE_TEXT.search(text_of(PRELUDE)).group(1)}
-    texts.update(('lib/%s.sa' % name, text_of(os.path.join(LIB, name + '.sa'))) for name in names())
+    texts = {'prelude': PRELUDE_TEXT.search(report.text_of(PRELUDE)).group(1)}
+    texts.update(('lib/%s.sa' % name, report.text_of(os.path.join(LIB, name + '.sa'))) for name in names())
     return texts
 
 
 def classes_of_page():
     """The classes of the page, by the name of their file and by their head, each with the heads of features in its rows."""
     found, section, features = {}, None, None
-    for line in text_of(PAGE).splitlines():
+    for line in report.text_of(PAGE).splitlines():
         if line.startswith('## '):
             match = SECTION.match(line)
             section, features = match and match.group(1), None
@@ -155,7 +149,7 @@ def test_difference(program, name):
 
 def example_difference(program, name):
     """What differs in the example at the head of a file, or None. One that says nothing of what it prints may print anything."""
-    head = itertools.takewhile(lambda line: line.startswith('--'), text_of(os.path.join(LIB, name + '.sa')).splitlines())
+    head = itertools.takewhile(lambda line: line.startswith('--'), report.text_of(os.path.join(LIB, name + '.sa')).splitlines())
     lines = [match.group(1) for line in head if (match := EXAMPLE.match(line))]
     if not lines:
         return 'there is no example at its head'

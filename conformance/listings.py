@@ -25,7 +25,6 @@ from binary import (EMPTY, I32, I64, PREAMBLE, Module, code, counted, func_type,
                     unsigned, vector)
 from reader import MOST_LOCALS, MOST_NESTED, WITH_ADDRESS, Malformed, Reader
 
-PAGE = os.path.join(os.path.dirname(os.path.abspath(__file__)), '..', 'docs', 'WEBASSEMBLY.md')
 MALFORMED = NO_LISTING = 126
 VALUE_NAMES = {0x7f: 'i32', 0x7e: 'i64'}
 KINDS = ['func', 'table', 'memory', 'global']
@@ -463,8 +462,7 @@ def try_table(comparison, word):
 
 def example():
     """The example of the page: its source, the lines of its iter, and those of a call of it."""
-    with open(PAGE, encoding='utf-8') as page:
-        part = page.read().split('### An iter, line by line\n')[1].split('\n## ')[0]
+    part = report.text_of('docs', 'WEBASSEMBLY.md').split('### An iter, line by line\n')[1].split('\n## ')[0]
     source, *blocks = re.findall(r'^```\n(.*?)^```$', part, re.M | re.S)
     *of_iter, of_call = [re.sub(r'^ +', '', block, flags=re.M) for block in blocks]
     return source, ''.join(of_iter), of_call

@@ -11,6 +11,7 @@ import sys
 import tempfile
 import time
 
+TOP = os.path.join(os.path.dirname(os.path.abspath(__file__)), '..')
 SECONDS = 120       # the most that a run of the program may take
 SHOWN = 300         # bytes of a text that are shown
 BEFORE = 40         # of these before the first byte that differs
@@ -22,6 +23,12 @@ class Left:
     output: bytes = b''
     lines: bytes = b''
     status: int = 0
+
+
+def text_of(*path):
+    """The text of a file of the repository."""
+    with open(os.path.join(TOP, *path), encoding='utf-8') as file:
+        return file.read()
 
 
 def run(words, folder, seconds=SECONDS, **how):

@@ -1,18 +1,17 @@
 """What the program answers for a source: an acceptance or a refusal, a module, and how it runs. What is none of the answers that
 docs/LANGUAGE.md tells comes as a Breach."""
 import dataclasses
-import os
 import re
 
 import judges
 import programs
+import report
 import verdicts
 from engine_verdicts import Asked
 from grammar import PRELUDE_LINES
 from report import Left
 from verdicts import FUEL, SPENT, require
 
-PAGE = os.path.join(os.path.dirname(os.path.abspath(__file__)), '..', 'docs', 'LANGUAGE.md')
 ACCEPTED = Left(b'accepted\n')
 REFUSAL = re.compile(rb'(f\.sa|prelude):([1-9][0-9]*): (E[0-9]{2}): ([^\n]*)\n')
 FAULT = re.compile(rb'(f\.sa|prelude):([1-9][0-9]*): fault: ([^\n]*)\n')
@@ -21,8 +20,7 @@ ROOM = 64       # KiB
 
 def texts_of_codes():
     """The text of each code, from the table in docs/LANGUAGE.md."""
-    with open(PAGE, encoding='utf-8') as file:
-        rows = re.findall(r'^\| (E\d\d(?:, E\d\d)*) \| ([^|]*) \|', file.read(), re.M)
+    rows = re.findall(r'^\| (E\d\d(?:, E\d\d)*) \| ([^|]*) \|', report.text_of('docs', 'LANGUAGE.md'), re.M)
     return {code: text for codes, texts in rows for code, text in zip(codes.split(', '), texts.split(', '))}
 
 
