@@ -7,7 +7,7 @@ _sather() {
     return
   fi
   case ${COMP_WORDS[1]} in
-    run) options='--fuel --room --stats --contracts' ;;
+    run) options='--fuel --room --stats --contracts --trace' ;;
     build) options='--room --contracts -o' ;;
     check) options='--contracts' ;;
     exec) options='--fuel --stats' endings='*.wasm' ;;

@@ -26,11 +26,12 @@ class Activation:
 
 
 class Instance:
-    """An iter that was started: its activation, the bound value that it was started through, and what is left of its body."""
-    __slots__ = ('here', 'through', 'left')
+    """An iter that was started: its number, its activation, the bound value that it was started through, and what is left of its
+    body."""
+    __slots__ = ('number', 'here', 'through', 'left')
 
-    def __init__(self, here, through, left):
-        self.here, self.through, self.left = here, through, left
+    def __init__(self, number, here, through, left):
+        self.number, self.here, self.through, self.left = number, here, through, left
 
 
 class Callee:

@@ -8,7 +8,7 @@ import re
 
 TABLE = os.path.join(os.path.dirname(os.path.abspath(__file__)), '..', 'crates', 'test_cases', 'data')
 ESCAPE = re.compile(rb'\\(n|\\|#|x[0-9a-f]{2}|.?)', re.S)
-STREAMS = {'stdin', 'stdout', 'front of stdout'}
+STREAMS = {'stdin', 'stdout', 'front of stdout', 'stderr'}
 DEVICES = {'store', 'stdin', 'stdout', 'stderr'}
 
 
@@ -128,6 +128,8 @@ def told_of_part(case, part):
     content = text_of(form, text)
     if name == 'stdin':
         case.input = content
+    elif name == 'stderr':
+        case.lines = content
     elif name in STREAMS:
         case.prints(content, name != 'stdout')
     else:

@@ -169,7 +169,15 @@ class Expressions(Calls):
             raise Failed(FRAMES, at)
         self.state.live += 1
         inside = Activation(feature, callee.me, filled(feature.voids, values), here.depth + 1)
-        return here.sites.setdefault(site, Instance(inside, callee.through, feature.body(inside)))
+        instance = Instance(self.state.started, inside, callee.through, feature.body(inside))
+        self.state.started += 1
+        self.tell('start', here, site, instance)
+        return here.sites.setdefault(site, instance)
+
+    def tell(self, event, here, site, instance):
+        """Keeps what becomes of the instance that was started at a site, where that is asked for."""
+        if self.state.events is not None:
+            self.state.events.append((event, here.feature.number, site, instance.number))
 
     def resume(self, here, site, instance, values, at):
         """The instance at a site, whose arguments that aren't `once` are set anew."""
@@ -177,6 +185,7 @@ class Expressions(Calls):
         feature = inside.feature
         self.state.turn()
         self.check_depth(here.depth, at)
+        self.tell('resume', here, site, instance)
         modes = dict(enumerate(feature.modes))
         before = [feature.voids[place] if modes.get(place) == 'Out' else value for place, value in enumerate(inside.variables)]
         anew = [ABSENT if modes.get(place) == 'Once' else value for place, value in enumerate(values)]
@@ -187,26 +196,32 @@ class Expressions(Calls):
     def run_instance(self, here, site, instance):
         """The value that an instance yields next. Where it ends, the loop around the call is left."""
         try:
-            return next(instance.left)
+            value = next(instance.left)
+            self.tell('yield', here, site, instance)
+            return value
         except StopIteration as ended:
             if isinstance(ended.value, Returning):
                 raise Stuck('an iter returns') from None
         except Broke:
             raise Stuck('a loop of another feature is left') from None
         except Raised:
-            self.instance_ends(here, site)
+            self.instance_ends('abandon', here, site)
             raise
-        self.instance_ends(here, site)
+        self.instance_ends('quit', here, site)
         raise Broke
 
-    def instance_ends(self, here, site):
-        del here.sites[site]
+    def instance_ends(self, event, here, site):
+        self.tell(event, here, site, here.sites.pop(site))
         self.state.live -= 1
 
     def end_loop(self, here, loop):
-        """The instances of a loop end, and all those inside them."""
-        for site in [site for site in here.sites if here.feature.sites[site]['owner'] == loop]:
-            waiting = [here.sites.pop(site)]
-            while waiting:
-                self.state.live -= 1
-                waiting.extend(waiting.pop().here.sites.values())
+        """The instances of a loop end, in the order of their sites."""
+        for site in sorted(site for site in here.sites if here.feature.sites[site]['owner'] == loop):
+            self.abandon(here, site)
+
+    def abandon(self, here, site):
+        """The instance at a site ends, behind those inside it."""
+        inside = here.sites[site].here
+        for inner in sorted(inside.sites):
+            self.abandon(inside, inner)
+        self.instance_ends('abandon', here, site)

@@ -1,10 +1,10 @@
 #!/usr/bin/env python3
-"""meaning.py TREE FILE.. [--room KIB] [--turns N]
+"""meaning.py TREE FILE.. [--room KIB] [--turns N] [--trace]
 
 Runs the typed tree of a program by the written meaning of the language, on the input from standard input. TREE is the program
 `typed_tree`, which prints the tree of the sources in the files. Prints what the program puts, and on standard error how it ended
 and how many turns it spent: the status, a fault by its number with the file and the byte at which it stands, or that N turns
-weren't enough.
+weren't enough; with --trace, before that, what became of the instances of iters.
 
 Nothing here is taken from the compiler: values are trees, iters are generators, and there is no machine. `values` has the values,
 the state and the ways in which a step ends; `features` what the prelude leaves to the implementation; `calls`, `expressions` and
@@ -49,18 +49,36 @@ class Run(Statements):
         return 'ended', value & 255 if type(value) is int else 0
 
 
-class Answer:
-    """What a run leaves: its end, the line of a fault, its output, and the turns that it spent."""
+    def events(self):
+        """What became of the instances of iters: each event with the file and the line of the call that started the instance, and
+        its number."""
+        for event, feature, site, number in self.state.events or ():
+            at = self.features[feature].sites[site]['pos']
+            yield event, at[0], self.state.line(at), number
 
-    def __init__(self, end, state):
-        self.end, self.output, self.turns = end, bytes(state.output), state.turns
+
+class Answer:
+    """What a run leaves: its end, the line of a fault, its output, the events of its iters where they were kept, and the turns that it
+    spent."""
+
+    def __init__(self, end, run):
+        state = run.state
+        self.end, self.output, self.events, self.turns = end, bytes(state.output), list(run.events()), state.turns
         self.line = state.line(end[2]) if end[0] == 'stopped' else None
 
+    def trace(self, files):
+        """The lines of the events, where these are the names of the files."""
+        names = ['prelude'] + files
+        return ''.join('%s %s:%d %d\n' % (event, names[file], line, number) for event, file, line, number in self.events).encode()
 
-def run_tree(tree, given, room, most_turns):
-    """Runs a typed tree in this thread, which needs a stack for 10,000 calls inside one another."""
+
+def run_tree(tree, given, room, most_turns, traced=False):
+    """Runs a typed tree in this thread, which needs a stack for 10,000 calls inside one another. The events are kept where it is
+    traced."""
     run = Run(tree, given, room, most_turns)
-    return Answer(run.whole(), run.state)
+    if traced:
+        run.state.events = []
+    return Answer(run.whole(), run)
 
 
 def with_large_stack(work):
@@ -83,13 +101,16 @@ def main():
     words.add_argument('files', nargs='+')
     words.add_argument('--room', type=int, default=ROOM)
     words.add_argument('--turns', type=int, default=10 ** 9)
+    words.add_argument('--trace', action='store_true')
     given = words.parse_args()
     tree = typed_tree(given.tree, given.files)
     if isinstance(tree, list):
         print(*tree, file=sys.stderr)
         return 1
-    answer = with_large_stack(lambda: run_tree(tree, sys.stdin.buffer.read(), given.room, given.turns))
+    answer = with_large_stack(lambda: run_tree(tree, sys.stdin.buffer.read(), given.room, given.turns, given.trace))
     sys.stdout.buffer.write(answer.output)
+    if given.trace:
+        sys.stderr.write(answer.trace(given.files).decode())
     print(*answer.end, '%d turns' % answer.turns, file=sys.stderr)
     return 0
 

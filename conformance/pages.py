@@ -15,6 +15,7 @@ DOCS = os.path.join(os.path.dirname(os.path.abspath(__file__)), '..', 'docs')
 PAGES = ['LANGUAGE.md', 'ITERS.md', 'MOVING.md']
 FENCE = re.compile(r'^```.*\n', re.M)
 PRINTS_TEXT = re.compile(r'\nprints `([^`]*)`')
+PRINTS_AND_TELLS = re.compile(r'\nprints `([^`]*)`, and with `--trace` it tells\s*')
 PRINTS_BLOCK = re.compile(r'\nprints\s*')
 FAULT = re.compile(r'\nis the fault `([^`]*)` in line (\d+)')
 REFUSED = re.compile(r'\nis (E\d\d)(?: in line (\d+))?')
@@ -43,6 +44,8 @@ def examples(page):
 
 def wanted(example):
     """What the page says of the program: the output or None, and the pattern of the lines on err."""
+    if match := PRINTS_AND_TELLS.fullmatch(example.behind):
+        return match.group(1).encode(), re.escape(example.block.decode())
     if match := PRINTS_TEXT.match(example.behind):
         return match.group(1).encode(), ''
     if PRINTS_BLOCK.fullmatch(example.behind):

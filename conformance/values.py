@@ -120,6 +120,9 @@ class State:
         self.turns = 0
         self.most_turns = most_turns
         self.live = 0                # how many instances of iters there are
+        self.started = 0             # how many were started
+        self.events = None           # what became of them, where that is kept: the event, the feature and the site that started
+                                     # it, and its number
 
     def turn(self):
         if self.turns >= self.most_turns:

@@ -129,7 +129,7 @@ IsTested out classes outcome =
 
 -- the command was done, and this came of it
 abbrev pub Does : Outside → Line → Outcome → Type 0
-Does outside (Run fuel room stats contracts names) outcome = IsRun outside.store outside.input outside.out fuel names outcome
+Does outside (Run fuel room stats contracts trace names) outcome = IsRun outside.store outside.input outside.out fuel names outcome
 Does outside (Build room contracts out names) outcome = IsBuilt outside.store out names outcome
 Does outside (Check contracts names) outcome = IsChecked outside.store outside.out names outcome
 Does outside (Exec fuel stats file) outcome = IsExecuted outside.store outside.input outside.out fuel file outcome
@@ -160,7 +160,7 @@ module_file _ = []
 
 -- the command asks for the statistics
 abbrev pub asks_stats : Option Line → Bool
-asks_stats (Some (Run fuel room stats contracts names)) = stats
+asks_stats (Some (Run fuel room stats contracts trace names)) = stats
 asks_stats (Some (Exec fuel stats file)) = stats
 asks_stats _ = false
 
@@ -179,7 +179,7 @@ pub record IsTellable (line : Option Line) (outcome : Outcome) : Type 0 where
 
 -- the command runs no module on the input and to out
 abbrev pub RunsNone : Option Line → Type 0
-RunsNone (Some (Run fuel room stats contracts names)) = ⊥
+RunsNone (Some (Run fuel room stats contracts trace names)) = ⊥
 RunsNone (Some (Exec fuel stats file)) = ⊥
 RunsNone _ = ⊤
 

@@ -10,7 +10,7 @@ use crate::cause::Cause;
 use crate::compile::{Compiled, compile_files};
 use crate::outcome::Outcome;
 use sa_outside::{Outage, WriteFiles};
-use sa_words::Build;
+use sa_words::{Build, Trace};
 use std::alloc::Global;
 
 /// Compiles the program and writes its module.
@@ -28,6 +28,7 @@ pub fn build<'a, S: WriteFiles>(alloc: Global, line: &Build<'a>, store: &mut S) 
         line.files.as_slice(),
         line.contracts,
         line.room,
+        Trace::Silent,
     );
     match module {
         Ok(built) => {

@@ -18,7 +18,7 @@ use sa_gen::generate;
 use sa_outside::ReadFiles;
 use sa_read::{Program, ReadFault, parse_program, prelude, read_program};
 use sa_tree::{FrontFault, Name, NoMemory, Refusal, Sources};
-use sa_words::{Contracts, ROOM};
+use sa_words::{Contracts, ROOM, Trace};
 use sqlite_items::Items;
 use std::alloc::Global;
 
@@ -60,13 +60,14 @@ pub fn check_files<S: ReadFiles>(
     }
 }
 
-/// Reads the files of a program and compiles it, with so many KiB of room for objects.
+/// Reads the files of a program and compiles it, traced or not, with so many KiB of room for objects.
 pub fn compile_files<S: ReadFiles>(
     alloc: Global,
     store: &mut S,
     files: &[&str],
     contracts: Contracts,
     room: u32,
+    trace: Trace,
 ) -> Compiled
     ensures module { MatchResult result.«module»
         (λ _. IsTakenProgram (S.files store.old) (map (λ file. file.now) files.now) result.sources)
@@ -78,7 +79,7 @@ pub fn compile_files<S: ReadFiles>(
     ensures count { S.faults store.old ≤ S.faults store.new }
 {
     let checked = check_files(alloc, store, files, contracts);
-    compile_checked(alloc, checked, room)
+    compile_checked(alloc, checked, room, trace)
 }
 
 /// Compiles the generated program of so many classes, with the room of a run for which none is given.
@@ -88,29 +89,29 @@ pub fn compile_generated(alloc: Global, classes: u32) -> Compiled
     ensures placed { IfErr result.«module» (IsPlaced result.sources) }
 {
     let checked = check_generated(alloc, classes);
-    compile_checked(alloc, checked, ROOM)
+    compile_checked(alloc, checked, ROOM, Trace::Silent)
 }
 
 /// The module of a program that is accepted, with so many KiB of room for objects.
-fn compile_checked(alloc: Global, checked: Checked, room: u32) -> Compiled
+fn compile_checked(alloc: Global, checked: Checked, room: u32, trace: Trace) -> Compiled
     ensures same { result.sources ≡ checked.sources }
     ensures built { IfOk result.«module» IsTried }
     ensures made { IfOk result.«module» (λ _. IfErr checked.core (λ _. ⊥)) }
     ensures fault { IfErr result.«module» (λ cause. (checked.core ≡ Err cause) ⊎ (cause ≡ Cause.NoMemory)) }
 {
     let Checked { sources, core } = checked;
-    let module = made(alloc, core, room);
+    let module = made(alloc, core, room, trace);
     Compiled { sources, module }
 }
 
 /// The module of a typed tree, or the cause why there is none.
-fn made(alloc: Global, core: Result<Core, Cause>, room: u32) -> Result<Built, Cause>
+fn made(alloc: Global, core: Result<Core, Cause>, room: u32, trace: Trace) -> Result<Built, Cause>
     ensures built { IfOk result IsTried }
     ensures made { IfOk result (λ _. IfErr core (λ _. ⊥)) }
     ensures fault { IfErr result (λ cause. (core ≡ Err cause) ⊎ (cause ≡ Cause.NoMemory)) }
 {
     match core {
-        Ok(core) => match module_of(alloc, core, room) {
+        Ok(core) => match module_of(alloc, core, room, trace) {
             Ok(built) => Ok(built),
             Err(NoMemory) => Err(Cause::NoMemory),
         },

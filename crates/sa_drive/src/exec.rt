@@ -16,6 +16,7 @@ use crate::compile::{no_sources, unread};
 use crate::outcome::Outcome;
 use sa_outside::{ReadFiles, Sink, Source};
 use sa_read::{Read, read_file};
+use sa_trace::Listening;
 use sa_tree::Sources;
 use sa_words::Exec;
 use std::alloc::Global;
@@ -51,6 +52,7 @@ impl Ended {
         ensures done { result.done ≡ self.done }
         ensures steps { (steps : ℕ) → result.steps ≡ Some steps → steps ≡ self.steps }
         ensures told { is_some result.steps ≡ (stats && has_steps self.cause) }
+        ensures listening { result.listening ≡ Listening.Yes }
     {
         let steps = (stats && has_steps(&self.cause)).then_some(self.steps);
         Outcome {
@@ -60,6 +62,7 @@ impl Ended {
             file,
             module,
             steps,
+            listening: Listening::Yes,
         }
     }
 }

@@ -18,6 +18,7 @@ mod print;
 mod report;
 mod run;
 mod selftest;
+mod told;
 mod top;
 
 pub use cause::{Cause, Exit};

@@ -3,47 +3,88 @@
 ghost use Rattle.std.specs.Prelude.{◌<◌, length, IfOk};
 ghost use Rattle.sa_drive.specs.Built.{IsTried};
 
-use sa_core::{Core, positions};
-use sa_dispatch::rows;
-use sa_emit::emit;
+use sa_core::{Core, FeatureCore, positions};
+use sa_dispatch::{Rows, rows};
+use sa_emit::{emit, emit_traced};
 use sa_flat::FlatProgram;
 use sa_lower::lower;
 use sa_tree::{NoMemory, Pos};
+use sa_words::Trace;
 use sqlite_items::Items;
 use std::alloc::Global;
 use wa_encode::encode;
 use wa_run::runnable;
+use wa_syntax::Module;
 use wa_valid::Valid;
 
-/// A program's module, its bytes, and the positions that its faults name by number.
+/// A program's module, its bytes, and the positions that these name by number.
 #[derive(Drop)]
 pub struct Built {
     pub module: Valid,
     pub bytes: Vec<u8>,
+    /// Those that a stop names.
     pub positions: Items<Pos>,
+    /// Those of the sites, which a traced module names.
+    pub sites: Items<Pos>,
 }
 
-/// The module of a typed program, with so many KiB of room for its objects. Fails where memory runs out, also where a module of
-/// WebAssembly can't be as large as this one, or can't be run.
-pub fn module_of(alloc: Global, core: Core, room: u32) -> Result<Built, NoMemory>
+/// The module of a typed program, traced or not, with so many KiB of room for its objects. Fails where memory runs out, also where a
+/// module of WebAssembly can't be as large as this one, or can't be run.
+pub fn module_of(alloc: Global, core: Core, room: u32, trace: Trace) -> Result<Built, NoMemory>
     ensures { IfOk result IsTried }
 {
     let positions = positions(alloc, &core)?;
+    let sites = sites(alloc, &core)?;
     let flat = lower(alloc, &core, positions)?;
     let rows = rows(alloc, &core)?;
     drop(core);
-    let Ok(module) = emit(alloc, &flat, &rows, room) else {
-        return Err(NoMemory);
-    };
+    let module = emitted(alloc, &flat, &rows, room, trace)?;
     let FlatProgram { positions, .. } = flat;
     match encode(alloc, &module) {
-        Ok(bytes) if bytes.len() < u32::MAX as usize => tried(alloc, bytes, positions),
+        Ok(bytes) if bytes.len() < u32::MAX as usize => tried(alloc, bytes, positions, sites),
         _ => Err(NoMemory),
     }
 }
 
+/// The module of a flat program, traced or not.
+fn emitted(
+    alloc: Global,
+    flat: &FlatProgram,
+    rows: &Rows,
+    room: u32,
+    trace: Trace,
+) -> Result<Module, NoMemory> {
+    let emitted = match trace {
+        Trace::Silent => emit(alloc, flat, rows, room),
+        Trace::Told => emit_traced(alloc, flat, rows, room),
+    };
+    emitted.map_err(|_| NoMemory)
+}
+
+/// The positions of the sites of a program, feature by feature.
+fn sites(alloc: Global, core: &Core) -> Result<Items<Pos>, NoMemory> {
+    let mut sites = Items::new(alloc);
+    for feature in core.features.as_slice() {
+        add_sites(&mut sites, feature)?;
+    }
+    Ok(sites)
+}
+
+/// Adds the positions of the sites of a feature.
+fn add_sites(to: &mut Items<Pos>, feature: &FeatureCore) -> Result<(), NoMemory> {
+    for site in feature.sites.as_slice() {
+        to.push(site.pos)?;
+    }
+    Ok(())
+}
+
 /// The module of these bytes, where they spell one that can be run.
-fn tried(alloc: Global, bytes: Vec<u8>, positions: Items<Pos>) -> Result<Built, NoMemory>
+fn tried(
+    alloc: Global,
+    bytes: Vec<u8>,
+    positions: Items<Pos>,
+    sites: Items<Pos>,
+) -> Result<Built, NoMemory>
     requires { length bytes.items < 4294967295 }
     ensures { IfOk result IsTried }
 {
@@ -52,6 +93,7 @@ fn tried(alloc: Global, bytes: Vec<u8>, positions: Items<Pos>) -> Result<Built, 
             module,
             bytes,
             positions,
+            sites,
         }),
         Err(_answer) => Err(NoMemory),
     }

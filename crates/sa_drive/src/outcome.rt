@@ -3,6 +3,7 @@
 ghost use Rattle.std.specs.Prelude.{◌≡◌, [], None};
 
 use crate::cause::Cause;
+use sa_trace::Listening;
 use sa_tree::Sources;
 use std::alloc::Global;
 
@@ -20,6 +21,8 @@ pub struct Outcome<'a> {
     pub module: Vec<u8>,
     /// How many steps the machine made, where they are to be shown.
     pub steps: Option<u64>,
+    /// Whether err has taken all lines of the trace, where there is one.
+    pub listening: Listening,
 }
 
 impl<'a> Outcome<'a> {
@@ -31,6 +34,7 @@ impl<'a> Outcome<'a> {
         ensures bytes { result.«module».items ≡ «module».items }
         ensures file { result.file.now ≡ [] }
         ensures steps { result.steps ≡ None }
+        ensures listening { result.listening ≡ Listening.Yes }
     {
         Outcome {
             cause,
@@ -39,6 +43,7 @@ impl<'a> Outcome<'a> {
             file: "",
             module,
             steps: None,
+            listening: Listening::Yes,
         }
     }
 
@@ -50,6 +55,7 @@ impl<'a> Outcome<'a> {
         ensures bytes { result.«module».items ≡ [] }
         ensures file { result.file.now ≡ [] }
         ensures steps { result.steps ≡ None }
+        ensures listening { result.listening ≡ Listening.Yes }
     {
         Outcome::without_run(cause, sources, Vec::new(alloc))
     }

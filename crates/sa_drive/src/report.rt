@@ -10,11 +10,26 @@ use crate::cause::Cause;
 use crate::lines::{NO_MEMORY, lines};
 use crate::outcome::Outcome;
 use sa_outside::{Outage, Sink};
+use sa_trace::Listening;
 use std::alloc::{AllocError, Global};
 
 /// Puts the lines of an outcome on err, and gives the cause that stands then: out of memory in its place where the lines
 /// can't be made or err has no memory. Where err fails the cause stands.
 pub fn report<E: Sink>(alloc: Global, outcome: &Outcome<'_>, err: &mut E) -> Cause
+    requires { IsPlaced outcome.now.sources outcome.now.cause }
+    ensures stands { (result ≡ Cause.NoMemory) ⊎ (result ≡ outcome.now.cause) }
+    ensures told { result ≢ Cause.NoMemory → Tells (part E.output E.faults err.old err.new) (lines_of outcome.now result) }
+    ensures told_part { result ≡ Cause.NoMemory → TellsPart (part E.output E.faults err.old err.new) outcome.now }
+{
+    match outcome.listening {
+        Listening::Yes => tell_lines(alloc, outcome, err),
+        Listening::Failed => outcome.cause,
+        Listening::NoMemory => Cause::NoMemory,
+    }
+}
+
+/// Puts the lines of an outcome on err, which has taken all before.
+fn tell_lines<E: Sink>(alloc: Global, outcome: &Outcome<'_>, err: &mut E) -> Cause
     requires { IsPlaced outcome.now.sources outcome.now.cause }
     ensures stands { (result ≡ Cause.NoMemory) ⊎ (result ≡ outcome.now.cause) }
     ensures told { result ≢ Cause.NoMemory → Tells (part E.output E.faults err.old err.new) (lines_of outcome.now result) }

@@ -20,12 +20,12 @@ use crate::outcome::Outcome;
 use crate::place::is_place_in;
 use sa_outside::{ReadFiles, Sink, Source};
 use sa_tree::{FaultKind, Pos, Sources};
-use sa_words::Run;
+use sa_words::{Run, Trace};
 use std::alloc::Global;
 use wa_run::run_module;
 use wa_valid::Valid;
 
-/// Compiles the program and runs its module.
+/// Compiles the program and runs its module, which isn't traced.
 pub fn run<'a, S: ReadFiles, I: Source, O: Sink>(
     alloc: Global,
     line: &Run<'a>,
@@ -48,6 +48,7 @@ pub fn run<'a, S: ReadFiles, I: Source, O: Sink>(
         line.files.as_slice(),
         line.contracts,
         line.room,
+        Trace::Silent,
     );
     match module {
         Ok(built) => run_built(alloc, sources, built, line.fuel, line.stats, input, out),
@@ -79,6 +80,7 @@ pub fn run_built<'a, I: Source, O: Sink>(
         module,
         bytes,
         positions,
+        sites: _,
     } = built;
     let ended = run_valid(alloc, &module, fuel, input, out);
     let cause = at_place(ended.cause, positions.as_slice(), &sources);
@@ -110,7 +112,7 @@ fn run_valid<I: Source, O: Sink>(
 
 /// The cause of a program whose module ended with this one: where the module stopped, the fault at the position whose number
 /// it gave.
-fn at_place(cause: Cause, positions: &[Pos], sources: &Sources) -> Cause
+pub fn at_place(cause: Cause, positions: &[Pos], sources: &Sources) -> Cause
     ensures of_module { IsOfModule sources.now cause result }
     ensures placed { IsPlaced sources.now cause → IsPlaced sources.now result }
     ensures untouched { ComesBeforeOutput result → ComesBeforeOutput cause }

@@ -23,8 +23,9 @@ use crate::print::print_generated;
 use crate::report::report;
 use crate::run::run;
 use crate::selftest::selftest;
+use crate::told::run_told;
 use sa_outside::{Sink, Source, WriteFiles};
-use sa_words::{Command, WordsFault, command_of};
+use sa_words::{Command, Trace, WordsFault, command_of};
 use sqlite_items::Items;
 use std::alloc::Global;
 
@@ -59,7 +60,7 @@ pub fn sather<S: WriteFiles, I: Source, O: Sink, E: Sink>(
     ensures output { Grew (O.output out.old) (O.output out.new) }
     ensures untouched { ComesBeforeOutput result.cause → (out.new ≡ out.old) × (input.new ≡ input.old) }
 {
-    let outcome = obey(alloc, words, store, input, out);
+    let outcome = obey(alloc, words, store, input, out, err);
     let cause = report(alloc, &outcome, err);
     let status = match cause {
         Cause::Done => outcome.done,
@@ -73,12 +74,13 @@ pub fn sather<S: WriteFiles, I: Source, O: Sink, E: Sink>(
 }
 
 /// Does what the words ask for, but for the lines on err.
-fn obey<'a, S: WriteFiles, I: Source, O: Sink>(
+fn obey<'a, S: WriteFiles, I: Source, O: Sink, E: Sink>(
     alloc: Global,
     words: &'a [String],
     store: &mut S,
     input: &mut I,
     out: &mut O,
+    err: &mut E,
 ) -> Outcome<'a>
     ensures obeys { Obeys (outside (part S.files S.faults store.old store.new) (part I.input I.faults input.old input.new)
         (part O.output O.faults out.old out.new)) (line_in (map string_bytes words.now)) result }
@@ -98,16 +100,17 @@ fn obey<'a, S: WriteFiles, I: Source, O: Sink>(
         Err(WordsFault::Usage) => return without_command(alloc, Cause::Usage),
         Err(WordsFault::NoMemory) => return without_command(alloc, Cause::NoMemory),
     };
-    do_command(alloc, command, store, input, out)
+    do_command(alloc, command, store, input, out, err)
 }
 
 /// Does what a command asks for.
-fn do_command<'a, S: WriteFiles, I: Source, O: Sink>(
+fn do_command<'a, S: WriteFiles, I: Source, O: Sink, E: Sink>(
     alloc: Global,
     command: Command<'a>,
     store: &mut S,
     input: &mut I,
     out: &mut O,
+    err: &mut E,
 ) -> Outcome<'a>
     ensures does { Does (outside (part S.files S.faults store.old store.new) (part I.input I.faults input.old input.new)
         (part O.output O.faults out.old out.new)) (line_of command.entry) result }
@@ -123,7 +126,10 @@ fn do_command<'a, S: WriteFiles, I: Source, O: Sink>(
     ensures untouched { ComesBeforeOutput result.cause → (out.new ≡ out.old) × (input.new ≡ input.old) }
 {
     match command {
-        Command::Run(line) => run(alloc, &line, store, input, out),
+        Command::Run(line) => match line.trace {
+            Trace::Silent => run(alloc, &line, store, input, out),
+            Trace::Told => run_told(alloc, &line, store, input, out, err),
+        },
         Command::Build(line) => build(alloc, &line, store),
         Command::Check(line) => check(alloc, &line, store, out),
         Command::Exec(line) => exec(alloc, &line, store, input, out),

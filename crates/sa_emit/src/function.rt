@@ -22,10 +22,12 @@ pub(crate) fn add_bodies(
     let Some((last, others)) = program.flat.bodies.as_slice().split_last() else {
         return Ok(());
     };
+    let mut first_site = 0u32;
     for body in others {
-        funcs.push(function(alloc, program, body, role_of(body))?)?;
+        funcs.push(function(alloc, program, body, role_of(body), first_site)?)?;
+        first_site = first_site.saturating_add(body.sites);
     }
-    funcs.push(function(alloc, program, last, Role::Last)?)?;
+    funcs.push(function(alloc, program, last, Role::Last, first_site)?)?;
     Ok(())
 }
 
@@ -37,12 +39,13 @@ fn role_of(body: &FlatBody) -> Role {
     }
 }
 
-/// The function of a body.
+/// The function of a body, whose first site has this place among all sites of the program.
 fn function(
     alloc: Global,
     program: Program<'_>,
     body: &FlatBody,
     role: Role,
+    first_site: u32,
 ) -> Result<Func, NoMemory> {
     let predecessors = predecessors_of(alloc, body)?;
     let targets = targets_of(alloc, body, predecessors.as_slice())?;
@@ -52,6 +55,7 @@ fn function(
         role,
         targets: targets.numbers.as_slice(),
         nesting: Nesting::outermost(),
+        first_site,
     };
     let code = if has_frames(body) {
         resumed(alloc, &around, &targets)?

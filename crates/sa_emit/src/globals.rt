@@ -1,17 +1,28 @@
 //! The globals of the module, in the order of their numbers.
 
+use sa_runtime::trace::Tracing;
 use sqlite_items::Items;
 use std::alloc::Global;
 use wa_syntax::{GlobalDef, GlobalTy, Init, NoMemory, ValTy};
 
 /// The result of a call; the value, the kind and the place of a raise; the kind of a fault that is handed on; the address of the
-/// next object, which is `base` at first; the frame of an iter that was entered.
-pub(crate) fn globals(alloc: Global, base: u32) -> Result<Items<GlobalDef>, NoMemory> {
+/// next object, which is `base` at first; the frame of an iter that was entered. In a traced module the site that starts an instance
+/// next, and the number of instances that were started, follow.
+pub(crate) fn globals(
+    alloc: Global,
+    base: u32,
+    tracing: Tracing,
+) -> Result<Items<GlobalDef>, NoMemory> {
     let word = global(ValTy::I64, Init::Const64(0));
     let number = global(ValTy::I32, Init::Const32(0));
     let next_object = global(ValTy::I32, Init::Const32(base));
-    let globals = [word, word, number, number, number, next_object, number];
-    Ok(Items::from_slice(alloc, &globals)?)
+    let all = [word, word, number, number, number, next_object, number];
+    let mut globals = Items::from_slice(alloc, &all)?;
+    if let Tracing::On(_) = tracing {
+        globals.push(number)?;
+        globals.push(word)?;
+    }
+    Ok(globals)
 }
 
 fn global(val: ValTy, init: Init) -> GlobalDef {

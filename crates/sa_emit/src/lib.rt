@@ -18,4 +18,4 @@ mod targets;
 mod texts;
 mod types;
 
-pub use program::emit;
+pub use program::{emit, emit_traced};

@@ -11,7 +11,9 @@ use crate::table::{elements, tables};
 use crate::texts::segments;
 use crate::types::{GET_TYPE, PUT_TYPE, STOP_TYPE, own_types};
 use sa_emit_value::{Program, function_of, held};
-use sa_runtime::{RuntimeCode, code, frames, support};
+use sa_flat::FlatProgram;
+use sa_runtime::trace::Tracing;
+use sa_runtime::{RuntimeCode, code, frames, support, trace_code};
 use sqlite_items::Items;
 use std::alloc::Global;
 use wa_syntax::{
@@ -28,24 +30,35 @@ pub(crate) fn module(
 ) -> Result<Module, NoMemory> {
     let mut types = own_types(alloc)?;
     let mut funcs = Items::new(alloc);
-    add_runtime(&mut types, &mut funcs, code(alloc, memory.base, room)?)?;
-    add_runtime(&mut types, &mut funcs, support(alloc)?)?;
-    add_frames(alloc, &mut types, &mut funcs, memory)?;
+    let tracing = program.tracing;
+    add_runtime(
+        &mut types,
+        &mut funcs,
+        code(alloc, memory.base, room, tracing)?,
+    )?;
+    add_runtime(&mut types, &mut funcs, support(alloc, tracing)?)?;
+    add_frames(alloc, &mut types, &mut funcs, memory, tracing)?;
     add_bodies(alloc, &mut funcs, program)?;
-    let main = function_of(number(program.flat.bodies.len())?)?;
+    let main = main_of(program.flat)?;
     funcs.push(main_function(alloc, held(main.checked_sub(1))?)?)?;
+    add_tellers(alloc, &mut types, &mut funcs, memory, tracing)?;
     Ok(Module {
         types,
         imports: imports(alloc)?,
         funcs,
         tables: tables(alloc, places)?,
         memories: memories(alloc, memory.pages)?,
-        globals: globals(alloc, memory.base)?,
+        globals: globals(alloc, memory.base, tracing)?,
         exports: exports(alloc, main)?,
         start: None,
         elems: elements(alloc, program, places)?,
         segments: segments(alloc, program.flat, memory.texts_at)?,
     })
+}
+
+/// The number of `main`, which stands behind the functions of the bodies.
+pub(crate) fn main_of(flat: &FlatProgram) -> Result<u32, NoMemory> {
+    function_of(number(flat.bodies.len())?)
 }
 
 /// Adds functions of the runtime, whose types stand behind those that are there. They are few, so each is taken from the front.
@@ -77,10 +90,29 @@ fn add_frames(
     types: &mut Items<FuncTy>,
     funcs: &mut Items<Func>,
     memory: &Memory,
+    tracing: Tracing,
 ) -> Result<(), NoMemory> {
     add_pool(alloc, funcs, memory.pool, memory.slot_bytes)?;
     let first = first_frame(memory.pool)?;
-    add_runtime(types, funcs, frames(alloc, first, memory.slot_bytes)?)
+    let code = frames(alloc, first, memory.slot_bytes, tracing)?;
+    add_runtime(types, funcs, code)
+}
+
+/// Adds the functions that put frames of the trace, where the module is traced.
+fn add_tellers(
+    alloc: Global,
+    types: &mut Items<FuncTy>,
+    funcs: &mut Items<Func>,
+    memory: &Memory,
+    tracing: Tracing,
+) -> Result<(), NoMemory> {
+    match tracing {
+        Tracing::Off => Ok(()),
+        Tracing::On(tellers) => {
+            let code = trace_code(alloc, tellers, memory.slot_bytes)?;
+            add_runtime(types, funcs, code)
+        }
+    }
 }
 
 /// The host's three functions.

@@ -7,6 +7,7 @@ use sa_emit_value::held;
 use sa_flat::{FlatBody, FlatProgram};
 use sa_pool::{PoolCode, code};
 use sa_runtime::layout::FRAME_WORDS;
+use sa_runtime::trace::{Tracing, traced_words};
 use sqlite_items::Items;
 use std::alloc::Global;
 use wa_syntax::{Func, NoMemory};
@@ -27,12 +28,13 @@ pub(crate) fn has_frames(body: &FlatBody) -> bool {
 }
 
 /// How many words a frame takes, so that it holds what any iter of the program keeps.
-pub(crate) fn slot_words(flat: &FlatProgram) -> Result<u32, NoMemory> {
+pub(crate) fn slot_words(flat: &FlatProgram, tracing: Tracing) -> Result<u32, NoMemory> {
     let mut most = 0;
     for body in flat.bodies.as_slice() {
         most = kept(body).max(most);
     }
-    sum(FRAME_WORDS, number(most)?)
+    let words = sum(FRAME_WORDS, number(most)?)?;
+    sum(words, traced_words(tracing))
 }
 
 /// How many variables a frame of this body keeps.

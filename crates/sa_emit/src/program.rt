@@ -1,14 +1,19 @@
 //! A flat program as a module.
 
 use crate::memory::memory_of;
-use crate::module::module;
+use crate::module::{main_of, module};
 use crate::places::places_of;
 use crate::pool::{slot_bytes, slot_words};
+use crate::sums::sum;
 use sa_dispatch::Rows;
 use sa_emit_value::{Below, Program};
 use sa_flat::FlatProgram;
+use sa_runtime::trace::{Tellers, Tracing};
 use std::alloc::Global;
 use wa_syntax::{Module, NoMemory};
+
+/// The most sites that the bodies of a traced program have together.
+const MOST_SITES: u32 = 200_000;
 
 /// The module of a program, whose objects have so many KiB.
 ///
@@ -17,7 +22,47 @@ use wa_syntax::{Module, NoMemory};
 /// `NoMemory`, also where an address or a number of the module doesn't fit 32 bits, and where a number of the program names
 /// nothing.
 pub fn emit(alloc: Global, flat: &FlatProgram, rows: &Rows, room: u32) -> Result<Module, NoMemory> {
-    let slot_words = slot_words(flat)?;
+    emitted(alloc, flat, rows, room, Tracing::Off)
+}
+
+/// The module of a program that is traced: what it puts tells, among the bytes of the output, what becomes of the instances of iters.
+/// `sa_runtime::trace` has the form. A site is told by its place among those of all bodies, in the order of the bodies.
+///
+/// # Errors
+///
+/// Those of [`emit`], and `NoMemory` where the bodies have more than 200,000 sites together.
+pub fn emit_traced(
+    alloc: Global,
+    flat: &FlatProgram,
+    rows: &Rows,
+    room: u32,
+) -> Result<Module, NoMemory> {
+    if sites_of(flat) > MOST_SITES {
+        return Err(NoMemory);
+    }
+    let first = sum(main_of(flat)?, 1)?;
+    let tracing = Tracing::On(Tellers::from(first)?);
+    emitted(alloc, flat, rows, room, tracing)
+}
+
+/// How many sites the bodies have together, or the greatest `u32` where they are more.
+fn sites_of(flat: &FlatProgram) -> u32 {
+    let mut count = 0u32;
+    for body in flat.bodies.as_slice() {
+        count = count.saturating_add(body.sites);
+    }
+    count
+}
+
+/// The module of a program, traced or not.
+fn emitted(
+    alloc: Global,
+    flat: &FlatProgram,
+    rows: &Rows,
+    room: u32,
+    tracing: Tracing,
+) -> Result<Module, NoMemory> {
+    let slot_words = slot_words(flat, tracing)?;
     let memory = memory_of(alloc, flat, slot_bytes(slot_words)?, room)?;
     let below = Below::of(alloc, flat)?;
     let places = places_of(alloc, flat, rows)?;
@@ -28,6 +73,7 @@ pub fn emit(alloc: Global, flat: &FlatProgram, rows: &Rows, room: u32) -> Result
         below: &below,
         entries: memory.entries.as_slice(),
         places: places.of.as_slice(),
+        tracing,
     };
     module(alloc, program, &memory, &places, room)
 }

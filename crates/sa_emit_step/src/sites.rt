@@ -15,6 +15,7 @@ use sa_emit_value::{
 use sa_flat::{CallPlan, Callee};
 use sa_runtime::layout::{BOUND_CALL, CALLED_AT};
 use sa_runtime::line::{Op, add_line};
+use sa_runtime::trace::{Event, add_event, add_starting_site};
 use sqlite_items::Items;
 use std::alloc::Global;
 use wa_syntax::opcode::{I32_LOAD, I32_WRAP_I64, UNREACHABLE};
@@ -30,6 +31,8 @@ pub(crate) fn add_start(
     quit: u32,
 ) -> Result<(), NoMemory> {
     let site = site_of(around, number, plan, quit);
+    let place = around.place_of_site(number);
+    add_starting_site(code, around.program.tracing, place)?;
     match plan.callee {
         Callee::Body(body) => add_body_start(alloc, code, around, &site, body),
         Callee::Dispatch(sig) => add_dispatched_start(alloc, code, around, &site, sig),
@@ -96,6 +99,7 @@ fn add_body_resume(
 ) -> Result<(), NoMemory> {
     let func = function_of(body)?;
     add_depth_test(alloc, code, around, &site.plan.fail)?;
+    add_event(code, around.program.tracing, site.frame, Event::Resume)?;
     add_all_but_once(code, around, site)?;
     add_deeper(code, Op::Get(site.frame))?;
     add_line(code, &[Op::Call(func)])?;
@@ -191,6 +195,7 @@ fn add_feature_resume(
 ) -> Result<(), NoMemory> {
     let frame = Op::Get(site.frame);
     add_depth_test(alloc, code, around, &site.plan.fail)?;
+    add_event(code, around.program.tracing, site.frame, Event::Resume)?;
     add_all_but_once(code, around, site)?;
     add_called(code, site)?;
     add_line(code, &[Op::Set(ADDRESS)])?;

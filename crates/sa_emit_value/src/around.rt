@@ -10,6 +10,7 @@ use crate::nesting::Nesting;
 use sa_dispatch::Rows;
 use sa_flat::{FIRST_TEMPORARY, FlatBody, FlatProgram};
 use sa_runtime::layout::FIRST_BODY;
+use sa_runtime::trace::Tracing;
 use std::alloc::Global;
 use wa_syntax::{Locals, NoMemory, ValTy};
 
@@ -69,6 +70,8 @@ pub struct Program<'a> {
     pub entries: &'a [u32],
     /// For each body its place in the table behind those of the rows, if a bind calls it through the table.
     pub places: &'a [Option<u32>],
+    /// Whether the module tells what becomes of the instances of iters.
+    pub tracing: Tracing,
 }
 
 impl<'a> Program<'a> {
@@ -95,6 +98,8 @@ pub struct Around<'a> {
     pub targets: &'a [Option<u32>],
     /// How deep the step stands inside the dispatch.
     pub nesting: Nesting,
+    /// The place of the first site of the body among all sites of the program, or the greatest `u32` where it is more.
+    pub first_site: u32,
 }
 
 impl<'a> Around<'a> {
@@ -112,6 +117,11 @@ impl<'a> Around<'a> {
     /// The local with the frame of a site's instance.
     pub fn site(&self, site: u32) -> u32 {
         site_local(self.body, site)
+    }
+
+    /// The place of a site among all sites of the program, or the greatest `u32` where it is more.
+    pub fn place_of_site(&self, site: u32) -> u32 {
+        self.first_site.saturating_add(site)
     }
 
     /// The local that gets a value: that of the variable, or one that nothing reads.

@@ -11,10 +11,11 @@ use crate::layout::{
 };
 use crate::line::Op::{Br, Call, CallIndirect, Do, Get, I32, I64, Memory, Set, SetGlobal, Tee};
 use crate::operations::{LOAD_COUNT, TO_ADDRESS};
-use crate::parts::Part::{self, Block, If, Line, Sequence};
+use crate::parts::Part::{self, Block, If, IfElse, Line, Sequence, Tell, TellOutcome};
 use crate::parts::{add_parts, instructions, locals};
 use crate::signatures::CALLS_BOUND;
 use crate::spread::{GATHER, SPREAD};
+use crate::trace::{Event, Tracing};
 use std::alloc::Global;
 use wa_syntax::opcode::{
     I32_ADD, I32_EQ, I32_EQZ, I32_GE_U, I32_LE_U, I32_LOAD, I32_LT_U, I32_NE, I64_AND, I64_LOAD,
@@ -84,17 +85,20 @@ const CALL_MADE: Part = Sequence(&[
     ]),
 ]);
 
-/// Takes a frame for an iter that begins, or hands on the fault that all are taken.
+/// Takes a frame for an iter that begins, or hands on the fault that all are taken. Where there is one, the iter goes on.
 const TAKE_FRAME: Part = Sequence(&[
     Line(&[Get(FRAME), Do(I32_EQZ)]),
-    If(&[
-        Line(&[Call(NEW_FRAME), Tee(FRAME), Do(I32_EQZ)]),
-        If(&[
-            Line(&[I32(TOO_MANY_FRAMES), SetGlobal(FAULT_KIND)]),
-            Line(&[I32(HANDED_ON), Do(RETURN)]),
-        ]),
-        Line(&[Get(FRAME), Get(SELF), Memory(I64_STORE, FRAME_SELF_AT)]),
-    ]),
+    IfElse(
+        &[
+            Line(&[Call(NEW_FRAME), Tee(FRAME), Do(I32_EQZ)]),
+            If(&[
+                Line(&[I32(TOO_MANY_FRAMES), SetGlobal(FAULT_KIND)]),
+                Line(&[I32(HANDED_ON), Do(RETURN)]),
+            ]),
+            Line(&[Get(FRAME), Get(SELF), Memory(I64_STORE, FRAME_SELF_AT)]),
+        ],
+        &[Tell(FRAME, Event::Resume)],
+    ),
 ]);
 
 /// Calls an iter, or goes on in it. Its frame is given back where it isn't suspended, and nothing is copied back then.
@@ -103,7 +107,9 @@ const CALL_ITER: Part = Sequence(&[
     TAKE_FRAME,
     DEEPER,
     Line(&[Get(FRAME), Get(INDEX), CallIndirect(BODY_TYPE)]),
-    Line(&[Tee(STATUS), I32(SUSPENDED), Do(I32_NE)]),
+    Line(&[Tee(STATUS)]),
+    TellOutcome(FRAME, STATUS),
+    Line(&[I32(SUSPENDED), Do(I32_NE)]),
     If(&[Line(&[Get(FRAME), Call(END_FRAME), Get(STATUS), Do(RETURN)])]),
     Line(&[Get(FRAME), SetGlobal(FRAME_OUT)]),
 ]);
@@ -131,10 +137,10 @@ const ANSWER_STATUS: Part = Sequence(&[
 
 /// `BOUND_CALL`, of the depth of the activation that calls, the frame to go on with or 0, and the bound value. It answers the
 /// status of a body; the faults of features without one are handed on, and so are those of the depth and of the frames.
-pub(crate) fn bound_call(alloc: Global) -> Result<Func, NoMemory> {
-    let mut body = instructions(alloc, &[READ_BIND, READ_CHOSEN, SPREAD, CALL_BODY])?;
-    add_features(alloc, &mut body)?;
-    add_parts(alloc, &[ANSWER_STATUS], &mut body)?;
+pub(crate) fn bound_call(alloc: Global, tracing: Tracing) -> Result<Func, NoMemory> {
+    let mut body = instructions(alloc, &[READ_BIND, READ_CHOSEN, SPREAD, CALL_BODY], tracing)?;
+    add_features(alloc, tracing, &mut body)?;
+    add_parts(alloc, &[ANSWER_STATUS], tracing, &mut body)?;
     Ok(Func {
         ty: CALLS_BOUND,
         locals: locals(alloc, BEHIND_BOUND)?,

@@ -14,6 +14,7 @@ use crate::line::add_line;
 use crate::operations::TO_ADDRESS;
 use crate::parts::Part::{self, If, Line, Sequence};
 use crate::parts::{add_parts, instructions};
+use crate::trace::Tracing;
 use sqlite_items::Items;
 use std::alloc::Global;
 use wa_syntax::opcode::{
@@ -137,10 +138,14 @@ const OPERANDS: [&[Part]; 6] = [
 
 /// Adds a block that calls the feature. Behind it the status is 0 or the number of a fault; features that end otherwise answer
 /// at once.
-pub(crate) fn add_features(alloc: Global, to: &mut Items<Instr>) -> Result<(), NoMemory> {
-    let mut tests = instructions(alloc, ATTRIBUTES_AND_SHAREDS)?;
+pub(crate) fn add_features(
+    alloc: Global,
+    tracing: Tracing,
+    to: &mut Items<Instr>,
+) -> Result<(), NoMemory> {
+    let mut tests = instructions(alloc, ATTRIBUTES_AND_SHAREDS, tracing)?;
     for (number, function) in BUILTINS.iter().enumerate() {
-        add_builtin(alloc, &mut tests, number as u32, function.0)?;
+        add_builtin(alloc, tracing, &mut tests, number as u32, function.0)?;
     }
     add_line(&mut tests, &[Do(UNREACHABLE)])?;
     to.push(Instr::Block(None, tests))?;
@@ -148,10 +153,16 @@ pub(crate) fn add_features(alloc: Global, to: &mut Items<Instr>) -> Result<(), N
 }
 
 /// Adds the call of the built-in feature with this number, where that is the form. It leaves the block with the status.
-fn add_builtin(alloc: Global, to: &mut Items<Instr>, number: u32, ty: u32) -> Result<(), NoMemory> {
+fn add_builtin(
+    alloc: Global,
+    tracing: Tracing,
+    to: &mut Items<Instr>,
+    number: u32,
+    ty: u32,
+) -> Result<(), NoMemory> {
     let mut called = Items::new(alloc);
     add_line(&mut called, &[Get(SELF)])?;
-    add_parts(alloc, operands(ty)?, &mut called)?;
+    add_parts(alloc, operands(ty)?, tracing, &mut called)?;
     let function = FIRST_BUILTIN.saturating_add(number);
     add_line(&mut called, &[Call(function), Set(STATUS), Br(1)])?;
     let kind = FIRST_BOUND_BUILTIN.saturating_add(number);

@@ -2,11 +2,10 @@
 
 use crate::answers::{DONE, GIVE_ADDRESS};
 use crate::copying::WRITE_BYTE_ON;
-use crate::layout::PUT;
-use crate::line::Op::{Br, BrIf, Call, Do, Get, I32, I64, Memory, Set, Tee};
+use crate::line::Op::{Br, BrIf, Do, Get, I32, I64, Memory, Set, Tee};
 use crate::locals::{MADE, SELF, SIZE, TO};
 use crate::operations::TO_ADDRESS;
-use crate::parts::Part::{self, Block, If, Line, Loop, Sequence};
+use crate::parts::Part::{self, Block, If, Line, Loop, Put, Sequence};
 use crate::texts::MAKE_TEXT;
 use wa_syntax::opcode::{
     I32_ADD, I32_STORE8, I64_ADD, I64_DIV_U, I64_LT_S, I64_LT_U, I64_MUL, I64_NE, I64_REM_U,
@@ -90,11 +89,12 @@ pub(crate) const STR: &[Part] = &[
 pub(crate) const PUT_INT: &[Part] = &[
     Line(&[I64(1), Set(POWER)]),
     IS_NEGATIVE,
-    If(&[NEGATE, Line(&[I32(MINUS), Call(PUT)])]),
+    If(&[NEGATE, Line(&[I32(MINUS)]), Put]),
     Block(&[Loop(&[LEAVE_AT_FIRST_DIGIT, DIGIT_ABOVE, Line(&[Br(0)])])]),
     Loop(&[
         DIGIT,
-        Line(&[TO_ADDRESS, Call(PUT)]),
+        Line(&[TO_ADDRESS]),
+        Put,
         DIGIT_BELOW,
         Line(&[BrIf(0)]),
     ]),

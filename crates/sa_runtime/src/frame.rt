@@ -4,9 +4,10 @@
 use crate::layout::{BLOCK_AT, END_FRAME, GIVE, INSIDE_AT, SIBLING_AT, TAKE};
 use crate::line::Op::{Br, BrIf, Call, Do, Get, I32, I64, Memory, Set, Tee};
 use crate::line::add_line;
-use crate::parts::Part::{self, If, Line, Loop};
+use crate::parts::Part::{self, If, Line, Loop, Tell};
 use crate::parts::{Function, Working, add_parts, locals};
 use crate::signatures::{GIVES_FRAME, TAKES_FRAME};
+use crate::trace::{Event, Tracing, add_started};
 use sqlite_items::Items;
 use std::alloc::Global;
 use wa_syntax::opcode::{
@@ -44,6 +45,7 @@ const RELEASE_BODY: &[Part] = &[
         Line(&[Get(FRAME), Memory(I32_LOAD, INSIDE_AT), Tee(OTHER)]),
         If(GO_INSIDE),
         Line(&[Get(FRAME), Memory(I32_LOAD, SIBLING_AT), Set(OTHER)]),
+        Tell(FRAME, Event::Abandon),
         Line(&[Get(FRAME), Call(END_FRAME)]),
         Line(&[Get(OTHER), Tee(FRAME), BrIf(0)]),
     ]),
@@ -53,12 +55,17 @@ const RELEASE_BODY: &[Part] = &[
 pub(crate) const RELEASE: Function = Function(GIVES_FRAME, ONE_LOCAL, RELEASE_BODY);
 
 /// `NEW_FRAME`: the frame's address, or 0 where all are taken. A slot that was given back has its old words, so those that tell
-/// where a body goes on and what is inside are cleared, by one store.
-pub(crate) fn new_frame(alloc: Global, first: u32, slot_bytes: u32) -> Result<Func, NoMemory> {
+/// where a body goes on and what is inside are cleared, by one store. All starts come through here, so it tells them.
+pub(crate) fn new_frame(
+    alloc: Global,
+    first: u32,
+    slot_bytes: u32,
+    tracing: Tracing,
+) -> Result<Func, NoMemory> {
     let mut body = Items::new(alloc);
     let take = [Call(TAKE), Tee(FRAME), I32(0), Do(I32_LT_S)];
     add_line(&mut body, &take)?;
-    add_parts(alloc, NO_FRAME_IF, &mut body)?;
+    add_parts(alloc, NO_FRAME_IF, tracing, &mut body)?;
     let clear = [
         Get(FRAME),
         I32(slot_bytes),
@@ -68,9 +75,10 @@ pub(crate) fn new_frame(alloc: Global, first: u32, slot_bytes: u32) -> Result<Fu
         Tee(FRAME),
         I64(0),
         Memory(I64_STORE, BLOCK_AT),
-        Get(FRAME),
     ];
     add_line(&mut body, &clear)?;
+    add_started(&mut body, tracing, FRAME, slot_bytes)?;
+    add_line(&mut body, &[Get(FRAME)])?;
     Ok(Func {
         ty: TAKES_FRAME,
         locals: locals(alloc, ONE_LOCAL)?,

@@ -28,6 +28,13 @@ pub(crate) const NEXT_OBJECT: u32 = 5;
 /// The global with the frame that an entered iter took, an `i32`.
 pub const FRAME_OUT: u32 = 6;
 
+/// The global with the place of the site, among all sites of the program, that starts an instance next, an `i32`. A module that isn't
+/// traced has none.
+pub(crate) const STARTING_SITE: u32 = 7;
+
+/// The global with the number of instances that were started, an `i64`. A module that isn't traced has none.
+pub(crate) const STARTED: u32 = 8;
+
 /// The imported function that writes the low byte of its argument.
 pub const PUT: u32 = 0;
 
@@ -120,11 +127,18 @@ pub const FRAME_SELF_AT: u32 = 16;
 /// The word of a frame, of 32 bits, with the class of the receiver of a dispatched start, or the bound value that was started.
 pub const CALLED_AT: u32 = 24;
 
+/// In a traced module, the word of a frame, of 32 bits, with the place of its site among all sites of the program. Behind the variables
+/// that are kept, such a frame has another word with the number of its instance.
+pub(crate) const TRACED_SITE_AT: u32 = 28;
+
 /// The word of a frame with the first of the variables that are kept.
 pub const FIRST_KEPT_AT: u32 = 32;
 
 /// How many words a frame has besides the variables that are kept.
 pub const FRAME_WORDS: u32 = 4;
+
+/// How many more words a frame has in a traced module.
+pub const TRACED_WORDS: u32 = 1;
 
 /// The word of a bind, of 32 bits, with what its values call: the number of a form, below.
 pub(crate) const KIND_AT: u32 = 0;

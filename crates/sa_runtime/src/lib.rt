@@ -30,5 +30,6 @@ mod runtime;
 mod signatures;
 mod spread;
 mod texts;
+pub mod trace;
 
-pub use runtime::{RuntimeCode, code, frames, support};
+pub use runtime::{RuntimeCode, code, frames, support, trace_code};

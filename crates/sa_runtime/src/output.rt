@@ -8,19 +8,27 @@ use crate::layout;
 use crate::line::Op::{Br, Call, Do, Get, Memory, Set, Tee};
 use crate::locals::{FIRST, FROM, LEFT};
 use crate::operations::{LOAD_COUNT, TO_ADDRESS};
-use crate::parts::Part::{self, Block, Line, Loop, Sequence};
+use crate::parts::Part::{self, Block, Line, Loop, Put, Sequence};
 use wa_syntax::opcode::{I32_LOAD8_U, I64_EXTEND_I32_S};
 
 /// Writes 8 bytes.
 const PUT_EIGHT: Part = Sequence(&[
-    Line(&[Get(FROM), Memory(I32_LOAD8_U, 8), Call(layout::PUT)]),
-    Line(&[Get(FROM), Memory(I32_LOAD8_U, 9), Call(layout::PUT)]),
-    Line(&[Get(FROM), Memory(I32_LOAD8_U, 10), Call(layout::PUT)]),
-    Line(&[Get(FROM), Memory(I32_LOAD8_U, 11), Call(layout::PUT)]),
-    Line(&[Get(FROM), Memory(I32_LOAD8_U, 12), Call(layout::PUT)]),
-    Line(&[Get(FROM), Memory(I32_LOAD8_U, 13), Call(layout::PUT)]),
-    Line(&[Get(FROM), Memory(I32_LOAD8_U, 14), Call(layout::PUT)]),
-    Line(&[Get(FROM), Memory(I32_LOAD8_U, 15), Call(layout::PUT)]),
+    Line(&[Get(FROM), Memory(I32_LOAD8_U, 8)]),
+    Put,
+    Line(&[Get(FROM), Memory(I32_LOAD8_U, 9)]),
+    Put,
+    Line(&[Get(FROM), Memory(I32_LOAD8_U, 10)]),
+    Put,
+    Line(&[Get(FROM), Memory(I32_LOAD8_U, 11)]),
+    Put,
+    Line(&[Get(FROM), Memory(I32_LOAD8_U, 12)]),
+    Put,
+    Line(&[Get(FROM), Memory(I32_LOAD8_U, 13)]),
+    Put,
+    Line(&[Get(FROM), Memory(I32_LOAD8_U, 14)]),
+    Put,
+    Line(&[Get(FROM), Memory(I32_LOAD8_U, 15)]),
+    Put,
 ]);
 
 /// `OUT.put`.
@@ -36,7 +44,8 @@ pub(crate) const PUT: &[Part] = &[
     ])]),
     Block(&[Loop(&[
         LEAVE_WITHOUT_BYTE,
-        Line(&[Get(FROM), Memory(I32_LOAD8_U, 8), Call(layout::PUT)]),
+        Line(&[Get(FROM), Memory(I32_LOAD8_U, 8)]),
+        Put,
         READ_BYTE_ON,
         BYTE_IS_DONE,
         Line(&[Br(0)]),
@@ -45,7 +54,7 @@ pub(crate) const PUT: &[Part] = &[
 ];
 
 /// `OUT.put_char`.
-pub(crate) const PUT_CHAR: &[Part] = &[Line(&[Get(FIRST), TO_ADDRESS, Call(layout::PUT)]), DONE];
+pub(crate) const PUT_CHAR: &[Part] = &[Line(&[Get(FIRST), TO_ADDRESS]), Put, DONE];
 
 /// `IN.get_byte`.
 pub(crate) const GET_BYTE: &[Part] = &[Line(&[Call(layout::GET), Do(I64_EXTEND_I32_S)]), GIVE_WORD];

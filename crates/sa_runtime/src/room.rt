@@ -7,6 +7,7 @@ use crate::operations::{TO_ADDRESS, TO_WORD};
 use crate::parts::Part::{self, If, Line};
 use crate::parts::add_parts;
 use crate::signatures::BINARY;
+use crate::trace::Tracing;
 use sqlite_items::Items;
 use std::alloc::Global;
 use wa_syntax::opcode::{I64_ADD, I64_GT_U, I64_STORE, RETURN};
@@ -27,7 +28,7 @@ const HAND_OUT: &[Part] = &[
 ];
 
 /// `ALLOCATE`, where the room ends at this address. No object is so large that the address behind it wraps in 64 bits.
-pub(crate) fn allocate(alloc: Global, room_end: u64) -> Result<Func, NoMemory> {
+pub(crate) fn allocate(alloc: Global, room_end: u64, tracing: Tracing) -> Result<Func, NoMemory> {
     let mut body = Items::new(alloc);
     let object_end = [
         GetGlobal(NEXT_OBJECT),
@@ -39,7 +40,7 @@ pub(crate) fn allocate(alloc: Global, room_end: u64) -> Result<Func, NoMemory> {
     add_line(&mut body, &object_end)?;
     let passes_room = [Op::I64(room_end), Do(I64_GT_U)];
     add_line(&mut body, &passes_room)?;
-    add_parts(alloc, HAND_OUT, &mut body)?;
+    add_parts(alloc, HAND_OUT, tracing, &mut body)?;
     Ok(Func {
         ty: BINARY,
         locals: Locals::new(alloc),

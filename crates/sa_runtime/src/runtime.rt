@@ -7,7 +7,8 @@ use crate::builtins::{BUILTINS, SUPPORT};
 use crate::frame::{RELEASE, end_frame, new_frame};
 use crate::parts::{func, functions, types};
 use crate::room::allocate;
-use crate::signatures::{BUILTIN_TYPES, FRAME_TYPES, SUPPORT_TYPES};
+use crate::signatures::{BUILTIN_TYPES, FRAME_TYPES, SUPPORT_TYPES, TELLER_TYPES};
+use crate::trace::{Tellers, Tracing, teller_functions};
 use sqlite_items::Items;
 use std::alloc::Global;
 use wa_syntax::{Func, FuncTy, NoMemory};
@@ -22,37 +23,55 @@ pub struct RuntimeCode {
 
 /// The functions of the 33 built-in features in the order of their numbers, and then `ALLOCATE`. Objects lie from the address
 /// `base` on, a multiple of 8 up to 2,147,483,648, in a room of so many KiB, from 64 to 1,048,576. Fails where memory runs out.
-pub fn code(alloc: Global, base: u32, room: u32) -> Result<RuntimeCode, NoMemory>
+pub fn code(alloc: Global, base: u32, room: u32, tracing: Tracing) -> Result<RuntimeCode, NoMemory>
     ensures { IfOk result (λ code. length code.funcs ≡ 34) }
 {
     let types = types(alloc, &BUILTIN_TYPES)?;
-    let mut funcs = functions(alloc, &BUILTINS)?;
+    let mut funcs = functions(alloc, &BUILTINS, tracing)?;
     let room_end = u64::from(base) + 1024 * u64::from(room);
-    funcs.push(allocate(alloc, room_end)?)?;
+    funcs.push(allocate(alloc, room_end, tracing)?)?;
     Ok(RuntimeCode { types, funcs })
 }
 
 /// The functions `FAULT`, `CHANGED`, `WIDENED`, `BOXED` and `UNWRAPPED`, in this order. Fails where memory runs out.
-pub fn support(alloc: Global) -> Result<RuntimeCode, NoMemory>
+pub fn support(alloc: Global, tracing: Tracing) -> Result<RuntimeCode, NoMemory>
     ensures { IfOk result (λ code. length code.funcs ≡ 5) }
 {
     Ok(RuntimeCode {
         types: types(alloc, &SUPPORT_TYPES)?,
-        funcs: functions(alloc, &SUPPORT)?,
+        funcs: functions(alloc, &SUPPORT, tracing)?,
     })
 }
 
 /// The functions `NEW_FRAME`, `END_FRAME`, `RELEASE` and `BOUND_CALL`, in this order, where the slots of the pool have so many
 /// bytes and the first one lies at the address `first`. The first two types are those of `TAKE` and `GIVE` too, in this order.
 /// Fails where memory runs out.
-pub fn frames(alloc: Global, first: u32, slot_bytes: u32) -> Result<RuntimeCode, NoMemory>
+pub fn frames(
+    alloc: Global,
+    first: u32,
+    slot_bytes: u32,
+    tracing: Tracing,
+) -> Result<RuntimeCode, NoMemory>
     ensures { IfOk result (λ code. length code.funcs ≡ 4) }
 {
     let types = types(alloc, &FRAME_TYPES)?;
     let mut funcs = Items::new(alloc);
-    funcs.push(new_frame(alloc, first, slot_bytes)?)?;
+    funcs.push(new_frame(alloc, first, slot_bytes, tracing)?)?;
     funcs.push(end_frame(alloc, first, slot_bytes)?)?;
-    funcs.push(func(alloc, &RELEASE)?)?;
-    funcs.push(bound_call(alloc)?)?;
+    funcs.push(func(alloc, &RELEASE, tracing)?)?;
+    funcs.push(bound_call(alloc, tracing)?)?;
     Ok(RuntimeCode { types, funcs })
+}
+
+/// The functions of a traced module that put frames, in the order of `Tellers`, whose numbers they have. The slots of the pool of frames
+/// in memory have so many bytes. Fails where memory runs out.
+pub fn trace_code(
+    alloc: Global,
+    tellers: Tellers,
+    slot_bytes: u32,
+) -> Result<RuntimeCode, NoMemory> {
+    Ok(RuntimeCode {
+        types: types(alloc, &TELLER_TYPES)?,
+        funcs: teller_functions(alloc, tellers, slot_bytes)?,
+    })
 }

@@ -103,3 +103,21 @@ pub(crate) const GIVES_FRAME: u32 = 1;
 
 /// The type of `BOUND_CALL`.
 pub(crate) const CALLS_BOUND: u32 = 2;
+
+/// The types of the functions of a traced module that put frames.
+pub(crate) const TELLER_TYPES: [Signature; 2] = [
+    Signature {
+        params: &[I32],
+        results: &[],
+    },
+    Signature {
+        params: &[I32, I32],
+        results: &[],
+    },
+];
+
+/// The type of the function that puts the frame of a byte.
+pub(crate) const TELLS_BYTE: u32 = 0;
+
+/// The type of a function that puts the frame of an event.
+pub(crate) const TELLS: u32 = 1;

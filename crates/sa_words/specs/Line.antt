@@ -12,10 +12,12 @@ use Rattle.sa_words.specs.declared.command.Command.{Command}
 use Rattle.sa_words.specs.declared.command.Command.TheVariants as command
 use Rattle.sa_words.specs.declared.command.Contracts.{Contracts}
 use Rattle.sa_words.specs.declared.command.Contracts.TheVariants.{Dropped, Checked}
+use Rattle.sa_words.specs.declared.command.Trace.{Trace}
+use Rattle.sa_words.specs.declared.command.Trace.TheVariants.{Silent, Told}
 
 -- a command with its texts and numbers
 pub data Line : Type 0 where
-  Run : (fuel : ℕ) → (room : ℕ) → (stats : Bool) → (contracts : Contracts) → (files : List Text) → Line
+  Run : (fuel : ℕ) → (room : ℕ) → (stats : Bool) → (contracts : Contracts) → (trace : Trace) → (files : List Text) → Line
   Build : (room : ℕ) → (contracts : Contracts) → (out : Text) → (files : List Text) → Line
   Check : (contracts : Contracts) → (files : List Text) → Line
   Exec : (fuel : ℕ) → (stats : Bool) → (file : Text) → Line
@@ -26,7 +28,7 @@ pub data Line : Type 0 where
 
 -- what a command says
 abbrev pub line_of : Command → Line
-line_of (command.Run run) = Run run.fuel run.room run.stats run.contracts (map (λ file. file.now) run.files.items)
+line_of (command.Run run) = Run run.fuel run.room run.stats run.contracts run.trace (map (λ file. file.now) run.files.items)
 line_of (command.Build build) = Build build.room build.contracts build.out.now (map (λ file. file.now) build.files.items)
 line_of (command.Check check) = Check check.contracts (map (λ file. file.now) check.files.items)
 line_of (command.Exec exec) = Exec exec.fuel exec.stats exec.«module».now
@@ -53,13 +55,17 @@ stats_in = is_given (codes "stats")
 abbrev pub contracts_in : List Row → Contracts
 contracts_in rows = if is_given (codes "contracts") rows then Checked else Dropped
 
+abbrev pub trace_in : List Row → Trace
+trace_in rows = if is_given (codes "trace") rows then Told else Silent
+
 abbrev pub files_in : List Row → List Text
 files_in rows = unwrap_or (all_of (codes "file") rows) []
 
 abbrev pub run_in : List Row → Option Line
 run_in rows =
     option_and_then
-    (λ fuel. option_map (λ room. Run fuel room (stats_in rows) (contracts_in rows) (files_in rows)) (room_in rows)) (fuel_in rows)
+    (λ fuel. option_map (λ room. Run fuel room (stats_in rows) (contracts_in rows) (trace_in rows) (files_in rows)) (room_in rows))
+    (fuel_in rows)
 
 abbrev pub build_in : List Row → Option Line
 build_in rows =

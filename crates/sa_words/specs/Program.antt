@@ -7,7 +7,7 @@ use Rattle.clap.specs.declared.builder.action.ArgAction.TheVariants.{Append, Set
 abbrev pub option : Text → Rule
 option name = record (new_rule name) { long = Some name }
 
--- an option without a value: `--stats`, `--contracts`
+-- an option without a value: `--stats`, `--contracts`, `--trace`
 abbrev pub flag : Text → Rule
 flag name = record (new_rule name) { long = Some name; action = Some SetTrue }
 
@@ -36,7 +36,9 @@ abbrev pub running : App → App
 running app = with_rule (with_rule app (option (codes "fuel"))) (flag (codes "stats"))
 
 abbrev pub run : App
-run = with_rule (with_rule (with_rule (running (new_app (codes "run"))) (option (codes "room"))) (flag (codes "contracts"))) files
+run =
+    let running_with_room = with_rule (running (new_app (codes "run"))) (option (codes "room")) in
+    with_rule (with_rule (with_rule running_with_room (flag (codes "contracts"))) (flag (codes "trace"))) files
 
 abbrev pub build : App
 build = with_rule (with_rule (with_rule (with_rule (new_app (codes "build")) (option (codes "room"))) (flag (codes "contracts"))) out) files

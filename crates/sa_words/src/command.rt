@@ -24,6 +24,15 @@ pub enum Contracts {
     Checked,
 }
 
+/// What is told of the iters of a program that runs.
+#[derive(Clone, Copy, Debug, PartialEq, Eq, Hash)]
+pub enum Trace {
+    /// Nothing.
+    Silent,
+    /// What becomes of each of their instances.
+    Told,
+}
+
 /// The program in the files is to be compiled and run.
 #[derive(Debug, Drop)]
 pub struct Run<'a> {
@@ -34,6 +43,7 @@ pub struct Run<'a> {
     /// Whether the steps and the module's length are told at the end.
     pub stats: bool,
     pub contracts: Contracts,
+    pub trace: Trace,
     /// The files' names: one or more.
     pub files: Vec<&'a str>,
 }

@@ -11,7 +11,7 @@ mod program;
 mod read;
 mod subcommand;
 
-pub use command::{Assemble, Build, Check, Command, Contracts, Exec, Listing, Run};
+pub use command::{Assemble, Build, Check, Command, Contracts, Exec, Listing, Run, Trace};
 pub use fault::WordsFault;
 pub use read::command_of;
 pub use subcommand::ROOM;

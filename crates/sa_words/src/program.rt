@@ -76,13 +76,14 @@ fn running<'a>(alloc: Global, command: Command<'a>) -> Result<Command<'a>, Alloc
         .arg(flag(alloc, "stats"))
 }
 
-/// `run [--fuel N] [--stats] [--room KIB] [--contracts] FILE..`
+/// `run [--fuel N] [--stats] [--room KIB] [--contracts] [--trace] FILE..`
 fn run<'a>(alloc: Global) -> Result<Command<'a>, AllocError>
     ensures { IfOk result (λ c. (app_of c ≡ line.run) × ((out-Command c).has_globals ≡ false)) }
 {
     running(alloc, Command::new(alloc, "run"))?
         .arg(option(alloc, "room"))?
         .arg(flag(alloc, "contracts"))?
+        .arg(flag(alloc, "trace"))?
         .arg(files(alloc))
 }
 

@@ -3,9 +3,9 @@
 ghost use Rattle.std.specs.Prelude.{◌≡◌, IfOk, Some, map, option_map};
 ghost use Rattle.clap.specs.Words.{all_of, first_of, found_of, rows_of};
 ghost use Rattle.sa_words.specs.Line.{assemble_in, build_in, check_in, classes_in, contracts_in, exec_in, files_in, fuel_in};
-ghost use Rattle.sa_words.specs.Line.{is_given, line_of, listing_in, named_line, room_in, run_in, stats_in, Gen, Selftest};
+ghost use Rattle.sa_words.specs.Line.{is_given, line_of, listing_in, named_line, room_in, run_in, stats_in, trace_in, Gen, Selftest};
 
-use crate::command::{Assemble, Build, Check, Command, Contracts, Exec, Listing, Run};
+use crate::command::{Assemble, Build, Check, Command, Contracts, Exec, Listing, Run, Trace};
 use crate::number::{number_in, number_or};
 use clap::ArgMatches;
 use std::alloc::{AllocError, Global};
@@ -82,6 +82,17 @@ fn contracts(matches: &ArgMatches<'_>) -> Contracts
     }
 }
 
+/// What is told of iters.
+fn trace(matches: &ArgMatches<'_>) -> Trace
+    ensures { result ≡ trace_in (rows_of (found_of matches.now)) }
+{
+    if is_given(matches, "trace") {
+        Trace::Told
+    } else {
+        Trace::Silent
+    }
+}
+
 /// The names of the files.
 fn files<'a>(alloc: Global, matches: &ArgMatches<'a>) -> Result<Vec<&'a str>, AllocError>
     ensures { IfOk result (λ files. map (λ file. file.now) files.items ≡ files_in (rows_of (found_of matches.now))) }
@@ -104,6 +115,7 @@ fn run<'a>(alloc: Global, matches: &ArgMatches<'a>) -> Result<Option<Command<'a>
         room,
         stats: stats(matches),
         contracts: contracts(matches),
+        trace: trace(matches),
         files,
     })))
 }

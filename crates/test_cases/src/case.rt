@@ -116,6 +116,7 @@ impl Case {
         match name {
             "stdin" => self.input = bytes,
             "stdout" => self.wanted.output = bytes,
+            "stderr" => self.wanted.lines = bytes,
             "front of stdout" => {
                 self.wanted.output = bytes;
                 self.wanted.output_may_be_cut = true;

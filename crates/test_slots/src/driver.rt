@@ -5,6 +5,7 @@ use sa_pool::code;
 use sa_runtime::line::Op::{Br, Call, Do, Get, I32, Tee};
 use sa_runtime::parts::Part::{self, If, Line, Loop};
 use sa_runtime::parts::{Function, Working, functions};
+use sa_runtime::trace::Tracing;
 use sqlite_items::Items;
 use std::alloc::Global;
 use wa_syntax::opcode::{I32_ADD, I32_AND, I32_EQ, I32_EQZ, I32_SHL, I32_SHR_U};
@@ -111,7 +112,7 @@ fn import(alloc: Global, name: &[u8], ty: u32) -> Result<Import, NoMemory> {
 
 fn funcs(alloc: Global) -> Result<Items<Func>, NoMemory> {
     let pool = code(alloc, BASE, SLOT_BYTES)?;
-    let mut funcs = functions(alloc, &FUNCTIONS)?;
+    let mut funcs = functions(alloc, &FUNCTIONS, Tracing::Off)?;
     funcs.push(pool.take)?;
     funcs.push(pool.give)?;
     Ok(funcs)

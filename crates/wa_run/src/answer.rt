@@ -38,7 +38,7 @@ pub enum Answer {
 }
 
 /// The answer of a machine that has halted or spent its fuel.
-pub(crate) fn answer_of_halt(halt: Halt) -> Answer
+pub fn answer_of_halt(halt: Halt) -> Answer
     ensures value { result ≡ answer_of_halt halt }
     ensures runs { IsBeforeRun result → ⊥ }
 {
@@ -55,7 +55,7 @@ pub(crate) fn answer_of_halt(halt: Halt) -> Answer
 }
 
 /// The answer where a module can't be started.
-pub(crate) fn answer_of_start(fault: StartFault) -> Answer
+pub fn answer_of_start(fault: StartFault) -> Answer
     ensures { result ≡ answer_of_start fault }
 {
     match fault {

@@ -6,6 +6,6 @@ mod answer;
 mod load;
 mod module_run;
 
-pub use answer::Answer;
+pub use answer::{Answer, answer_of_halt, answer_of_start};
 pub use load::runnable;
-pub use module_run::{Run, run_bytes, run_module};
+pub use module_run::{Run, handed_on, run_bytes, run_module};

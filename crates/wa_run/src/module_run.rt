@@ -137,11 +137,13 @@ fn run_machine<I: Source, O: Sink>(
 
 /// The answer after the output that is held is handed on. After a fault of the sink, or where it had no memory, nothing
 /// more is handed on: the sink has taken a front of what is held.
-fn handed_on<O: Sink>(answer: Answer, host: &mut Host, out: &mut O) -> Answer
+pub fn handed_on<O: Sink>(answer: Answer, host: &mut Host, out: &mut O) -> Answer
     ensures same { result ≡ answer ⊎ IsOutage result (Rose (O.faults out.old) (O.faults out.new)) }
     ensures output { Grew (O.output out.old) (O.output out.new) }
     ensures sink { O.faults out.old ≤ O.faults out.new }
     ensures closed { IsClosed answer result host.old (O.output out.old) (O.output out.new) }
+    // A run that can go on holds nothing then.
+    ensures empties { result ≡ Answer.Spent → host.new ≡ [] }
 {
     match answer {
         Answer::OutFault | Answer::NoMemory => answer,

@@ -1,0 +1,77 @@
+//! The command `run` with `--trace`: a program is compiled, and its traced module is run.
+
+use crate::compile::{Compiled, compile_files};
+use crate::exec::{Ended, cause_of, done_of};
+use crate::module::Built;
+use crate::outcome::Outcome;
+use crate::run::at_place;
+use sa_outside::{ReadFiles, Sink, Source};
+use sa_trace_run::run_traced;
+use sa_tree::Sources;
+use sa_words::{Run, Trace};
+use std::alloc::Global;
+
+/// Compiles the program and runs its traced module. Err takes the lines of what becomes of the instances of its iters.
+pub fn run_told<'a, S: ReadFiles, I: Source, O: Sink, E: Sink>(
+    alloc: Global,
+    line: &Run<'a>,
+    store: &mut S,
+    input: &mut I,
+    out: &mut O,
+    err: &mut E,
+) -> Outcome<'a> {
+    let Compiled { sources, module } = compile_files(
+        alloc,
+        store,
+        line.files.as_slice(),
+        line.contracts,
+        line.room,
+        Trace::Told,
+    );
+    match module {
+        Ok(built) => run_built_told(
+            alloc, sources, built, line.fuel, line.stats, input, out, err,
+        ),
+        Err(cause) => Outcome::without_module(alloc, cause, sources),
+    }
+}
+
+/// Runs the traced module of the program of these texts.
+fn run_built_told<'a, I: Source, O: Sink, E: Sink>(
+    alloc: Global,
+    sources: Sources,
+    built: Built,
+    fuel: u64,
+    stats: bool,
+    input: &mut I,
+    out: &mut O,
+    err: &mut E,
+) -> Outcome<'a> {
+    let Built {
+        module,
+        bytes,
+        positions,
+        sites,
+    } = built;
+    let traced = run_traced(
+        alloc,
+        &module,
+        fuel,
+        sites.as_slice(),
+        &sources,
+        input,
+        out,
+        err,
+    );
+    let cause = cause_of(traced.run.answer, fuel);
+    let ended = Ended {
+        cause: at_place(cause, positions.as_slice(), &sources),
+        done: done_of(traced.run.answer),
+        steps: traced.run.steps,
+    };
+    let outcome = ended.outcome(sources, "", bytes, stats);
+    Outcome {
+        listening: traced.listening,
+        ..outcome
+    }
+}

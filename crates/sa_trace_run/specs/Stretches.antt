@@ -1,0 +1,65 @@
+-- The stretches of a run, each with a sink of its own, as one run with one sink.
+use Rattle.std.specs.Prelude.{◌≡◌, ◌≢◌, ◌⊎◌, ℕ, Bool, List, [], Option, Some, None}
+use Rattle.sa_outside.specs.Input as source
+use Rattle.sa_tree.specs.declared.pos.Pos.{Pos}
+use Rattle.sa_tree.specs.declared.pos.Sources.{Sources}
+use Rattle.sa_trace.specs.Pieces.{Left}
+use Rattle.wa_syntax.specs.declared.module.Module.{Module}
+use Rattle.wa_syntax.specs.Machine.{Input}
+use Rattle.wa_syntax.specs.Runs.{IsLinked}
+use Rattle.wa_syntax.specs.ValidModule.{IsValid}
+use Rattle.wa_code.specs.Codes.{row_of}
+use Rattle.wa_code.specs.Laid.{Row}
+use Rattle.wa_exec.specs.Goes.{first}
+use Rattle.wa_exec.specs.Linking.{flat_of}
+use Rattle.wa_exec.specs.Machines.{Flat, Stands}
+use Rattle.wa_exec.specs.Outside.{Makes, sides}
+use Rattle.wa_exec.specs.Progress.{Progress, Runs}
+use Rattle.wa_run.specs.declared.answer.Answer.{Answer}
+use Rattle.wa_run.specs.declared.answer.Answer.TheVariants as answer
+use Rattle.wa_run.specs.Runs.{HasRunModule, streams}
+use Rattle.sa_trace_run.specs.Traced.{AreTold, Sinks, SoFar}
+
+-- how a run began: with a module and the code and the state of its machine, over an input
+pub record Beginning : Type 0 where
+  pub program : Module
+  pub valid : IsValid program
+  pub linked : IsLinked program
+  pub row : Row
+  pub flat : Flat
+  pub begins : (input : Input) → Stands program row flat (first program input)
+  pub input : Option source.Input
+  pub ended : Bool
+
+module _ (b : Beginning) where
+  -- the run came to this answer within the fuel, and has put these bytes
+  abbrev pub HasRunTo : (fuel : ℕ) → Answer → (steps : ℕ) → (input : Option source.Input) → (put : List ℕ) → Type 0
+  HasRunTo fuel given steps input put =
+      HasRunModule b.program fuel (record { answer = given; steps = steps }) (streams b.input (Some [])) (streams input (Some put))
+
+  -- the run can go on, and has put these bytes so far
+  pub record GoesOn (machine : Progress) (held : List ℕ) (input : Option source.Input) (ended : Bool) (put : List ℕ) : Type 0 where
+    pub makes :
+        Makes b.program b.row b.flat (flat_of machine.state) 0 machine.steps None (sides b.input b.ended (Some []))
+        (sides input ended (Some put)) [] []
+    pub none : held ≡ []
+    pub runs : Runs b.program machine
+    pub row_is : row_of machine.linked.code ≡ b.row
+
+  -- A stretch ends with this answer. It is the answer of the run, if no more fuel is left where it is spent; out may fail then, or
+  -- memory run out, unless the input has failed
+  pub record CameTo (fuel : ℕ) (given : Answer) (machine : Progress) (held : List ℕ) (input : Option source.Input) (ended : Bool)
+      (put : List ℕ) : Type 0 where
+    pub whole : (given ≡ answer.Spent → machine.steps ≡ fuel) → HasRunTo fuel given machine.steps input put
+    pub cut :
+        given ≢ answer.InFault → (outage : Answer) → (outage ≡ answer.OutFault) ⊎ (outage ≡ answer.NoMemory)
+        → HasRunTo fuel outage machine.steps input put
+    pub goes : given ≡ answer.Spent → GoesOn machine held input ended put
+
+  -- and what it put was told
+  pub record IsStretch (positions : List Pos) (sources : Sources) (fuel : ℕ) (given : Answer) (machine : Progress) (held : List ℕ)
+      (left : Left) (input : Option source.Input) (ended : Bool) (s : Sinks) : Type 0 where
+    pub put : List ℕ
+    pub whole : (given ≡ answer.Spent → machine.steps ≡ fuel) → HasRunTo fuel given machine.steps input put
+    pub told : AreTold positions sources put s given
+    pub goes : given ≡ answer.Spent → GoesOn machine held input ended put × SoFar positions sources put left s

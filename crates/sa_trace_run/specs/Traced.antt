@@ -1,0 +1,60 @@
+-- What the run of a traced module left of out and err.
+use Rattle.std.specs.Prelude.{◌≡◌, ◌⊎◌, ◌≤◌, ℕ, List, ◌++◌}
+use Rattle.sa_outside.specs.Faults.{Rose}
+use Rattle.sa_outside.specs.Output.{TookFront}
+use Rattle.sa_tree.specs.declared.pos.Pos.{Pos}
+use Rattle.sa_tree.specs.declared.pos.Sources.{Sources}
+use Rattle.sa_trace.specs.Frames.{AreFrames, Framed, output_of}
+use Rattle.sa_trace.specs.Handing.{Hands, Hears, HearsPart, Sink, lines_of}
+use Rattle.sa_trace.specs.Pieces.{HasRead, Left}
+use Rattle.sa_trace.specs.declared.frame.Frame.{Frame}
+use Rattle.sa_trace.specs.declared.sinks.Listening.{Listening}
+use Rattle.sa_trace.specs.declared.sinks.Listening.TheVariants as listening
+use Rattle.wa_run.specs.declared.answer.Answer.{Answer}
+use Rattle.wa_run.specs.declared.answer.Answer.TheVariants as answer
+
+-- what a run left of out and err, and whether err still listens
+pub record Sinks : Type 0 where
+  pub out_old : Sink
+  pub out_new : Sink
+  pub err_old : Sink
+  pub err_new : Sink
+  pub listening : Listening
+
+abbrev pub sinks : (out_old out_new err_old err_new : Sink) → Listening → Sinks
+sinks out_old out_new err_old err_new listening =
+    record { out_old = out_old; out_new = out_new; err_old = err_old; err_new = err_new; listening = listening }
+
+module _ (positions : List Pos) (sources : Sources) where
+  -- all frames of the bytes were handed on
+  pub record AreHandedOn (bytes : List ℕ) (s : Sinks) : Type 0 where
+    pub frames : List Frame
+    pub framed : Framed positions sources bytes frames
+    pub hands : Hands sources frames s.out_old s.out_new listening.Yes s.listening s.err_old s.err_new
+
+  -- so were the frames of a front of the bytes, but for a part of their output, and this was heard of their events
+  pub record FrontIsHandedOn (bytes : List ℕ) (s : Sinks) (Heard : (lines : List ℕ) → Type 0) : Type 0 where
+    pub front : List ℕ
+    pub rest : List ℕ
+    pub split : bytes ≡ front ++ rest
+    pub told : List Frame
+    pub are : AreFrames positions sources front told
+    pub out : TookFront s.out_old.taken s.out_new.taken (output_of told)
+    pub err : Heard (lines_of sources told)
+
+  -- The bytes are frames, which were handed on: all of them, or up to where out failed, or to where memory ran out
+  abbrev pub AreTold : (bytes : List ℕ) → Sinks → Answer → Type 0
+  AreTold bytes s given =
+      AreHandedOn bytes s
+      ⊎ (Rose s.out_old.faults s.out_new.faults
+      × FrontIsHandedOn bytes s (Hears listening.Yes s.listening s.err_old s.err_new))
+      ⊎ (((s.listening ≡ listening.NoMemory) ⊎ (given ≡ answer.NoMemory))
+      × FrontIsHandedOn bytes s (HearsPart listening.Yes s.listening s.err_old s.err_new))
+
+  -- so far all frames of these bytes were handed on, and this is left behind them
+  pub record SoFar (bytes : List ℕ) (left : Left) (s : Sinks) : Type 0 where
+    pub frames : List Frame
+    pub read : HasRead positions sources bytes frames left
+    pub hands : Hands sources frames s.out_old s.out_new listening.Yes s.listening s.err_old s.err_new
+    pub out_count : s.out_old.faults ≤ s.out_new.faults
+    pub err_count : s.err_old.faults ≤ s.err_new.faults
