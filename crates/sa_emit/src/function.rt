@@ -3,6 +3,7 @@
 use crate::dispatch::{Dispatch, add_loop};
 use crate::pool::has_frames;
 use crate::predecessors::{Predecessors, predecessors_of};
+use crate::sums::sum;
 use crate::superblock::add_target;
 use crate::targets::{DispatchTargets, targets_of};
 use sa_emit_step::{add_iter_prologue, add_suspension};
@@ -25,7 +26,7 @@ pub(crate) fn add_bodies(
     let mut first_site = 0u32;
     for body in others {
         funcs.push(function(alloc, program, body, role_of(body), first_site)?)?;
-        first_site = first_site.saturating_add(body.sites);
+        first_site = sum(first_site, body.sites)?;
     }
     funcs.push(function(alloc, program, last, Role::Last, first_site)?)?;
     Ok(())

@@ -28,14 +28,11 @@ pub(crate) fn module(
     places: &Places,
     room: u32,
 ) -> Result<Module, NoMemory> {
+    let tracing = program.tracing;
     let mut types = own_types(alloc)?;
     let mut funcs = Items::new(alloc);
-    let tracing = program.tracing;
-    add_runtime(
-        &mut types,
-        &mut funcs,
-        code(alloc, memory.base, room, tracing)?,
-    )?;
+    let features = code(alloc, memory.base, room, tracing)?;
+    add_runtime(&mut types, &mut funcs, features)?;
     add_runtime(&mut types, &mut funcs, support(alloc, tracing)?)?;
     add_frames(alloc, &mut types, &mut funcs, memory, tracing)?;
     add_bodies(alloc, &mut funcs, program)?;

@@ -12,9 +12,6 @@ use sa_runtime::trace::{Tellers, Tracing};
 use std::alloc::Global;
 use wa_syntax::{Module, NoMemory};
 
-/// The most sites that the bodies of a traced program have together.
-const MOST_SITES: u32 = 200_000;
-
 /// The module of a program, whose objects have so many KiB.
 ///
 /// # Errors
@@ -30,28 +27,16 @@ pub fn emit(alloc: Global, flat: &FlatProgram, rows: &Rows, room: u32) -> Result
 ///
 /// # Errors
 ///
-/// Those of [`emit`], and `NoMemory` where the bodies have more than 200,000 sites together.
+/// Those of [`emit`].
 pub fn emit_traced(
     alloc: Global,
     flat: &FlatProgram,
     rows: &Rows,
     room: u32,
 ) -> Result<Module, NoMemory> {
-    if sites_of(flat) > MOST_SITES {
-        return Err(NoMemory);
-    }
-    let first = sum(main_of(flat)?, 1)?;
-    let tracing = Tracing::On(Tellers::from(first)?);
-    emitted(alloc, flat, rows, room, tracing)
-}
-
-/// How many sites the bodies have together, or the greatest `u32` where they are more.
-fn sites_of(flat: &FlatProgram) -> u32 {
-    let mut count = 0u32;
-    for body in flat.bodies.as_slice() {
-        count = count.saturating_add(body.sites);
-    }
-    count
+    let behind_main = sum(main_of(flat)?, 1)?;
+    let tellers = Tellers::from_first(behind_main)?;
+    emitted(alloc, flat, rows, room, Tracing::On(tellers))
 }
 
 /// The module of a program, traced or not.

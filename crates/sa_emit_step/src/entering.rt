@@ -2,17 +2,17 @@
 //! instance at a start, hands it out, and runs the iter's body on it, at the depth of its caller.
 
 use crate::frames::{add_frame_self, add_is_frame};
-use crate::outcome::{Instance, add_is_raised, add_is_suspended, add_left, add_quit};
+use crate::outcome::{Instance, add_is_raised, add_is_suspended, add_quit};
 use sa_emit_call::{add_deeper, add_too_deep};
 use sa_emit_value::{
-    Around, FRAME, Handing, add_answers, add_handed, add_handed_on, add_if, add_if_else,
+    Around, FRAME, Handing, STATUS, add_answers, add_handed, add_handed_on, add_if, add_if_else,
     function_of,
 };
 use sa_flat::FlatArg;
 use sa_runtime::fault_numbers::{TOO_DEEP, TOO_MANY_FRAMES};
 use sa_runtime::layout::{END_FRAME, FRAME_OUT, NEW_FRAME, RAISED};
 use sa_runtime::line::{Op, add_line};
-use sa_runtime::trace::{Event, add_event};
+use sa_runtime::trace::{self, Event};
 use sqlite_items::Items;
 use std::alloc::Global;
 use wa_syntax::opcode::{I32_EQZ, RETURN};
@@ -53,13 +53,13 @@ pub(crate) fn add_enter(
     add_frame(alloc, code, around, entering.recv)?;
     add_handed(code, around.body, entering.args, Handing::AtStart)?;
     add_deeper(code, Op::Get(FRAME))?;
-    add_line(code, &[Op::Call(func)])?;
+    add_line(code, &[Op::Call(func), Op::Tee(STATUS)])?;
+    trace::add_outcome(code, around.program.tracing, FRAME, STATUS)?;
     let inner = around.further_in()?;
     let mut suspended = Items::new(alloc);
     add_suspended(&mut suspended, &inner, entering)?;
     let mut ended = Items::new(alloc);
     add_ended(alloc, &mut ended, &inner, entering.quit)?;
-    add_left(code, around, FRAME)?;
     add_is_suspended(code)?;
     add_if_else(code, suspended, ended)
 }
@@ -71,7 +71,7 @@ fn add_handed_on_if(alloc: Global, code: &mut Items<Instr>, kind: u32) -> Result
     add_if(alloc, code, fault)
 }
 
-/// Adds what takes a frame where the instance has none. Where it has one, it goes on.
+/// Adds what takes a frame where the instance has none, and else tells that it goes on.
 fn add_frame(
     alloc: Global,
     code: &mut Items<Instr>,
@@ -85,7 +85,7 @@ fn add_frame(
     add_handed_on_if(alloc, &mut start, TOO_MANY_FRAMES)?;
     add_frame_self(&mut start, &inner, FRAME, recv)?;
     let mut resumption = Items::new(alloc);
-    add_event(&mut resumption, inner.program.tracing, FRAME, Event::Resume)?;
+    trace::add_event(&mut resumption, inner.program.tracing, FRAME, Event::Resume)?;
     add_line(code, &[Op::Get(FRAME), Op::Do(I32_EQZ)])?;
     add_if_else(code, start, resumption)
 }

@@ -8,7 +8,7 @@ use sa_emit_value::{ADDRESS, Around, STATUS, add_answers, add_if, add_if_else, a
 use sa_flat::{CallPlan, Raised};
 use sa_runtime::layout::{CALLED_AT, END_FRAME, FRAME_OUT, RAISED, SITE_AT, SUSPENDED};
 use sa_runtime::line::{Op, add_line};
-use sa_runtime::trace::add_outcome as add_outcome_told;
+use sa_runtime::trace;
 use sqlite_items::Items;
 use std::alloc::Global;
 use wa_syntax::opcode::{I32_EQ, I32_STORE, I32_WRAP_I64};
@@ -96,26 +96,15 @@ fn add_outcome(
     let inner = around.further_in()?;
     let mut ended = Items::new(alloc);
     add_ended(alloc, &mut ended, &inner, site, called)?;
+    add_line(code, &[Op::Tee(STATUS)])?;
     if keeps_frame(called) {
-        add_left(code, around, site.frame)?;
-    } else {
-        add_line(code, &[Op::Tee(STATUS)])?;
+        trace::add_outcome(code, around.program.tracing, site.frame, STATUS)?;
     }
     add_is_suspended(code)?;
     add_if_else(code, suspended, ended)
 }
 
-/// Adds what keeps the status that is the operand, by which the body of the instance was left whose frame is in this local.
-pub(crate) fn add_left(
-    code: &mut Items<Instr>,
-    around: &Around<'_>,
-    frame: u32,
-) -> Result<(), NoMemory> {
-    add_line(code, &[Op::Tee(STATUS)])?;
-    add_outcome_told(code, around.program.tracing, frame, STATUS)
-}
-
-/// Adds whether the status that is the operand is that of a suspension, as an operand.
+/// Adds the test whether the status that is the operand is that of a suspension, as an operand.
 pub(crate) fn add_is_suspended(code: &mut Items<Instr>) -> Result<(), NoMemory> {
     add_line(code, &[Op::I32(SUSPENDED), Op::Do(I32_EQ)])
 }
