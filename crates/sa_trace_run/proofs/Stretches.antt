@@ -251,7 +251,7 @@ module _ (b : Beginning) (new : Flat) (fuel steps : ℕ) (within : steps ≤ fue
 
   -- it ends, or has spent its fuel
   pub run-whole : (h : Halt) (result : Answer) → Makes b.program b.row b.flat new 0 steps (Some h) here mid [] left → IsClosed (answer_of_halt h) result left mid.output there.output → (result ≡ answer.Spent → steps ≡ fuel) → Passed (seen here) there (λ answers handed. IsAnswered b.program answers handed fuel result steps)
-    run-whole (halt.Ended value) result makes closed spent = ended (halt.Ended value) result makes closed (λ same. absurd (other-halt (halt.Ended value) tt same))
+  run-whole (halt.Ended value) result makes closed spent = ended (halt.Ended value) result makes closed (λ same. absurd (other-halt (halt.Ended value) tt same))
   run-whole (halt.Stopped code site) result makes closed spent = ended (halt.Stopped code site) result makes closed (λ same. absurd (other-halt (halt.Stopped code site) tt same))
   run-whole (halt.Trap kind) result makes closed spent = ended (halt.Trap kind) result makes closed (λ same. absurd (other-halt (halt.Trap kind) tt same))
   run-whole halt.TooDeep result makes closed spent = ended halt.TooDeep result makes closed (λ same. absurd (other-halt halt.TooDeep tt same))
@@ -295,7 +295,7 @@ module _ (b : Beginning) (fuel : ℕ) (put : List ℕ) (old new : Progress) (hel
       on spends (inr (some, fault, front)) = absurd (outage-other result fault answer_spent)
 
   pub came-to : new.steps ≤ fuel → (result ≡ answer.Spent → kept ≡ []) → (h ≢ halt.NoMemory → Runs b.program new) → new.linked ≡ old.linked → CameTo b fuel result new kept to ended_after (put ++ taken)
-    came-to within empties runs linked = record {
+  came-to within empties runs linked = record {
     whole = λ spent. run-whole b (flat_of new.state) fuel new.steps within left whole-sides (streams to (Some (put ++ taken))) refl h result all-makes all-closed spent;
     cut = λ not outage is. run-cut b (flat_of new.state) fuel new.steps within left whole-sides (streams to (Some (put ++ taken))) refl h result all-makes all-closed not outage is;
     goes = λ spent. record {
