@@ -1,12 +1,12 @@
 -- Calls of a machine, each with a sink of its own, as one run with one sink.
-use Rattle.std.proofs.Common.{◌≡◌, ◌≢◌, ◌⊎◌, inl, inr, ◌<◌, ◌≤◌, Bool, ℕ, List, [], ◌∷◌, ◌++◌, length, take, Option, Some, None, refl, sym, ap, subst, ◌∙◌, arith, append_assoc, append-nil, zero-add}
+use Rattle.std.proofs.Common.{◌≡◌, ◌≢◌, ◌⊎◌, inl, inr, ◌≤◌, Bool, ℕ, List, [], ◌++◌, length, take, Option, Some, None, refl, sym, ap, subst, ◌∙◌, arith, append_assoc, append-nil, zero-add}
 use Rattle.std.specs.Prelude.{option_map}
 use Rattle.std.proofs.lemmas.Option.{same_Some}
 use Rattle.std.proofs.Math.Seq.{take-length}
 use Rattle.sa_outside.specs.declared.source.Take.{Take}
 use Rattle.sa_outside.specs.Input as source
 use Rattle.sa_outside.specs.Faults.{Rose}
-use Rattle.sa_outside.specs.Output.{Took, TookFront}
+use Rattle.sa_outside.specs.Output.{Took}
 use Rattle.sa_trace.proofs.HandedOn.{took-none, took-more}
 use Rattle.wa_syntax.specs.declared.module.Module.{Module}
 use Rattle.wa_syntax.specs.Machine.{Input}
@@ -18,12 +18,12 @@ use Rattle.wa_code.specs.Laid.{Row}
 use Rattle.wa_exec.specs.declared.halt.Halt.{Halt}
 use Rattle.wa_exec.specs.declared.halt.Halt.TheVariants as halt
 use Rattle.wa_exec.specs.declared.link.Linked.{Linked}
-use Rattle.wa_exec.specs.Goes.{Standing, first}
+use Rattle.wa_exec.specs.Goes.{first}
 use Rattle.wa_exec.specs.Linking.{flat_of}
 use Rattle.wa_exec.specs.Machines.{Flat, Stands}
 use Rattle.wa_exec.specs.Outside.{Any, Carried, Did, Makes, Sides, sides}
 use Rattle.wa_exec.specs.Progress.{Progress, Runs}
-use Rattle.wa_exec.specs.Reading.{AreRead, Gave, Reads}
+use Rattle.wa_exec.specs.Reading.{AreRead, Gave}
 use Rattle.wa_exec.specs.Tells.{Faults, Tells}
 use Rattle.wa_exec.proofs.Outside.{Makes-then}
 use Rattle.wa_exec.proofs.WholeRuns.{cut-front, ends-front, waits-front}

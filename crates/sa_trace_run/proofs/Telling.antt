@@ -10,7 +10,7 @@ use Rattle.sa_tree.specs.declared.pos.Sources.{Sources}
 use Rattle.sa_trace.specs.declared.frame.Frame.{Frame}
 use Rattle.sa_trace.specs.declared.sinks.Listening.{Listening}
 use Rattle.sa_trace.specs.declared.sinks.Listening.TheVariants as listening
-use Rattle.sa_trace.specs.Frames.{AreFrames, BeginsNone, IsFrame, output_of}
+use Rattle.sa_trace.specs.Frames.{AreFrames, BeginsNone, output_of}
 use Rattle.sa_trace.specs.Handing.{Hands, HandsFront, Hears, HearsPart, Sink, lines_of}
 use Rattle.sa_trace.specs.Pieces.{HasRead, Keeps, Left}
 use Rattle.sa_trace.proofs.Fronts.{none-nil}

@@ -1,13 +1,10 @@
-use Rattle.std.proofs.Common.{◌≡◌, ◌≤◌, ◌∙◌, ◌⊎◌, ℕ, List, [], Some, ap, arith, refl, subst, sym}
+use Rattle.std.proofs.Common.{◌≡◌, ◌∙◌, ◌⊎◌, ℕ, List, [], Some, ap, arith, refl, subst}
 use Rattle.wa_code.specs.Codes.{row_of}
-use Rattle.wa_exec.specs.declared.halt.Halt.{Halt}
-use Rattle.wa_exec.specs.declared.halt.Halt.TheVariants as halt
 use Rattle.wa_exec.specs.Linking.{flat_of}
 use Rattle.wa_exec.specs.Outside.{Makes, sides}
 use Rattle.wa_exec.specs.Progress.{halted}
 use Rattle.wa_exec.specs.Tells.{faults_of}
 use Rattle.wa_run.specs.declared.answer.Answer.{Answer}
-use Rattle.wa_run.specs.declared.answer.Answer.TheVariants as answer
 use Rattle.sa_outside.specs.Faults.{Rose}
 use Rattle.wa_run.specs.Answers.{IsOutage}
 use Rattle.wa_run.specs.Runs.{IsClosed}

@@ -1,6 +1,5 @@
-use Rattle.std.proofs.Common.{◌∙◌, ◌++◌, ℕ, List, ap, subst}
+use Rattle.std.proofs.Common.{◌++◌, ℕ, List, ap, subst}
 use Rattle.std.specs.Prelude.{Err}
-use Rattle.sa_outside.specs.Faults.{Rose}
 use Rattle.sa_trace.proofs.HandedOn.{rose-behind}
 use Rattle.sa_trace.specs.declared.sinks.Listening.TheVariants as listening
 use Rattle.sa_trace.specs.Handing.{Hears, HearsPart, Sink, sink}

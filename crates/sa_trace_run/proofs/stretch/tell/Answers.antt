@@ -1,6 +1,5 @@
 use Rattle.std.proofs.Common.{List, subst}
 use Rattle.std.proofs.lemmas.Result.{on_err_weaker, on_ok_weaker}
-use Rattle.sa_outside.specs.Faults.{Rose}
 use Rattle.sa_trace.specs.declared.frame.Frame.{Frame}
 use Rattle.sa_trace.specs.Handing.{Hands, HandsFront, Hears, HearsPart, sink}
 use Rattle.sa_trace_run.proofs.Telling.{lines-front, none-front, part-front, so-far-more}
