@@ -133,8 +133,11 @@ fn run_on<I: Source, O: Sink, E: Sink>(
     loop {
         end += STRETCH.min(fuel - end);
         let answer = stretch(alloc, running, end, positions, sources, input, out, err);
-        if end == fuel || !matches!(answer, Answer::Spent) {
+        if end == fuel {
             return answer;
         }
+        let Answer::Spent = answer else {
+            return answer;
+        };
     }
 }

@@ -5,8 +5,8 @@ use Rattle.sa_trace_run.specs.Traced.{sinks}
 use Rattle.sa_trace_run.proofs.traced_run.run_on.Given as goal
 
 -- the run can go on
-abbrev pub invariant-loop : goal.invariant-loop
-invariant-loop g l =
+abbrev pub invariant-loop-end : goal.invariant-loop-end
+invariant-loop-end g l =
     let input = g.I.Source in
     let out = g.O.Sink in
     let err = g.E.Sink in
@@ -27,5 +27,5 @@ invariant-loop g l =
           (sink (err.output l.err) (err.faults l.err)) l.running.listening);
     }
 
-abbrev pub decreases-loop : goal.decreases-loop
-decreases-loop g l = l.fuel - l.end
+abbrev pub decreases-loop-end : goal.decreases-loop-end
+decreases-loop-end g l = l.fuel - l.end
