@@ -162,9 +162,6 @@ outage-runs result (inr is) before = subst IsBeforeRun is before
 -- ---- how a stretch ends
 
 module _ {b : Beginning} {positions : List Pos} {sources : Sources} {fuel : ℕ} {given : Answer} {machine : Progress} {held : List ℕ} {input : Option source.Input} {ended : Bool} {put : List ℕ} (came : CameTo b fuel given machine held input ended put) where
-  abbrev Ran : Answer → Type 0
-  Ran result = HasRunTo b fuel result machine.steps input put
-
   -- all was told
   pub stretch-told-all : (left : Left) (s : Sinks) → SoFar positions sources put left s → IsStretch b positions sources fuel given machine held left input ended s
   stretch-told-all left s so_far = record {
@@ -179,7 +176,7 @@ module _ {b : Beginning} {positions : List Pos} {sources : Sources} {fuel : ℕ}
   stretch-cut left s result outage.Failed not failed short lines part = record {
     put = put;
     whole = λ spent. came.cut not result (inl (failed refl));
-    told = inr (inl (inl (failed refl), lines refl));
+    told = inr (inl (inl (failed refl), (lines refl).0, (lines refl).1));
     goes = λ spent. absurd (outage-other result (inl (failed refl)) spent);
   }
   stretch-cut left s result outage.NoMemory not failed short lines part = record {
@@ -193,13 +190,17 @@ module _ {b : Beginning} {positions : List Pos} {sources : Sources} {fuel : ℕ}
   pub stretch-in-fault : (left : Left) (out_old out_new err_old err_new : Sink) (before after : Listening) (what : Outage) → given ≡ answer.InFault → (what ≡ outage.Failed → after ≡ before) → (what ≡ outage.NoMemory → after ≡ listening.NoMemory) → (what ≡ outage.Failed → Rose out_old.faults out_new.faults × FrontIsHandedOn positions sources put (sinks out_old out_new err_old err_new before) (Hears listening.Yes before err_old err_new)) → FrontIsHandedOn positions sources put (sinks out_old out_new err_old err_new before) (HearsPart listening.Yes before err_old err_new) → IsStretch b positions sources fuel answer.InFault machine held left input ended (sinks out_old out_new err_old err_new after)
   stretch-in-fault left out_old out_new err_old err_new before after outage.Failed is failed short lines part = record {
     put = put;
-    whole = λ spent. subst (λ (a : Answer). Ran a) is (came.whole (λ same. absurd (fault-other (sym is ∙ same))));
-    told = inr (inl (inr refl, subst (λ (l : Listening). Rose out_old.faults out_new.faults × FrontIsHandedOn positions sources put (sinks out_old out_new err_old err_new l) (Hears listening.Yes l err_old err_new)) (sym (failed refl)) (lines refl)));
+    whole = λ spent. subst (λ (a : Answer). HasRunTo b fuel a machine.steps input put) is (came.whole (λ same. absurd (fault-other (sym is ∙ same))));
+    told = inr (inl (
+      inr refl,
+      (lines refl).0,
+      subst (λ (l : Listening). FrontIsHandedOn positions sources put (sinks out_old out_new err_old err_new l) (Hears listening.Yes l err_old err_new)) (sym (failed refl)) (lines refl).1,
+    ));
     goes = λ spent. absurd (fault-other spent);
   }
   stretch-in-fault left out_old out_new err_old err_new before after outage.NoMemory is failed short lines part = record {
     put = put;
-    whole = λ spent. subst (λ (a : Answer). Ran a) is (came.whole (λ same. absurd (fault-other (sym is ∙ same))));
+    whole = λ spent. subst (λ (a : Answer). HasRunTo b fuel a machine.steps input put) is (came.whole (λ same. absurd (fault-other (sym is ∙ same))));
     told = inr (inr (
       inr (refl, short refl),
       record {

@@ -20,25 +20,25 @@ returns-in-Ok-clause-made g c = λ b fuel out_old err_old most under.
     (subst (λ (bytes : List ℕ). SoFar c.args.positions.now c.args.sources.now (under.put ++ bytes) c.tell-told.new.parting s) c.taken.ensures
     (c.in-Ok.ensures.ok under.put out_old err_old under.so_far))
 
-pub returns-in-Err-in_default-clause-told : goal.returns-in-Err-in_default-clause-told
-returns-in-Err-in_default-clause-told g c =
+pub returns-clause-told : goal.returns-clause-told
+returns-clause-told g c =
     told-cut c.answer_of_outage.result c.in-Err.outage _ _ c.answer_of_outage.ensures.failed c.answer_of_outage.ensures.short
     (λ failed. c.in-Err.ensures.failed (ap Err failed))
 
-pub returns-in-Err-in_default-clause-runs : goal.returns-in-Err-in_default-clause-runs
-returns-in-Err-in_default-clause-runs g c =
+pub returns-clause-runs : goal.returns-clause-runs
+returns-clause-runs g c =
     outage-runs c.answer_of_outage.result (is-outage c.answer_of_outage.result c.in-Err.outage c.answer_of_outage.ensures.failed c.answer_of_outage.ensures.short)
 
-pub returns-in-Err-in_default-clause-spent : goal.returns-in-Err-in_default-clause-spent
-returns-in-Err-in_default-clause-spent g c = λ spent.
+pub returns-clause-spent : goal.returns-clause-spent
+returns-clause-spent g c = λ spent.
     absurd (outage-other c.answer_of_outage.result (is-outage c.answer_of_outage.result c.in-Err.outage c.answer_of_outage.ensures.failed c.answer_of_outage.ensures.short) spent)
 
-pub returns-in-Err-in_default-clause-goes : goal.returns-in-Err-in_default-clause-goes
-returns-in-Err-in_default-clause-goes g c = λ spent.
+pub returns-clause-goes : goal.returns-clause-goes
+returns-clause-goes g c = λ spent.
     absurd (outage-other c.answer_of_outage.result (is-outage c.answer_of_outage.result c.in-Err.outage c.answer_of_outage.ensures.failed c.answer_of_outage.ensures.short) spent)
 
-pub returns-in-Err-in_default-clause-made : goal.returns-in-Err-in_default-clause-made
-returns-in-Err-in_default-clause-made g c = λ b fuel out_old err_old most under.
+pub returns-clause-made : goal.returns-clause-made
+returns-clause-made g c = λ b fuel out_old err_old most under.
     let out_now = sink (g.O.Sink.output c.args.out.now) (g.O.Sink.faults c.args.out.now) in
     let out_new = sink (g.O.Sink.output c.tell-told.new.out) (g.O.Sink.faults c.tell-told.new.out) in
     let err_new = sink (g.E.Sink.output c.tell-told.new.err) (g.E.Sink.faults c.tell-told.new.err) in
@@ -53,8 +53,8 @@ returns-in-Err-in_default-clause-made g c = λ b fuel out_old err_old most under
     (subst (λ (bytes : List ℕ). FrontIsHandedOn c.args.positions.now c.args.sources.now (under.put ++ bytes) s (HearsPart listening.Yes c.tell-told.new.listening err_old err_new)) c.taken.ensures
     (c.in-Err.ensures.part under.put out_old err_old under.so_far))
 
-pub returns-in-Err-in-InFault-clause-made : goal.returns-in-Err-in-InFault-clause-made
-returns-in-Err-in-InFault-clause-made g c = λ b fuel out_old err_old most under.
+pub returns-in-InFault-clause-made : goal.returns-in-InFault-clause-made
+returns-in-InFault-clause-made g c = λ b fuel out_old err_old most under.
     let out_now = sink (g.O.Sink.output c.args.out.now) (g.O.Sink.faults c.args.out.now) in
     let out_new = sink (g.O.Sink.output c.tell-told.new.out) (g.O.Sink.faults c.tell-told.new.out) in
     let err_new = sink (g.E.Sink.output c.tell-told.new.err) (g.E.Sink.faults c.tell-told.new.err) in

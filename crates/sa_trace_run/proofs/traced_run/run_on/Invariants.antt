@@ -16,8 +16,8 @@ invariant-loop-end g l =
       halt : l.running.machine.halt ≡ None;
       steps : l.running.machine.steps ≤ l.end;
       within : l.end ≤ l.fuel;
-      source : input.faults l.fn.input ≤ input.faults l.input;
-      sink : out.faults l.fn.out ≤ out.faults l.out;
+      source_count : input.faults l.fn.input ≤ input.faults l.input;
+      sink_count : out.faults l.fn.out ≤ out.faults l.out;
       on :
           (b : Beginning)
           → IsUnderWay b l.positions l.sources l.fn.running.machine l.fn.running.host l.fn.running.parting (input.input l.fn.input)
