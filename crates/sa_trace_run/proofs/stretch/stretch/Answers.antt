@@ -60,8 +60,8 @@ returns-in-InFault-clause-made g c = λ b fuel out_old err_old most under.
     let err_new = sink (g.E.Sink.output c.tell-told.new.err) (g.E.Sink.faults c.tell-told.new.err) in
     let s = sinks out_old out_new err_old err_new c.tell-told.new.listening in
     stretch-in-fault (c.put_until-answer.ensures.came b fuel under.put most under.goes) c.tell-told.new.parting out_old out_new err_old err_new
-    c.tell-told.new.listening c.listening_behind.result c.in-Err.outage c.in-InFault.is
-    c.listening_behind.ensures.failed c.listening_behind.ensures.short
+    c.tell-told.new.listening c.listening_behind-running.result c.in-Err.outage c.in-InFault.is
+    c.listening_behind-running.ensures.failed c.listening_behind-running.ensures.short
     (λ failed. (
       rose-behind out_old.faults out_now.faults out_new.faults under.so_far.out_count (c.in-Err.ensures.failed (ap Err failed)),
       subst (λ (bytes : List ℕ). FrontIsHandedOn c.args.positions.now c.args.sources.now (under.put ++ bytes) s (Hears listening.Yes c.tell-told.new.listening err_old err_new)) c.taken.ensures
