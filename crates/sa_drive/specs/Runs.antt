@@ -68,7 +68,7 @@ pub record RanBuilt (input : Part Input) (out : Part (List ℕ)) (fuel : ℕ)
   pub of_bytes : IsRunOf input out outcome.«module».items fuel run
   pub shows : Shows fuel IsCause outcome run
 
--- the output of a traced module, which took these bytes, and failed where out did
+-- the output of a traced module itself, which takes these bytes, and fails where out does
 abbrev pub framed_output : (out : Part (List ℕ)) → (framed : List ℕ) → Part (List ℕ)
 framed_output out framed =
     record { before = Some []; after = Some framed; faults_before = out.faults_before; faults_after = out.faults_after }
@@ -79,8 +79,8 @@ sinks_of out err listening =
     sinks (sink out.before out.faults_before) (sink out.after out.faults_after) (sink err.before err.faults_before)
     (sink err.after err.faults_after) listening
 
--- so was its traced module: the bytes of its output are frames, where the sites of the program have these positions, and out and err took
--- what the frames say
+-- the module of the outcome, a traced one, was run so: the bytes of its output are frames, where the sites of the program have these
+-- positions, and out and err took what the frames say
 pub record RanTraced (input : Part Input) (out err : Part (List ℕ)) (fuel : ℕ)
     (IsCause : (of_module : Cause) → (told : Cause) → Type 0) (outcome : Outcome) : Type 0 where
   pub framed : List ℕ

@@ -16,15 +16,15 @@ returns-clause-ran g c =
       within = c.run_traced-traced.ensures.within;
       ran = ran.1;
       starts = λ runnable. c.run_traced-traced.ensures.starts runnable.linked runnable.fit;
-    }) ran.2 c.outcome.ensures.sources c.outcome.ensures.bytes (subst (IsOfModule c.args.sources _) (sym c.outcome.ensures.cause) of_module) (c.outcome.ensures.done ∙ c.done_of.ensures) c.outcome.ensures.steps
+    }) ran.2 c.outcome-outcome.ensures.sources c.outcome-outcome.ensures.bytes (subst (IsOfModule c.args.sources _) (sym c.outcome-outcome.ensures.cause) of_module) (c.outcome-outcome.ensures.done ∙ c.done_of.ensures) c.outcome-outcome.ensures.steps
 
 pub returns-clause-placed : goal.returns-clause-placed
 returns-clause-placed g c =
-    let told = subst (λ sources. IsPlaced sources c.at_place.result) (sym c.outcome.ensures.sources) (c.at_place.ensures.placed (c.cause_of-cause.ensures.placed c.args.sources)) in
-    subst (IsPlaced c.outcome.result.sources) (sym c.outcome.ensures.cause) told
+    let told = subst (λ sources. IsPlaced sources c.at_place.result) (sym c.outcome-outcome.ensures.sources) (c.at_place.ensures.placed (c.cause_of-cause.ensures.placed c.args.sources)) in
+    subst (IsPlaced c.outcome-outcome.result.sources) (sym c.outcome-outcome.ensures.cause) told
 
 pub returns-clause-untouched : goal.returns-clause-untouched
 returns-clause-untouched g c = λ before.
-    let earlier = c.cause_of-cause.ensures.before (c.at_place.ensures.untouched (subst ComesBeforeOutput c.outcome.ensures.cause before)) in
+    let earlier = c.cause_of-cause.ensures.before (c.at_place.ensures.untouched (subst ComesBeforeOutput c.outcome-outcome.ensures.cause before)) in
     let kept = c.run_traced-traced.ensures.untouched earlier in
     (kept.0, kept.1)

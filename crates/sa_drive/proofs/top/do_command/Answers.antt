@@ -1,11 +1,11 @@
 use Rattle.std.proofs.Common.{refl}
 use Rattle.sa_drive.proofs.top.do_command.Goals as goal
 
-pub returns-in-Run-in-Silent-clause-does : goal.returns-in-Run-in-Silent-clause-does
-returns-in-Run-in-Silent-clause-does g c = rw (c.in-Run.is, c.in-Run.in-Silent.is) (c.run.ensures.does, (refl, refl), c.run.ensures.listening)
+pub returns-in-Silent-clause-does : goal.returns-in-Silent-clause-does
+returns-in-Silent-clause-does g c = rw (c.in-Run.is, c.in-Silent.is) (c.run.ensures.does, (refl, refl), c.run.ensures.listening)
 
-pub returns-in-Run-in-Told-clause-does : goal.returns-in-Run-in-Told-clause-does
-returns-in-Run-in-Told-clause-does g c = rw (c.in-Run.is, c.in-Run.in-Told.is) c.run_told.ensures.does
+pub returns-in-Told-clause-does : goal.returns-in-Told-clause-does
+returns-in-Told-clause-does g c = rw (c.in-Run.is, c.in-Told.is) c.run_told.ensures.does
 
 pub returns-in-Build-clause-does : goal.returns-in-Build-clause-does
 returns-in-Build-clause-does g c = rw c.in-Build.is (c.build.ensures.does, (refl, refl), c.build.ensures.listening)
