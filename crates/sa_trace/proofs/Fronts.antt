@@ -1,5 +1,5 @@
 -- What bytes begin with.
-use Rattle.std.proofs.Common.{◌≡◌, ◌≢◌, ◌<◌, ◌≤◌, ◌+◌, ℕ, List, [], ◌∷◌, ◌++◌, length, take, drop, Some, refl, sym, ap, subst, ◌∙◌, arith, append_assoc, length-append, length-take, length-drop, append-nil}
+use Rattle.std.proofs.Common.{◌≡◌, ◌≢◌, ◌<◌, ◌≤◌, ◌+◌, ℕ, List, [], ◌∷◌, ◌++◌, length, take, drop, Some, refl, sym, ap, subst, ◌∙◌, arith, append_assoc, length-append, length-take, length-drop}
 use Rattle.std.specs.Prelude.{slice_get, slice_index, slice_index_or}
 use Rattle.std.specs.Int.{from_le_bytes, w32, w64}
 use Rattle.std.proofs.lemmas.List.{take-append-le}
@@ -7,7 +7,6 @@ use Rattle.std.proofs.Math.Seq.{take-add, take-append_seam}
 use Rattle.sa_tree.specs.declared.pos.Pos.{Pos}
 use Rattle.sa_tree.specs.declared.pos.Sources.{Sources}
 use Rattle.sa_trace.specs.declared.frame.Event.{Event}
-use Rattle.sa_trace.specs.declared.frame.Frame.{Frame}
 use Rattle.sa_trace.specs.declared.frame.Frame.TheVariants as frame
 use Rattle.sa_trace.specs.declared.frame.Kind.{Kind}
 use Rattle.sa_trace.specs.Frames.{BeginsNone, IsFrame, IsPlace, TellsEvent, kind_number}

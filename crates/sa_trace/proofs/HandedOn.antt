@@ -1,9 +1,9 @@
 -- Frames that are handed on one after another.
-use Rattle.std.proofs.Common.{◌≡◌, ◌≢◌, ◌⊎◌, inl, inr, ◌<◌, ◌≤◌, ◌+◌, ℕ, suc, min, List, [], ◌∷◌, ◌++◌, length, take, drop, Option, Some, None, refl, sym, ap, subst, ◌∙◌, arith, append_assoc, append-nil}
+use Rattle.std.proofs.Common.{◌≡◌, ◌⊎◌, inl, inr, ◌<◌, ◌≤◌, ◌+◌, ℕ, suc, min, get_or, List, [], ◌∷◌, ◌++◌, length, take, drop, Option, Some, None, refl, sym, ap, subst, ◌∙◌, arith, append_assoc, append-nil}
 use Rattle.std.specs.Prelude.{Err, Ok, OnErr, Result, option_map}
 use Rattle.std.proofs.Math.Seq.{take-length}
 use Rattle.std.proofs.lemmas.Bool.{cases_lt}
-use Rattle.std.proofs.lemmas.List.{drop_more, get_or, take-append-drop, take-append-le, take_all, take_more}
+use Rattle.std.proofs.lemmas.List.{drop_more, take-append-drop, take-append-le, take_all, take_more}
 use Rattle.sa_outside.specs.Faults.{Rose}
 use Rattle.sa_outside.specs.Output.{Took, TookFront}
 use Rattle.sa_tree.specs.declared.pos.Sources.{Sources}
@@ -173,12 +173,12 @@ module _ {sources : Sources} {front : List Frame} {held : List ℕ} {out_old out
   }
 
   -- what is held is handed on
-  pub all-sent : (out_new : Sink) → Took out_now.taken out_new.taken held → Took out_old.taken out_new.taken (output_of front)
-  all-sent out_new took = subst (Took out_old.taken out_new.taken) so_far.output_is (took-more out_old.taken out_now.taken out_new.taken so_far.sent held so_far.took took)
+  pub all-sent : (taken : Option (List ℕ)) → Took out_now.taken taken held → Took out_old.taken taken (output_of front)
+  all-sent taken took = subst (Took out_old.taken taken) so_far.output_is (took-more out_old.taken out_now.taken taken so_far.sent held so_far.took took)
 
   -- a part of it
-  pub part-sent : (out_new : Sink) → TookFront out_now.taken out_new.taken held → TookFront out_old.taken out_new.taken (output_of front)
-  part-sent out_new took = subst (TookFront out_old.taken out_new.taken) so_far.output_is (front-behind out_old.taken out_now.taken out_new.taken so_far.sent held so_far.took took)
+  pub part-sent : (taken : Option (List ℕ)) → TookFront out_now.taken taken held → TookFront out_old.taken taken (output_of front)
+  part-sent taken took = subst (TookFront out_old.taken taken) so_far.output_is (front-behind out_old.taken out_now.taken taken so_far.sent held so_far.took took)
 
   -- none of it
   pub none-sent : TookFront out_old.taken out_now.taken (output_of front)
@@ -197,7 +197,7 @@ module _ {sources : Sources} {front : List Frame} {held : List ℕ} {out_old out
   pub so-far-event : (event : Event) (out_new : Sink) (after : Listening) (err_new : Sink) → Took out_now.taken out_new.taken held → out_now.faults ≤ out_new.faults → Hears middle after err_now err_new (line sources event) → err_now.faults ≤ err_new.faults → SoFar sources (front ++ frame.Event event ∷ []) [] out_old out_new before after err_old err_new
   so-far-event event out_new after err_new took out_more hears err_more = record {
     sent = output_of front;
-    took = all-sent out_new took;
+    took = all-sent out_new.taken took;
     output_is = append-nil (output_of front) ∙ sym (output-event event);
     hears = subst (Hears before after err_old err_new) (sym (lines-event event)) (hears-more before middle after err_old err_now err_new (lines_of sources front) (line sources event) so_far.err_count so_far.hears hears);
     out_count = omega (arith, so_far.out_count, out_more);
@@ -205,8 +205,8 @@ module _ {sources : Sources} {front : List Frame} {held : List ℕ} {out_old out
   }
 
   -- or a part of it
-  pub event-part : (event : Event) (out_new : Sink) (after : Listening) (err_new : Sink) → Took out_now.taken out_new.taken held → HearsPart middle after err_now err_new (line sources event) → TookFront out_old.taken out_new.taken (output_of (front ++ frame.Event event ∷ [])) × HearsPart before after err_old err_new (lines_of sources (front ++ frame.Event event ∷ []))
-  event-part event out_new after err_new took part = (
-    subst (TookFront out_old.taken out_new.taken) (sym (output-event event)) (front-whole out_old.taken out_new.taken (output_of front) (all-sent out_new took)),
+  pub event-part : (event : Event) (taken : Option (List ℕ)) (after : Listening) (err_new : Sink) → Took out_now.taken taken held → HearsPart middle after err_now err_new (line sources event) → TookFront out_old.taken taken (output_of (front ++ frame.Event event ∷ [])) × HearsPart before after err_old err_new (lines_of sources (front ++ frame.Event event ∷ []))
+  event-part event taken after err_new took part = (
+    subst (TookFront out_old.taken taken) (sym (output-event event)) (front-whole out_old.taken taken (output_of front) (all-sent taken took)),
     subst (HearsPart before after err_old err_new) (sym (lines-event event)) (hears-part before middle after err_old err_now err_new (lines_of sources front) (line sources event) so_far.err_count so_far.hears part),
   )

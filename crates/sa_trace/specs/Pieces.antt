@@ -1,5 +1,5 @@
 -- Frames that come in pieces: what is left of the bytes that have come, behind their frames.
-use Rattle.std.specs.Prelude.{◌≡◌, ◌⊎◌, ◌≤◌, ℕ, Bool, true, false, List, [], ◌++◌, length, take}
+use Rattle.std.specs.Prelude.{◌≡◌, ◌⊎◌, ◌≤◌, ℕ, Bool, true, false, List, ◌++◌, length, take}
 use Rattle.sa_tree.specs.declared.pos.Pos.{Pos}
 use Rattle.sa_tree.specs.declared.pos.Sources.{Sources}
 use Rattle.sa_trace.specs.declared.first_frame.Found.{Found}

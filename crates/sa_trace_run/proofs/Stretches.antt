@@ -1,12 +1,12 @@
 -- Calls of a machine, each with a sink of its own, as one run with one sink.
-use Rattle.std.proofs.Common.{◌≡◌, ◌≢◌, ◌⊎◌, inl, inr, ◌<◌, ◌≤◌, Bool, ℕ, List, [], ◌∷◌, ◌++◌, length, take, Option, Some, None, refl, sym, ap, subst, ◌∙◌, arith, append_assoc, append-nil, zero-add}
+use Rattle.std.proofs.Common.{◌≡◌, ◌≢◌, ◌⊎◌, inl, inr, ◌≤◌, Bool, ℕ, List, [], ◌++◌, length, take, Option, Some, None, refl, sym, ap, subst, ◌∙◌, arith, append_assoc, append-nil, zero-add}
 use Rattle.std.specs.Prelude.{option_map}
 use Rattle.std.proofs.lemmas.Option.{same_Some}
 use Rattle.std.proofs.Math.Seq.{take-length}
 use Rattle.sa_outside.specs.declared.source.Take.{Take}
 use Rattle.sa_outside.specs.Input as source
 use Rattle.sa_outside.specs.Faults.{Rose}
-use Rattle.sa_outside.specs.Output.{Took, TookFront}
+use Rattle.sa_outside.specs.Output.{Took}
 use Rattle.sa_trace.proofs.HandedOn.{took-none, took-more}
 use Rattle.wa_syntax.specs.declared.module.Module.{Module}
 use Rattle.wa_syntax.specs.Machine.{Input}
@@ -18,12 +18,12 @@ use Rattle.wa_code.specs.Laid.{Row}
 use Rattle.wa_exec.specs.declared.halt.Halt.{Halt}
 use Rattle.wa_exec.specs.declared.halt.Halt.TheVariants as halt
 use Rattle.wa_exec.specs.declared.link.Linked.{Linked}
-use Rattle.wa_exec.specs.Goes.{Standing, first}
+use Rattle.wa_exec.specs.Goes.{first}
 use Rattle.wa_exec.specs.Linking.{flat_of}
 use Rattle.wa_exec.specs.Machines.{Flat, Stands}
 use Rattle.wa_exec.specs.Outside.{Any, Carried, Did, Makes, Sides, sides}
 use Rattle.wa_exec.specs.Progress.{Progress, Runs}
-use Rattle.wa_exec.specs.Reading.{AreRead, Gave, Reads}
+use Rattle.wa_exec.specs.Reading.{AreRead, Gave}
 use Rattle.wa_exec.specs.Tells.{Faults, Tells}
 use Rattle.wa_exec.proofs.Outside.{Makes-then}
 use Rattle.wa_exec.proofs.WholeRuns.{cut-front, ends-front, waits-front}
@@ -251,7 +251,7 @@ module _ (b : Beginning) (new : Flat) (fuel steps : ℕ) (within : steps ≤ fue
 
   -- it ends, or has spent its fuel
   pub run-whole : (h : Halt) (result : Answer) → Makes b.program b.row b.flat new 0 steps (Some h) here mid [] left → IsClosed (answer_of_halt h) result left mid.output there.output → (result ≡ answer.Spent → steps ≡ fuel) → Passed (seen here) there (λ answers handed. IsAnswered b.program answers handed fuel result steps)
-    run-whole (halt.Ended value) result makes closed spent = ended (halt.Ended value) result makes closed (λ same. absurd (other-halt (halt.Ended value) tt same))
+  run-whole (halt.Ended value) result makes closed spent = ended (halt.Ended value) result makes closed (λ same. absurd (other-halt (halt.Ended value) tt same))
   run-whole (halt.Stopped code site) result makes closed spent = ended (halt.Stopped code site) result makes closed (λ same. absurd (other-halt (halt.Stopped code site) tt same))
   run-whole (halt.Trap kind) result makes closed spent = ended (halt.Trap kind) result makes closed (λ same. absurd (other-halt (halt.Trap kind) tt same))
   run-whole halt.TooDeep result makes closed spent = ended halt.TooDeep result makes closed (λ same. absurd (other-halt halt.TooDeep tt same))
@@ -295,7 +295,7 @@ module _ (b : Beginning) (fuel : ℕ) (put : List ℕ) (old new : Progress) (hel
       on spends (inr (some, fault, front)) = absurd (outage-other result fault answer_spent)
 
   pub came-to : new.steps ≤ fuel → (result ≡ answer.Spent → kept ≡ []) → (h ≢ halt.NoMemory → Runs b.program new) → new.linked ≡ old.linked → CameTo b fuel result new kept to ended_after (put ++ taken)
-    came-to within empties runs linked = record {
+  came-to within empties runs linked = record {
     whole = λ spent. run-whole b (flat_of new.state) fuel new.steps within left whole-sides (streams to (Some (put ++ taken))) refl h result all-makes all-closed spent;
     cut = λ not outage is. run-cut b (flat_of new.state) fuel new.steps within left whole-sides (streams to (Some (put ++ taken))) refl h result all-makes all-closed not outage is;
     goes = λ spent. record {

@@ -1,7 +1,8 @@
 -- Frames that are handed on behind others.
-use Rattle.std.proofs.Common.{◌≡◌, ◌≢◌, ◌⊎◌, inl, inr, ◌≤◌, ◌+◌, ℕ, Bool, false, Option, List, [], ◌∷◌, ◌++◌, refl, sym, ap, subst, ◌∙◌, arith, append_assoc, append-nil}
+use Rattle.std.proofs.Common.{◌≡◌, ◌≢◌, ◌⊎◌, inl, inr, ◌≤◌, ◌+◌, ℕ, Bool, false, Option, List, [], ◌∷◌, ◌++◌, refl, sym, ap, subst, ◌∙◌, arith, append_assoc, append-nil, Some, None}
 use Rattle.sa_outside.specs.Faults.{Rose}
-use Rattle.sa_outside.specs.Output.{Took, TookFront}
+use Rattle.sa_outside.specs.Output.{Grew, Took, TookFront}
+use Rattle.sa_outside.proofs.Growth.{Grew-front, Grew-took}
 use Rattle.sa_outside.specs.declared.store.Outage.{Outage}
 use Rattle.sa_outside.specs.declared.store.Outage.TheVariants as outage
 use Rattle.sa_tree.specs.declared.pos.Pos.{Pos}
@@ -9,16 +10,27 @@ use Rattle.sa_tree.specs.declared.pos.Sources.{Sources}
 use Rattle.sa_trace.specs.declared.frame.Frame.{Frame}
 use Rattle.sa_trace.specs.declared.sinks.Listening.{Listening}
 use Rattle.sa_trace.specs.declared.sinks.Listening.TheVariants as listening
-use Rattle.sa_trace.specs.Frames.{AreFrames, BeginsNone, IsFrame, output_of}
+use Rattle.sa_trace.specs.Frames.{AreFrames, BeginsNone, output_of}
 use Rattle.sa_trace.specs.Handing.{Hands, HandsFront, Hears, HearsPart, Sink, lines_of}
 use Rattle.sa_trace.specs.Pieces.{HasRead, Keeps, Left}
 use Rattle.sa_trace.proofs.Fronts.{none-nil}
 use Rattle.sa_trace.proofs.HandedOn.{front-behind, front-whole, hears-more, hears-none, hears-part, hears-whole, lines-more, output-more, took-more, took-none}
-use Rattle.wa_exec.specs.Progress.{Progress}
+use Rattle.wa_syntax.specs.declared.module.Module.{Module}
+use Rattle.wa_code.specs.Codes.{row_of}
+use Rattle.wa_exec.specs.declared.halt.StartFault.{StartFault}
+use Rattle.wa_exec.specs.Linking.{flat_of}
+use Rattle.wa_exec.specs.Machines.{Flat}
+use Rattle.wa_exec.specs.Outside.{Makes, sides}
+use Rattle.wa_exec.specs.Progress.{Progress, Runs}
+use Rattle.wa_exec.proofs.Outside.{Makes-none}
+use Rattle.wa_run.specs.Answers.{IsBeforeRun, IsTold, answer_of_start}
 use Rattle.wa_run.specs.declared.answer.Answer.{Answer}
 use Rattle.wa_run.specs.declared.answer.Answer.TheVariants as answer
+use Rattle.wa_run.specs.declared.module_run.Run.{Run}
+use Rattle.wa_run.specs.Runs.{HasRunModule, IsAnswered, streams}
+use Rattle.wa_run.proofs.Runs.{not-started, nothing-passed}
 use Rattle.sa_outside.specs.Input as source
-use Rattle.sa_trace_run.specs.Stretches.{Beginning, CameTo, HasRunTo, IsStretch}
+use Rattle.sa_trace_run.specs.Stretches.{Beginning, CameTo, HasRunTo, IsStretch, IsUnderWay}
 use Rattle.sa_trace_run.specs.Traced.{AreHandedOn, AreTold, FrontIsHandedOn, Sinks, SoFar, sinks}
 use Rattle.sa_trace_run.proofs.Stretches.{fault-other, outage-other}
 
@@ -116,19 +128,47 @@ module _ {positions : List Pos} {sources : Sources} {put : List ℕ} {left : Lef
     err = hears-whole listening.Yes middle err_old err_now (lines_of sources so_far.frames) so_far.hands.err;
   }
 
+-- ---- what the answer of a stretch tells of the sources and sinks
+
+pub told-more : (given : Answer) (input_failed out_failed input_fails out_fails : Type 0) → (input_failed → input_fails) → (out_failed → out_fails) → IsTold given input_failed out_failed → IsTold given input_fails out_fails
+told-more answer.Malformed input_failed out_failed input_fails out_fails more_input more_out told = tt
+told-more (answer.Invalid func) input_failed out_failed input_fails out_fails more_input more_out told = tt
+told-more (answer.Unlinked import) input_failed out_failed input_fails out_fails more_input more_out told = tt
+told-more answer.Segment input_failed out_failed input_fails out_fails more_input more_out told = tt
+told-more (answer.Ended value) input_failed out_failed input_fails out_fails more_input more_out told = tt
+told-more (answer.Stopped code site) input_failed out_failed input_fails out_fails more_input more_out told = tt
+told-more (answer.Trap kind) input_failed out_failed input_fails out_fails more_input more_out told = tt
+told-more answer.TooDeep input_failed out_failed input_fails out_fails more_input more_out told = tt
+told-more answer.Spent input_failed out_failed input_fails out_fails more_input more_out told = tt
+told-more answer.InFault input_failed out_failed input_fails out_fails more_input more_out told = more_input told
+told-more answer.OutFault input_failed out_failed input_fails out_fails more_input more_out told = more_out told
+told-more answer.NoMemory input_failed out_failed input_fails out_fails more_input more_out told = tt
+
+-- the answer that an outage gives
+pub told-cut : (result : Answer) (what : Outage) (input_failed out_failed : Type 0) → (what ≡ outage.Failed → result ≡ answer.OutFault) → (what ≡ outage.NoMemory → result ≡ answer.NoMemory) → (what ≡ outage.Failed → out_failed) → IsTold result input_failed out_failed
+told-cut result outage.Failed input_failed out_failed failed short out = subst (λ (a : Answer). IsTold a input_failed out_failed) (sym (failed refl)) (out refl)
+told-cut result outage.NoMemory input_failed out_failed failed short out = subst (λ (a : Answer). IsTold a input_failed out_failed) (sym (short refl)) tt
+
+-- is one of these
+pub is-outage : (result : Answer) (what : Outage) → (what ≡ outage.Failed → result ≡ answer.OutFault) → (what ≡ outage.NoMemory → result ≡ answer.NoMemory) → (result ≡ answer.OutFault) ⊎ (result ≡ answer.NoMemory)
+is-outage result outage.Failed failed short = inl (failed refl)
+is-outage result outage.NoMemory failed short = inr (short refl)
+
+-- and comes in a run
+pub outage-runs : (result : Answer) → (result ≡ answer.OutFault) ⊎ (result ≡ answer.NoMemory) → IsBeforeRun result → ⊥
+outage-runs result (inl is) before = subst IsBeforeRun is before
+outage-runs result (inr is) before = subst IsBeforeRun is before
+
 -- ---- how a stretch ends
 
 module _ {b : Beginning} {positions : List Pos} {sources : Sources} {fuel : ℕ} {given : Answer} {machine : Progress} {held : List ℕ} {input : Option source.Input} {ended : Bool} {put : List ℕ} (came : CameTo b fuel given machine held input ended put) where
-  abbrev Ran : Answer → Type 0
-  Ran result = HasRunTo b fuel result machine.steps input put
-
   -- all was told
   pub stretch-told-all : (left : Left) (s : Sinks) → SoFar positions sources put left s → IsStretch b positions sources fuel given machine held left input ended s
   stretch-told-all left s so_far = record {
     put = put;
     whole = came.whole;
     told = inl (all-handed positions sources put left s so_far);
-    goes = λ spent. (came.goes spent, so_far);
+    goes = λ spent. record { put = put; goes = came.goes spent; so_far = so_far };
   }
 
   -- an outage came
@@ -136,13 +176,13 @@ module _ {b : Beginning} {positions : List Pos} {sources : Sources} {fuel : ℕ}
   stretch-cut left s result outage.Failed not failed short lines part = record {
     put = put;
     whole = λ spent. came.cut not result (inl (failed refl));
-    told = inr (inl (lines refl));
+    told = inr (inl (inl (failed refl), (lines refl).0, (lines refl).1));
     goes = λ spent. absurd (outage-other result (inl (failed refl)) spent);
   }
   stretch-cut left s result outage.NoMemory not failed short lines part = record {
     put = put;
     whole = λ spent. came.cut not result (inr (short refl));
-    told = inr (inr (inr (short refl), part));
+    told = inr (inr (inl (short refl), part));
     goes = λ spent. absurd (outage-other result (inr (short refl)) spent);
   }
 
@@ -150,15 +190,19 @@ module _ {b : Beginning} {positions : List Pos} {sources : Sources} {fuel : ℕ}
   pub stretch-in-fault : (left : Left) (out_old out_new err_old err_new : Sink) (before after : Listening) (what : Outage) → given ≡ answer.InFault → (what ≡ outage.Failed → after ≡ before) → (what ≡ outage.NoMemory → after ≡ listening.NoMemory) → (what ≡ outage.Failed → Rose out_old.faults out_new.faults × FrontIsHandedOn positions sources put (sinks out_old out_new err_old err_new before) (Hears listening.Yes before err_old err_new)) → FrontIsHandedOn positions sources put (sinks out_old out_new err_old err_new before) (HearsPart listening.Yes before err_old err_new) → IsStretch b positions sources fuel answer.InFault machine held left input ended (sinks out_old out_new err_old err_new after)
   stretch-in-fault left out_old out_new err_old err_new before after outage.Failed is failed short lines part = record {
     put = put;
-    whole = λ spent. subst (λ (a : Answer). Ran a) is (came.whole (λ same. absurd (fault-other (sym is ∙ same))));
-    told = inr (inl (subst (λ (l : Listening). Rose out_old.faults out_new.faults × FrontIsHandedOn positions sources put (sinks out_old out_new err_old err_new l) (Hears listening.Yes l err_old err_new)) (sym (failed refl)) (lines refl)));
+    whole = λ spent. subst (λ (a : Answer). HasRunTo b fuel a machine.steps input put) is (came.whole (λ same. absurd (fault-other (sym is ∙ same))));
+    told = inr (inl (
+      inr refl,
+      (lines refl).0,
+      subst (λ (l : Listening). FrontIsHandedOn positions sources put (sinks out_old out_new err_old err_new l) (Hears listening.Yes l err_old err_new)) (sym (failed refl)) (lines refl).1,
+    ));
     goes = λ spent. absurd (fault-other spent);
   }
   stretch-in-fault left out_old out_new err_old err_new before after outage.NoMemory is failed short lines part = record {
     put = put;
-    whole = λ spent. subst (λ (a : Answer). Ran a) is (came.whole (λ same. absurd (fault-other (sym is ∙ same))));
+    whole = λ spent. subst (λ (a : Answer). HasRunTo b fuel a machine.steps input put) is (came.whole (λ same. absurd (fault-other (sym is ∙ same))));
     told = inr (inr (
-      inl (short refl),
+      inr (refl, short refl),
       record {
         front = part.front;
         rest = part.rest;
@@ -170,4 +214,39 @@ module _ {b : Beginning} {positions : List Pos} {sources : Sources} {fuel : ℕ}
       },
     ));
     goes = λ spent. absurd (fault-other spent);
+  }
+
+-- ---- the whole run
+
+module _ (positions : List Pos) (sources : Sources) where
+  -- where nothing is run
+  pub unrun-told : (m : Module) (fuel : ℕ) (run : Run) (fault : StartFault) (input : Option source.Input) (out err : Sink) (now : Listening) → run.answer ≡ answer_of_start fault → now ≡ listening.Yes → (framed : List ℕ) × HasRunModule m fuel run (streams input (Some [])) (streams input (Some framed)) × AreTold positions sources framed (sinks out out err err now) run.answer
+  unrun-told m fuel run fault input out err now is listens = (
+    [],
+    nothing-passed (streams input (Some [])) (streams input (Some [])) (λ answers handed. IsAnswered m answers handed fuel run.answer run.steps) refl refl
+        (subst (λ (a : Answer). IsAnswered m [] [] fuel a run.steps) (sym is) (not-started m fuel run.steps fault)),
+    subst (λ (l : Listening). AreTold positions sources [] (sinks out out err err l) run.answer) (sym listens)
+        (inl (all-handed positions sources [] (record { begun = []; wrong = false }) (sinks out out err err listening.Yes) (so-far-none positions sources out err))),
+  )
+
+  -- what out has is behind what it had
+  pub told-grew : (bytes : List ℕ) (s : Sinks) (given : Answer) → AreTold positions sources bytes s given → Grew s.out_old.taken s.out_new.taken
+  told-grew bytes s given (inl all) = Grew-took s.out_old.taken s.out_new.taken (output_of all.frames) all.hands.out
+  told-grew bytes s given (inr (inl (is, rose, front))) = Grew-front s.out_old.taken s.out_new.taken (output_of front.told) front.out
+  told-grew bytes s given (inr (inr (is, front))) = Grew-front s.out_old.taken s.out_new.taken (output_of front.told) front.out
+
+  -- before the first step
+  pub under-way : (b : Beginning) (machine : Progress) (held : List ℕ) (left : Left) (out err : Sink) (now : Listening) → machine.steps ≡ 0 → held ≡ [] → Runs b.program machine → row_of machine.linked.code ≡ b.row → flat_of machine.state ≡ b.flat → left ≡ record { begun = []; wrong = false } → now ≡ listening.Yes → IsUnderWay b positions sources machine held left b.input b.ended (sinks out out err err now)
+  under-way b machine held left out err now first none runs row flat left_is listens = record {
+    put = [];
+    goes = record {
+      makes = subst (λ (n : ℕ). Makes b.program b.row b.flat (flat_of machine.state) 0 n None (sides b.input b.ended (Some [])) (sides b.input b.ended (Some [])) [] []) (sym first)
+          (subst (λ (f : Flat). Makes b.program b.row b.flat f 0 0 None (sides b.input b.ended (Some [])) (sides b.input b.ended (Some [])) [] []) (sym flat)
+          (Makes-none b.program b.row b.flat [] 0 (sides b.input b.ended (Some []))));
+      none = none;
+      runs = runs;
+      row_is = row;
+    };
+    so_far = subst (λ (l : Listening). SoFar positions sources [] left (sinks out out err err l)) (sym listens)
+        (subst (λ (l : Left). SoFar positions sources [] l (sinks out out err err listening.Yes)) (sym left_is) (so-far-none positions sources out err));
   }

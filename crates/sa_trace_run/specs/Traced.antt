@@ -25,6 +25,14 @@ abbrev pub sinks : (out_old out_new err_old err_new : Sink) → Listening → Si
 sinks out_old out_new err_old err_new listening =
     record { out_old = out_old; out_new = out_new; err_old = err_old; err_new = err_new; listening = listening }
 
+-- what is answered where out fails: so much, or that the input had failed before
+abbrev pub IsOutFault : Answer → Type 0
+IsOutFault given = (given ≡ answer.OutFault) ⊎ (given ≡ answer.InFault)
+
+-- and where memory runs out on the way to out and err
+abbrev pub IsShort : Answer → Listening → Type 0
+IsShort given now = (given ≡ answer.NoMemory) ⊎ ((given ≡ answer.InFault) × (now ≡ listening.NoMemory))
+
 module _ (positions : List Pos) (sources : Sources) where
   -- all frames of the bytes were handed on
   pub record AreHandedOn (bytes : List ℕ) (s : Sinks) : Type 0 where
@@ -46,10 +54,9 @@ module _ (positions : List Pos) (sources : Sources) where
   abbrev pub AreTold : (bytes : List ℕ) → Sinks → Answer → Type 0
   AreTold bytes s given =
       AreHandedOn bytes s
-      ⊎ (Rose s.out_old.faults s.out_new.faults
+      ⊎ (IsOutFault given × Rose s.out_old.faults s.out_new.faults
       × FrontIsHandedOn bytes s (Hears listening.Yes s.listening s.err_old s.err_new))
-      ⊎ (((s.listening ≡ listening.NoMemory) ⊎ (given ≡ answer.NoMemory))
-      × FrontIsHandedOn bytes s (HearsPart listening.Yes s.listening s.err_old s.err_new))
+      ⊎ (IsShort given s.listening × FrontIsHandedOn bytes s (HearsPart listening.Yes s.listening s.err_old s.err_new))
 
   -- so far all frames of these bytes were handed on, and this is left behind them
   pub record SoFar (bytes : List ℕ) (left : Left) (s : Sinks) : Type 0 where

@@ -3,7 +3,7 @@
 ghost use Rattle.std.specs.Prelude.{◌≡◌, ◌≤◌, ◌++◌, ℕ, List, [], None, IsErrOf, OnErr, OnOk};
 ghost use Rattle.sa_outside.specs.Faults.{Rose};
 ghost use Rattle.sa_trace.specs.Handing.{Hears, HearsPart, Sink as Taken, sink};
-ghost use Rattle.sa_trace_run.specs.Stretches.{Beginning, CameTo, GoesOn, IsStretch};
+ghost use Rattle.sa_trace_run.specs.Stretches.{Beginning, CameTo, GoesOn, IsStretch, IsUnderWay};
 ghost use Rattle.sa_trace_run.specs.Traced.{FrontIsHandedOn, SoFar, sinks};
 ghost use Rattle.wa_run.specs.Answers.{IsBeforeRun, IsTold};
 
@@ -44,9 +44,9 @@ pub(crate) fn stretch<I: Source, O: Sink, E: Sink>(
     ensures source { I.faults input.old ≤ I.faults input.new }
     ensures sink { O.faults out.old ≤ O.faults out.new }
     // Whatever the run has put and told before, it is one run with this stretch.
-    ensures made { (b : Beginning) (fuel : ℕ) (put : List ℕ) (out_old err_old : Taken) → end ≤ fuel
-        → GoesOn b running.old.machine running.old.host (I.input input.old) (I.ended input.old) put
-        → SoFar positions.now sources.now put running.old.parting (sinks out_old (sink (O.output out.old) (O.faults out.old)) err_old
+    ensures made { (b : Beginning) (fuel : ℕ) (out_old err_old : Taken) → end ≤ fuel
+        → IsUnderWay b positions.now sources.now running.old.machine running.old.host running.old.parting (I.input input.old)
+        (I.ended input.old) (sinks out_old (sink (O.output out.old) (O.faults out.old)) err_old
         (sink (E.output err.old) (E.faults err.old)) running.old.listening)
         → IsStretch b positions.now sources.now fuel result running.new.machine running.new.host running.new.parting
         (I.input input.new) (I.ended input.new) (sinks out_old (sink (O.output out.new) (O.faults out.new)) err_old

@@ -3,9 +3,9 @@
 ghost use Rattle.std.specs.Prelude.{◌≡◌, ◌≤◌, ℕ, List, [], None, Some};
 ghost use Rattle.sa_outside.specs.Faults.{Rose};
 ghost use Rattle.sa_outside.specs.Output.{Grew};
-ghost use Rattle.sa_trace.specs.Handing.{Sink as Taken, sink};
-ghost use Rattle.sa_trace_run.specs.Stretches.{Beginning, GoesOn, HasRunTo};
-ghost use Rattle.sa_trace_run.specs.Traced.{AreTold, SoFar, sinks};
+ghost use Rattle.sa_trace.specs.Handing.{sink};
+ghost use Rattle.sa_trace_run.specs.Stretches.{Beginning, HasRunTo, IsUnderWay};
+ghost use Rattle.sa_trace_run.specs.Traced.{AreTold, sinks};
 ghost use Rattle.wa_run.specs.Answers.{IsBeforeRun, IsTold};
 ghost use Rattle.wa_run.specs.Modules.{SaysOfValid};
 ghost use Rattle.wa_run.specs.Runs.{HasRunModule, streams};
@@ -120,19 +120,24 @@ fn run_on<I: Source, O: Sink, E: Sink>(
     ensures told { IsTold result (Rose (I.faults input.old) (I.faults input.new)) (Rose (O.faults out.old) (O.faults out.new)) }
     ensures runs { IsBeforeRun result → ⊥ }
     ensures within { running.new.machine.steps ≤ fuel }
-    ensures ran { (b : Beginning) (out_old err_old : Taken)
-        → GoesOn b running.old.machine running.old.host (I.input input.old) (I.ended input.old) []
-        → SoFar positions.now sources.now [] running.old.parting (sinks out_old (sink (O.output out.old) (O.faults out.old)) err_old
-        (sink (E.output err.old) (E.faults err.old)) running.old.listening)
+    ensures ran { (b : Beginning)
+        → IsUnderWay b positions.now sources.now running.old.machine running.old.host running.old.parting (I.input input.old)
+        (I.ended input.old) (sinks (sink (O.output out.old) (O.faults out.old)) (sink (O.output out.old) (O.faults out.old))
+        (sink (E.output err.old) (E.faults err.old)) (sink (E.output err.old) (E.faults err.old)) running.old.listening)
         → (framed : List ℕ) × HasRunTo b fuel result running.new.machine.steps (I.input input.new) framed
-        × AreTold positions.now sources.now framed (sinks out_old (sink (O.output out.new) (O.faults out.new)) err_old
+        × AreTold positions.now sources.now framed (sinks (sink (O.output out.old) (O.faults out.old))
+        (sink (O.output out.new) (O.faults out.new)) (sink (E.output err.old) (E.faults err.old))
         (sink (E.output err.new) (E.faults err.new)) running.new.listening) result }
 {
-    let mut end = STRETCH.min(fuel);
-    let mut answer = stretch(alloc, running, end, positions, sources, input, out, err);
-    while matches!(answer, Answer::Spent) && end < fuel {
-        end = end.saturating_add(STRETCH).min(fuel);
-        answer = stretch(alloc, running, end, positions, sources, input, out, err);
+    let mut end = 0;
+    loop {
+        end += STRETCH.min(fuel - end);
+        let answer = stretch(alloc, running, end, positions, sources, input, out, err);
+        if end == fuel {
+            return answer;
+        }
+        let Answer::Spent = answer else {
+            return answer;
+        };
     }
-    answer
 }

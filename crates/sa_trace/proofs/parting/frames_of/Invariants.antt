@@ -1,4 +1,4 @@
-use Rattle.std.proofs.Common.{◌≡◌, ◌≤◌, ◌-◌, length, take}
+use Rattle.std.proofs.Common.{◌≤◌, ◌-◌, length, take}
 use Rattle.sa_trace.specs.Frames.{AreFrames}
 use Rattle.sa_trace.proofs.parting.frames_of.Given as goal
 

@@ -1,4 +1,4 @@
-use Rattle.std.proofs.Common.{◌≡◌, ◌+◌, take, drop, subst, sym, arith}
+use Rattle.std.proofs.Common.{◌+◌, take, drop, subst, sym, arith}
 use Rattle.std.proofs.lemmas.List.{take-append-drop}
 use Rattle.std.proofs.lemmas.Result.{IfErr-at_err, on_err_weaker}
 use Rattle.sa_outside.specs.Output.{Took, TookFront}
