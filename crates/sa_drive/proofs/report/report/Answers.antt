@@ -6,7 +6,7 @@ returns-in-Yes-clause-ends g c =
     rw c.in-Yes.is (record { stands = c.tell_lines.ensures.stands; told = c.tell_lines.ensures.told; told_part = c.tell_lines.ensures.told_part })
 
 pub returns-in-Failed-clause-ends : goal.returns-in-Failed-clause-ends
-returns-in-Failed-clause-ends g c = rw c.in-Failed.is (refl, refl, refl)
+returns-in-Failed-clause-ends g c = rw c.in-Failed.is (refl, (refl, refl))
 
 pub returns-in-NoMemory-clause-ends : goal.returns-in-NoMemory-clause-ends
-returns-in-NoMemory-clause-ends g c = rw c.in-NoMemory.is (refl, refl, refl)
+returns-in-NoMemory-clause-ends g c = rw c.in-NoMemory.is (refl, (refl, refl))

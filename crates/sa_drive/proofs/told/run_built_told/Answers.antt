@@ -1,4 +1,4 @@
-use Rattle.std.proofs.Common.{◌∙◌, refl, subst, sym}
+use Rattle.std.proofs.Common.{◌∙◌, subst, sym}
 use Rattle.sa_drive.specs.Ends.{ComesBeforeOutput, IsOfModule}
 use Rattle.sa_drive.specs.Lines.{IsPlaced}
 use Rattle.sa_drive.specs.Seen.{part}

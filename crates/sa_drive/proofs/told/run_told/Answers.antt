@@ -12,4 +12,4 @@ returns-in-Ok-clause-does g c =
 
 pub returns-in-Err-clause-does : goal.returns-in-Err-clause-does
 returns-in-Err-clause-does g c =
-    rw (← c.as_slice.ensures.value) (inl (given_none _ _ _ _ _ _ c.in-Err.is c.compile_files-sources.ensures.«module» c.compile_files-sources.ensures.files c.without_module.ensures.sources c.without_module.ensures.cause c.without_module.ensures.bytes, refl, refl, (refl, refl), c.without_module.ensures.listening))
+    rw (← c.as_slice.ensures.value) (inl (given_none _ _ _ _ _ _ c.in-Err.is c.compile_files-sources.ensures.«module» c.compile_files-sources.ensures.files c.without_module.ensures.sources c.without_module.ensures.cause c.without_module.ensures.bytes, refl, refl, ((refl, refl), c.without_module.ensures.listening)))
