@@ -4,9 +4,6 @@ use Rattle.sa_drive.proofs.top.do_command.Goals as goal
 pub returns-in-Silent-clause-does : goal.returns-in-Silent-clause-does
 returns-in-Silent-clause-does g c = rw (c.in-Run.is, c.in-Silent.is) (c.run.ensures.does, ((refl, refl), c.run.ensures.listening))
 
-pub returns-in-Told-clause-does : goal.returns-in-Told-clause-does
-returns-in-Told-clause-does g c = rw (c.in-Run.is, c.in-Told.is) c.run_told.ensures.does
-
 pub returns-in-Build-clause-does : goal.returns-in-Build-clause-does
 returns-in-Build-clause-does g c = rw c.in-Build.is (c.build.ensures.does, ((refl, refl), c.build.ensures.listening))
 
@@ -24,6 +21,3 @@ returns-in-Selftest-clause-does g c = rw c.in-Selftest.is (c.selftest.ensures.do
 
 pub returns-in-Listing-clause-does : goal.returns-in-Listing-clause-does
 returns-in-Listing-clause-does g c = rw c.in-Listing.is (c.listing.ensures.does, ((refl, refl), c.listing.ensures.listening))
-
-pub returns-in-Assemble-clause-does : goal.returns-in-Assemble-clause-does
-returns-in-Assemble-clause-does g c = rw c.in-Assemble.is (c.assemble.ensures.does, ((refl, refl), c.assemble.ensures.listening))
