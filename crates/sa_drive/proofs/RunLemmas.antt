@@ -1,6 +1,8 @@
 -- What commands show of runs.
-use Rattle.std.proofs.Common.{◌≡◌, ◌∙◌, ap, ℕ, List, [], Some, subst, sym, inl, inr}
+use Rattle.std.proofs.Common.{◌≡◌, ◌∙◌, ap, ℕ, List, [], Some, subst, sym, inl, inr, refl}
 use Rattle.sa_outside.specs.Input.{Input}
+use Rattle.sa_trace_run.specs.Traced.{AreTold}
+use Rattle.sa_tree.specs.declared.pos.Pos.{Pos}
 use Rattle.sa_tree.specs.declared.pos.Sources.{Sources}
 use Rattle.wa_syntax.specs.declared.module.Module.{Module}
 use Rattle.wa_syntax.specs.Binary.{SpellsModule}
@@ -15,8 +17,8 @@ use Rattle.sa_words.specs.Line.{Line}
 use Rattle.std.specs.Prelude.{Option, None}
 use Rattle.sa_drive.specs.Answer.{DoesNothing, Obeys, empty_input, own_sink}
 use Rattle.sa_drive.specs.Built.{IsTried}
-use Rattle.sa_drive.specs.Ends.{IsOfModule}
-use Rattle.sa_drive.specs.Runs.{IsRunOf, IsRunOfModule, Ran, RanBuilt, Shows, ended_of}
+use Rattle.sa_drive.specs.Ends.{IsOfModule, cause_of}
+use Rattle.sa_drive.specs.Runs.{IsRunOf, IsRunOfModule, Ran, RanBuilt, RanTraced, Shows, done_of, ended_of, framed_output, sinks_of}
 use Rattle.sa_drive.specs.Seen.{Outside, Part}
 use Rattle.sa_drive.specs.declared.cause.Cause.{Cause}
 use Rattle.sa_drive.specs.declared.cause.Cause.TheVariants as cause
@@ -85,6 +87,29 @@ shown_built input out IsCause built fuel ended run outcome tried is ran same cau
       of_bytes = run_spelled input out outcome.«module».items built.«module» fuel run spelled tried.runnable.valid ran;
       shows = shows_of IsCause fuel ended run outcome is cause done steps;
     }
+
+-- the outcome of a traced module that was tried is that of its run
+pub traced : (input : Part Input) (out err : Part (List ℕ)) (IsCause : Cause → Cause → Type 0) (built : Built) (sources : Sources) (sites : List Pos) (fuel : ℕ) (run : Run) (framed : List ℕ) (outcome : Outcome) → IsTried built → IsRunOfModule input (framed_output out framed) built.«module» fuel run → AreTold sites sources framed (sinks_of out err outcome.listening) run.answer → outcome.sources ≡ sources → outcome.«module».items ≡ built.bytes.items → IsCause (cause_of fuel run.answer) outcome.cause → outcome.done ≡ done_of run.answer → ((steps : ℕ) → outcome.steps ≡ Some steps → steps ≡ run.steps) → RanTraced input out err fuel IsCause outcome
+traced input out err IsCause built sources sites fuel run framed outcome tried ran told same_sources same cause done steps =
+    let spelled : SpellsModule outcome.«module».items built.«module» = rw same tried.spelled in
+    record {
+      framed = framed;
+      ran = record {
+        built = built.«module»;
+        spelled = spelled;
+        runnable = tried.runnable;
+        run = run;
+        of_module = ran;
+        of_bytes = run_spelled input (framed_output out framed) outcome.«module».items built.«module» fuel run spelled tried.runnable.valid ran;
+        shows = shows_of IsCause fuel (ended_of fuel run) run outcome refl cause done steps;
+      };
+      sites = sites;
+      told = subst (λ (texts : Sources). AreTold sites texts framed (sinks_of out err outcome.listening) run.answer) (sym same_sources) told;
+    }
+
+-- the texts of the outcome are these
+pub traced_of : (input : Part Input) (out err : Part (List ℕ)) (fuel : ℕ) (sources : Sources) (outcome : Outcome) → outcome.sources ≡ sources → RanTraced input out err fuel (IsOfModule sources) outcome → RanTraced input out err fuel (IsOfModule outcome.sources) outcome
+traced_of input out err fuel sources outcome same ran = subst (λ told. RanTraced input out err fuel (IsOfModule told) outcome) (sym same) ran
 
 -- a run with an input of no bytes and a sink of its own, of the texts of a report
 pub apart : (sources told : Sources) (fuel : ℕ) (given left : Input) (had output : List ℕ) (outcome : Outcome) → told ≡ sources → given ≡ record { left = []; ends = 0 } → had ≡ [] → RanBuilt (sure given left) (sure had output) fuel (IsOfModule sources) outcome → RanBuilt (empty_input left) (own_sink output) fuel (IsOfModule told) outcome

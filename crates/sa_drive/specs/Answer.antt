@@ -6,15 +6,16 @@ use Rattle.sa_outside.specs.Files.{Files, Lacks}
 use Rattle.sa_outside.specs.Input.{Input}
 use Rattle.sa_read.specs.Read.{HasFile, HasLonger}
 use Rattle.sa_statement.specs.Runnable.{SpellsRunnable}
+use Rattle.sa_trace.specs.declared.sinks.Listening.TheVariants as listening
 use Rattle.sa_words.specs.Line.{Assemble, Build, Check, Exec, Gen, Line, Listing, Run, Selftest}
+use Rattle.sa_words.specs.declared.command.Trace.TheVariants as tracing
 use Rattle.sa_drive.specs.Ends.{IsOfModule, IsPrinted, IsWritten}
 use Rattle.sa_drive.specs.Files.{ComesOfFiles, ComesOfGenerated, IsTakenGenerated, IsTakenProgram}
 use Rattle.sa_drive.specs.Lines.{selftest_line}
 use Rattle.sa_drive.specs.Listings.{Assembles, ListsModule}
-use Rattle.sa_drive.specs.Runs.{Ran, RanBuilt}
-use Rattle.sa_drive.specs.Seen.{Failed, IsKept, Outside, Part}
+use Rattle.sa_drive.specs.Runs.{Ran, RanBuilt, RanTraced}
+use Rattle.sa_drive.specs.Seen.{Failed, IsKept, IsUntouched, Outside, Part}
 use Rattle.sa_drive.specs.declared.cause.Cause.{Cause}
-use Rattle.sa_drive.specs.declared.assemble.TheConstants.{MOST_LISTING_BYTES}
 use Rattle.sa_drive.specs.declared.cause.Cause.TheVariants as cause
 use Rattle.sa_drive.specs.declared.outcome.Outcome.{Outcome}
 
@@ -33,6 +34,17 @@ abbrev pub IsRun : Part Files → Part Input → Part (List ℕ) → ℕ → Lis
 IsRun store input out fuel names outcome =
     (GivesNone store names outcome × IsKept input × IsKept out)
     ⊎ (IsTakenProgram store.before names outcome.sources × RanBuilt input out fuel (IsOfModule outcome.sources) outcome)
+
+-- err has taken nothing, and takes the lines of the end
+abbrev pub IsSilent : (err : Part (List ℕ)) → Outcome → Type 0
+IsSilent err outcome = IsUntouched err × (outcome.listening ≡ listening.Yes)
+
+-- the traced module of the program in these files can be run, and was, or there is none
+abbrev pub IsTraced : Outside → ℕ → List (List ℕ) → Outcome → Type 0
+IsTraced outside fuel names outcome =
+    (GivesNone outside.store names outcome × IsKept outside.input × IsKept outside.out × IsSilent outside.err outcome)
+    ⊎ (IsTakenProgram outside.store.before names outcome.sources
+    × RanTraced outside.input outside.out outside.err fuel (IsOfModule outcome.sources) outcome)
 
 -- the module of the program in these files can be run, and was written under this name, or there is none, and nothing is written
 abbrev pub IsBuilt : Part Files → List ℕ → List (List ℕ) → Outcome → Type 0
@@ -79,10 +91,14 @@ IsListed store out file outcome =
     (IsUnread store file outcome.cause × HasNoModule outcome × IsKept out)
     ⊎ ((bytes : List ℕ) × IsModuleIn store file bytes × HasNoModule outcome × ListsModule out bytes outcome.cause)
 
+-- how many bytes a listing has at most: 64 MiB
+abbrev pub most_listing_bytes : ℕ
+most_listing_bytes = 67108864
+
 -- why no listing was read from its file
 abbrev pub IsTextUnread : Part Files → List ℕ → Cause → Type 0
 IsTextUnread store file cause.StoreFault = Failed store ⊎ Lacks store.before file
-IsTextUnread store file (cause.NotListing line) = (line ≡ 0) × (front : List ℕ) × HasLonger store.before file MOST_LISTING_BYTES front
+IsTextUnread store file (cause.NotListing line) = (line ≡ 0) × (front : List ℕ) × HasLonger store.before file most_listing_bytes front
 IsTextUnread store file cause.NoMemory = ⊤
 IsTextUnread store file _ = ⊥
 
@@ -90,7 +106,7 @@ IsTextUnread store file _ = ⊥
 abbrev pub IsAssembled : Part Files → List ℕ → List ℕ → Outcome → Type 0
 IsAssembled store name file outcome =
     (IsTextUnread store file outcome.cause × HasNoModule outcome × IsKept store)
-    ⊎ ((text : List ℕ) × HasFile store.before file text × (length text ≤ MOST_LISTING_BYTES)
+    ⊎ ((text : List ℕ) × HasFile store.before file text × (length text ≤ most_listing_bytes)
     × Assembles store name text outcome.«module».items outcome.cause)
 
 -- the generated program was printed
@@ -129,14 +145,17 @@ IsTested out classes outcome =
 
 -- the command was done, and this came of it
 abbrev pub Does : Outside → Line → Outcome → Type 0
-Does outside (Run fuel room stats contracts trace names) outcome = IsRun outside.store outside.input outside.out fuel names outcome
-Does outside (Build room contracts out names) outcome = IsBuilt outside.store out names outcome
-Does outside (Check contracts names) outcome = IsChecked outside.store outside.out names outcome
-Does outside (Exec fuel stats file) outcome = IsExecuted outside.store outside.input outside.out fuel file outcome
-Does outside (Gen classes) outcome = IsGenerated outside.out classes outcome
-Does outside (Selftest classes) outcome = IsTested outside.out classes outcome
-Does outside (Listing file) outcome = IsListed outside.store outside.out file outcome
-Does outside (Assemble out file) outcome = IsAssembled outside.store out file outcome
+Does outside (Run fuel room stats contracts tracing.Silent names) outcome =
+    IsRun outside.store outside.input outside.out fuel names outcome × IsSilent outside.err outcome
+Does outside (Run fuel room stats contracts tracing.Told names) outcome = IsTraced outside fuel names outcome
+Does outside (Build room contracts out names) outcome = IsBuilt outside.store out names outcome × IsSilent outside.err outcome
+Does outside (Check contracts names) outcome = IsChecked outside.store outside.out names outcome × IsSilent outside.err outcome
+Does outside (Exec fuel stats file) outcome =
+    IsExecuted outside.store outside.input outside.out fuel file outcome × IsSilent outside.err outcome
+Does outside (Gen classes) outcome = IsGenerated outside.out classes outcome × IsSilent outside.err outcome
+Does outside (Selftest classes) outcome = IsTested outside.out classes outcome × IsSilent outside.err outcome
+Does outside (Listing file) outcome = IsListed outside.store outside.out file outcome × IsSilent outside.err outcome
+Does outside (Assemble out file) outcome = IsAssembled outside.store out file outcome × IsSilent outside.err outcome
 
 -- nothing was done, for this cause
 pub record DoesNothing (outside : Outside) (outcome : Outcome) (ends : Cause) : Type 0 where
@@ -145,6 +164,7 @@ pub record DoesNothing (outside : Outside) (outcome : Outcome) (ends : Cause) : 
   pub store : IsKept outside.store
   pub input : IsKept outside.input
   pub out : IsKept outside.out
+  pub err : IsSilent outside.err outcome
 
 -- what the words ask for was done: the usage is the answer where they are no command, and only there, unless memory ran out
 abbrev pub Obeys : Outside → Option Line → Outcome → Type 0

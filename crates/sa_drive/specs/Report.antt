@@ -1,9 +1,12 @@
 -- The exit of a call, and what err holds then.
 use Rattle.std.specs.Prelude.{◌≡◌, ◌≢◌, ℕ, List, ◌⊎◌}
 use Rattle.sa_outside.specs.Output.{Took, TookFront}
+use Rattle.sa_trace.specs.declared.sinks.Listening.{Listening}
+use Rattle.sa_trace.specs.declared.sinks.Listening.TheVariants as listening
 use Rattle.sa_drive.specs.Lines.{lines_of}
-use Rattle.sa_drive.specs.Seen.{Failed, Part}
+use Rattle.sa_drive.specs.Seen.{Failed, IsUntouched, Part}
 use Rattle.sa_drive.specs.Status.{status_of}
+use Rattle.sa_drive.specs.declared.cause.Cause.{Cause}
 use Rattle.sa_drive.specs.declared.cause.Cause.TheVariants as cause
 use Rattle.sa_drive.specs.declared.cause.Exit.{Exit}
 use Rattle.sa_drive.specs.declared.outcome.Outcome.{Outcome}
@@ -17,11 +20,22 @@ abbrev pub TellsPart : Part (List ℕ) → Outcome → Type 0
 TellsPart err outcome =
     TookFront err.before err.after (lines_of outcome outcome.cause) ⊎ TookFront err.before err.after (lines_of outcome cause.NoMemory)
 
--- the exit has the outcome's cause, or out of memory in its place, its status and its module; and err took its lines
+-- this cause stands at the end, the outcome's or out of memory, and err took its lines
+pub record IsReported (err : Part (List ℕ)) (outcome : Outcome) (ends : Cause) : Type 0 where
+  pub stands : (ends ≡ cause.NoMemory) ⊎ (ends ≡ outcome.cause)
+  pub told : ends ≢ cause.NoMemory → Tells err (lines_of outcome ends)
+  pub told_part : ends ≡ cause.NoMemory → TellsPart err outcome
+
+-- so if err still listens. Where it failed at the trace, the outcome's cause stands, and where it had no memory, out of memory does; then
+-- err takes nothing more
+abbrev pub EndsWith : Listening → (err : Part (List ℕ)) → Outcome → Cause → Type 0
+EndsWith listening.Yes err outcome ends = IsReported err outcome ends
+EndsWith listening.Failed err outcome ends = (ends ≡ outcome.cause) × IsUntouched err
+EndsWith listening.NoMemory err outcome ends = (ends ≡ cause.NoMemory) × IsUntouched err
+
+-- the exit has the cause that stands, its status and the outcome's module
 pub record IsExitOf (outcome : Outcome) (err : Part (List ℕ)) (exit : Exit) : Type 0 where
-  pub stands : (exit.cause ≡ cause.NoMemory) ⊎ (exit.cause ≡ outcome.cause)
+  pub ends : EndsWith outcome.listening err outcome exit.cause
   pub done : exit.cause ≡ cause.Done → exit.status ≡ outcome.done
   pub status : exit.cause ≢ cause.Done → exit.status ≡ status_of exit.cause
   pub bytes : exit.«module» ≡ outcome.«module».items
-  pub told : exit.cause ≢ cause.NoMemory → Tells err (lines_of outcome exit.cause)
-  pub told_part : exit.cause ≡ cause.NoMemory → TellsPart err outcome

@@ -1,7 +1,11 @@
 -- What a command shows of the run of a module.
-use Rattle.std.specs.Prelude.{◌≡◌, ◌≤◌, ℕ, ◌%◌, ◌^◌, List, Some}
+use Rattle.std.specs.Prelude.{◌≡◌, ◌≤◌, ℕ, ◌%◌, ◌^◌, List, [], Some}
 use Rattle.sa_outside.specs.Input.{Input}
 use Rattle.sa_statement.specs.Runnable.{IsRunnable}
+use Rattle.sa_trace.specs.Handing.{sink}
+use Rattle.sa_trace.specs.declared.sinks.Listening.{Listening}
+use Rattle.sa_trace_run.specs.Traced.{AreTold, Sinks, sinks}
+use Rattle.sa_tree.specs.declared.pos.Pos.{Pos}
 use Rattle.wa_syntax.specs.declared.module.Module.{Module}
 use Rattle.wa_syntax.specs.Binary.{SpellsModule}
 use Rattle.wa_run.specs.Answers.{IsBeforeRun, IsTold}
@@ -63,3 +67,23 @@ pub record RanBuilt (input : Part Input) (out : Part (List ℕ)) (fuel : ℕ)
   pub of_module : IsRunOfModule input out built fuel run
   pub of_bytes : IsRunOf input out outcome.«module».items fuel run
   pub shows : Shows fuel IsCause outcome run
+
+-- the output of a traced module itself, which takes these bytes, and fails where out does
+abbrev pub framed_output : (out : Part (List ℕ)) → (framed : List ℕ) → Part (List ℕ)
+framed_output out framed =
+    record { before = Some []; after = Some framed; faults_before = out.faults_before; faults_after = out.faults_after }
+
+-- what was left of out and err, and whether err still listens
+abbrev pub sinks_of : (out err : Part (List ℕ)) → Listening → Sinks
+sinks_of out err listening =
+    sinks (sink out.before out.faults_before) (sink out.after out.faults_after) (sink err.before err.faults_before)
+    (sink err.after err.faults_after) listening
+
+-- the module of the outcome, a traced one, was run so: the bytes of its output are frames, where the sites of the program have these
+-- positions, and out and err took what the frames say
+pub record RanTraced (input : Part Input) (out err : Part (List ℕ)) (fuel : ℕ)
+    (IsCause : (of_module : Cause) → (told : Cause) → Type 0) (outcome : Outcome) : Type 0 where
+  pub framed : List ℕ
+  pub ran : RanBuilt input (framed_output out framed) fuel IsCause outcome
+  pub sites : List Pos
+  pub told : AreTold sites outcome.sources framed (sinks_of out err outcome.listening) ran.run.answer

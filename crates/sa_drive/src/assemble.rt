@@ -3,6 +3,7 @@
 ghost use Rattle.std.specs.Prelude.{◌≡◌, ◌<◌, ◌≤◌, None, length, IfErr, IfOk};
 ghost use Rattle.wa_encode.specs.Spelling.{IsLeast};
 ghost use Rattle.wa_syntax.specs.Binary.{SpellsModule};
+ghost use Rattle.sa_trace.specs.declared.sinks.Listening.TheVariants as listening;
 ghost use Rattle.sa_drive.specs.Answer.{IsAssembled};
 ghost use Rattle.sa_drive.specs.Lines.{IsPlaced};
 ghost use Rattle.sa_drive.specs.Listings.{Assembles, EndsWithoutModule, IsAssemblyOf};
@@ -30,6 +31,7 @@ pub fn assemble<'a, S: WriteFiles>(alloc: Global, line: &Assemble<'a>, store: &m
     ensures placed { IsPlaced result.sources result.cause }
     ensures steps { result.steps ≡ None }
     ensures file { result.file.now ≡ line.now.file.now }
+    ensures listening { result.listening ≡ listening.Yes }
     ensures done { result.done ≡ 0 }
 {
     match read_file(alloc, store, line.file, MOST_LISTING_BYTES) {
@@ -53,6 +55,7 @@ fn assemble_text<'a, S: WriteFiles>(
     ensures placed { IsPlaced result.sources result.cause }
     ensures steps { result.steps ≡ None }
     ensures file { result.file.now ≡ line.now.file.now }
+    ensures listening { result.listening ≡ listening.Yes }
     ensures done { result.done ≡ 0 }
 {
     match assembled(alloc, text) {
@@ -69,6 +72,7 @@ fn of_file<'a>(alloc: Global, file: &'a str, cause: Cause, module: Vec<u8>) -> O
     ensures cause { result.cause ≡ cause }
     ensures done { result.done ≡ 0 }
     ensures file { result.file.now ≡ file.entry.now }
+    ensures listening { result.listening ≡ listening.Yes }
     ensures bytes { result.«module».items ≡ «module».items }
     ensures steps { result.steps ≡ None }
 {

@@ -1,6 +1,7 @@
 //! The command `build`: the module of a program is written to a file.
 
 ghost use Rattle.std.specs.Prelude.{◌≡◌, ◌≤◌, [], None, map};
+ghost use Rattle.sa_trace.specs.declared.sinks.Listening.TheVariants as listening;
 ghost use Rattle.sa_drive.specs.Answer.{IsBuilt};
 ghost use Rattle.sa_drive.specs.Ends.{IsWritten};
 ghost use Rattle.sa_drive.specs.Lines.{IsPlaced};
@@ -20,6 +21,7 @@ pub fn build<'a, S: WriteFiles>(alloc: Global, line: &Build<'a>, store: &mut S) 
     ensures placed { IsPlaced result.sources result.cause }
     ensures steps { result.steps ≡ None }
     ensures file { result.file.now ≡ [] }
+    ensures listening { result.listening ≡ listening.Yes }
     ensures done { result.done ≡ 0 }
 {
     let Compiled { sources, module } = compile_files(

@@ -202,7 +202,8 @@ fn check_texts(alloc: Global, sources: Sources, contracts: Contracts) -> Checked
     Checked { sources, core }
 }
 
-/// The typed tree of a program of these texts, or the cause why there is none.
+/// The typed tree of a program of these texts, or the cause why there is none. A refusal of the checker by a rule that isn't its own,
+/// which it never gives, is answered as out of memory.
 fn typed(alloc: Global, texts: &[Items<u8>], contracts: Contracts) -> Result<Core, Cause>
     requires short { All (λ text. length text < 4294967295) texts.now }
     requires few { length texts.now < 4294967295 }

@@ -2,6 +2,7 @@
 
 ghost use Rattle.std.specs.Prelude.{◌≡◌, ◌<◌, ◌&&◌, ℕ, [], None, Some, is_some, length};
 ghost use Rattle.sa_outside.specs.Output.{Grew};
+ghost use Rattle.sa_trace.specs.declared.sinks.Listening.TheVariants as listening;
 ghost use Rattle.sa_drive.specs.Answer.{IsExecuted, has_steps};
 ghost use Rattle.sa_drive.specs.Ends.{ComesBeforeOutput, cause_of};
 ghost use Rattle.sa_drive.specs.Lines.{IsPlaced};
@@ -52,7 +53,7 @@ impl Ended {
         ensures done { result.done ≡ self.done }
         ensures steps { (steps : ℕ) → result.steps ≡ Some steps → steps ≡ self.steps }
         ensures told { is_some result.steps ≡ (stats && has_steps self.cause) }
-        ensures listening { result.listening ≡ Listening.Yes }
+        ensures listening { result.listening ≡ listening.Yes }
     {
         let steps = (stats && has_steps(&self.cause)).then_some(self.steps);
         Outcome {
@@ -90,6 +91,7 @@ pub fn exec<'a, S: ReadFiles, I: Source, O: Sink>(
     ensures placed { IsPlaced result.sources result.cause }
     ensures steps { is_some result.steps ≡ (line.now.stats && has_steps result.cause) }
     ensures file { result.file.now ≡ line.now.«module».now }
+    ensures listening { result.listening ≡ listening.Yes }
     ensures files { S.files store.new ≡ S.files store.old }
     ensures output { Grew (O.output out.old) (O.output out.new) }
     ensures untouched { ComesBeforeOutput result.cause → (out.new ≡ out.old) × (input.new ≡ input.old) }
@@ -109,6 +111,7 @@ pub fn without_file<'a>(alloc: Global, file: &'a str, cause: Cause) -> Outcome<'
     ensures cause { result.cause ≡ cause }
     ensures done { result.done ≡ 0 }
     ensures file { result.file.now ≡ file.entry.now }
+    ensures listening { result.listening ≡ listening.Yes }
     ensures bytes { result.«module».items ≡ [] }
     ensures steps { result.steps ≡ None }
 {

@@ -4,6 +4,7 @@ ghost use Rattle.std.specs.Prelude.{◌≡◌, ℕ, ◌<◌, List, None, length,
 ghost use Rattle.wa_syntax.specs.Binary.{SpellsModule};
 ghost use Rattle.wa_text.specs.Listing.{IsListing};
 ghost use Rattle.sa_outside.specs.Output.{Grew};
+ghost use Rattle.sa_trace.specs.declared.sinks.Listening.TheVariants as listening;
 ghost use Rattle.sa_drive.specs.Answer.{IsListed};
 ghost use Rattle.sa_drive.specs.Ends.{ComesBeforeOutput};
 ghost use Rattle.sa_drive.specs.Lines.{IsPlaced};
@@ -35,6 +36,7 @@ pub fn listing<'a, S: ReadFiles, O: Sink>(
     ensures placed { IsPlaced result.sources result.cause }
     ensures steps { result.steps ≡ None }
     ensures file { result.file.now ≡ line.now.«module».now }
+    ensures listening { result.listening ≡ listening.Yes }
     ensures done { result.done ≡ 0 }
     ensures files { S.files store.new ≡ S.files store.old }
     ensures output { Grew (O.output out.old) (O.output out.new) }

@@ -1,6 +1,7 @@
 //! How a command ended.
 
 ghost use Rattle.std.specs.Prelude.{◌≡◌, [], None};
+ghost use Rattle.sa_trace.specs.declared.sinks.Listening.TheVariants as listening;
 
 use crate::cause::Cause;
 use sa_trace::Listening;
@@ -34,7 +35,7 @@ impl<'a> Outcome<'a> {
         ensures bytes { result.«module».items ≡ «module».items }
         ensures file { result.file.now ≡ [] }
         ensures steps { result.steps ≡ None }
-        ensures listening { result.listening ≡ Listening.Yes }
+        ensures listening { result.listening ≡ listening.Yes }
     {
         Outcome {
             cause,
@@ -55,7 +56,7 @@ impl<'a> Outcome<'a> {
         ensures bytes { result.«module».items ≡ [] }
         ensures file { result.file.now ≡ [] }
         ensures steps { result.steps ≡ None }
-        ensures listening { result.listening ≡ Listening.Yes }
+        ensures listening { result.listening ≡ listening.Yes }
     {
         Outcome::without_run(cause, sources, Vec::new(alloc))
     }

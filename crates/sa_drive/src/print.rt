@@ -3,6 +3,7 @@
 ghost use Rattle.std.specs.Prelude.{◌≡◌, [], None};
 ghost use Rattle.sa_gen.specs.Generated.{generated};
 ghost use Rattle.sa_outside.specs.Output.{Grew};
+ghost use Rattle.sa_trace.specs.declared.sinks.Listening.TheVariants as listening;
 ghost use Rattle.sa_drive.specs.Answer.{IsGenerated};
 ghost use Rattle.sa_drive.specs.Ends.{ComesBeforeOutput, IsPrinted};
 ghost use Rattle.sa_drive.specs.Lines.{IsPlaced};
@@ -21,6 +22,7 @@ pub fn print_generated<'a, O: Sink>(alloc: Global, classes: u32, out: &mut O) ->
     ensures placed { IsPlaced result.sources result.cause }
     ensures steps { result.steps ≡ None }
     ensures file { result.file.now ≡ [] }
+    ensures listening { result.listening ≡ listening.Yes }
     ensures done { result.done ≡ 0 }
     ensures output { Grew (O.output out.old) (O.output out.new) }
     ensures later { ComesBeforeOutput result.cause → ⊥ }

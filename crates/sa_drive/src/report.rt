@@ -3,7 +3,7 @@
 ghost use Rattle.std.specs.Prelude.{◌≡◌, ◌≢◌, ◌⊎◌};
 ghost use Rattle.sa_outside.specs.Output.{TookFront};
 ghost use Rattle.sa_drive.specs.Lines.{IsPlaced, lines_of};
-ghost use Rattle.sa_drive.specs.Report.{Tells, TellsPart};
+ghost use Rattle.sa_drive.specs.Report.{EndsWith, Tells, TellsPart};
 ghost use Rattle.sa_drive.specs.Seen.{part};
 
 use crate::cause::Cause;
@@ -13,13 +13,12 @@ use sa_outside::{Outage, Sink};
 use sa_trace::Listening;
 use std::alloc::{AllocError, Global};
 
-/// Puts the lines of an outcome on err, and gives the cause that stands then: out of memory in its place where the lines
-/// can't be made or err has no memory. Where err fails the cause stands.
+/// Puts the lines of an outcome on err, if it still listens, and gives the cause that stands then: out of memory in its place where err
+/// has no memory or the lines can't be made. Where err fails the cause stands.
 pub fn report<E: Sink>(alloc: Global, outcome: &Outcome<'_>, err: &mut E) -> Cause
     requires { IsPlaced outcome.now.sources outcome.now.cause }
     ensures stands { (result ≡ Cause.NoMemory) ⊎ (result ≡ outcome.now.cause) }
-    ensures told { result ≢ Cause.NoMemory → Tells (part E.output E.faults err.old err.new) (lines_of outcome.now result) }
-    ensures told_part { result ≡ Cause.NoMemory → TellsPart (part E.output E.faults err.old err.new) outcome.now }
+    ensures ends { EndsWith outcome.now.listening (part E.output E.faults err.old err.new) outcome.now result }
 {
     match outcome.listening {
         Listening::Yes => tell_lines(alloc, outcome, err),
@@ -28,7 +27,7 @@ pub fn report<E: Sink>(alloc: Global, outcome: &Outcome<'_>, err: &mut E) -> Cau
     }
 }
 
-/// Puts the lines of an outcome on err, which has taken all before.
+/// Puts the lines of an outcome on err, and gives the cause that stands then.
 fn tell_lines<E: Sink>(alloc: Global, outcome: &Outcome<'_>, err: &mut E) -> Cause
     requires { IsPlaced outcome.now.sources outcome.now.cause }
     ensures stands { (result ≡ Cause.NoMemory) ⊎ (result ≡ outcome.now.cause) }

@@ -5,6 +5,7 @@ ghost use Rattle.sa_outside.specs.Output.{Grew};
 ghost use Rattle.sa_tree.specs.declared.pos.Sources.{Sources as Places};
 ghost use Rattle.wa_run.specs.declared.module_run.Run.{Run as Runs};
 ghost use Rattle.wa_syntax.specs.ValidModule.{IsValid};
+ghost use Rattle.sa_trace.specs.declared.sinks.Listening.TheVariants as listening;
 ghost use Rattle.sa_drive.specs.Answer.{IsRun, has_steps};
 ghost use Rattle.sa_drive.specs.Built.{IsTried};
 ghost use Rattle.sa_drive.specs.Ends.{ComesBeforeOutput, IsOfModule};
@@ -38,6 +39,7 @@ pub fn run<'a, S: ReadFiles, I: Source, O: Sink>(
     ensures placed { IsPlaced result.sources result.cause }
     ensures steps { is_some result.steps ≡ (line.now.stats && has_steps result.cause) }
     ensures file { result.file.now ≡ [] }
+    ensures listening { result.listening ≡ listening.Yes }
     ensures files { S.files store.new ≡ S.files store.old }
     ensures output { Grew (O.output out.old) (O.output out.new) }
     ensures untouched { ComesBeforeOutput result.cause → (out.new ≡ out.old) × (input.new ≡ input.old) }
@@ -73,6 +75,7 @@ pub fn run_built<'a, I: Source, O: Sink>(
     ensures placed { IsPlaced result.sources result.cause }
     ensures steps { is_some result.steps ≡ (stats && has_steps result.cause) }
     ensures file { result.file.now ≡ [] }
+    ensures listening { result.listening ≡ listening.Yes }
     ensures output { Grew (O.output out.old) (O.output out.new) }
     ensures untouched { ComesBeforeOutput result.cause → (out.new ≡ out.old) × (input.new ≡ input.old) }
 {

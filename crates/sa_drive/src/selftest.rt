@@ -2,6 +2,7 @@
 
 ghost use Rattle.std.specs.Prelude.{◌≡◌, [], IfOk, false, is_some};
 ghost use Rattle.sa_outside.specs.Output.{Grew};
+ghost use Rattle.sa_trace.specs.declared.sinks.Listening.TheVariants as listening;
 ghost use Rattle.sa_drive.specs.Answer.{IsRunApart, IsTested};
 ghost use Rattle.sa_drive.specs.Built.{IsTried};
 ghost use Rattle.sa_drive.specs.Ends.{ComesBeforeOutput, IsPrinted};
@@ -27,6 +28,7 @@ pub fn selftest<'a, O: Sink>(alloc: Global, classes: u32, out: &mut O) -> Outcom
     ensures placed { IsPlaced result.sources result.cause }
     ensures steps { is_some result.steps ≡ false }
     ensures file { result.file.now ≡ [] }
+    ensures listening { result.listening ≡ listening.Yes }
     ensures done { result.cause ≡ Cause.Done → result.done ≡ 0 }
     ensures output { Grew (O.output out.old) (O.output out.new) }
     ensures untouched { ComesBeforeOutput result.cause → out.new ≡ out.old }
@@ -52,6 +54,7 @@ fn run_apart<'a, O: Sink>(
     ensures placed { IsPlaced result.sources result.cause }
     ensures steps { is_some result.steps ≡ false }
     ensures file { result.file.now ≡ [] }
+    ensures listening { result.listening ≡ listening.Yes }
     ensures done { result.cause ≡ Cause.Done → result.done ≡ 0 }
     ensures output { Grew (O.output out.old) (O.output out.new) }
     ensures untouched { ComesBeforeOutput result.cause → out.new ≡ out.old }

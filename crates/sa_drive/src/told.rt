@@ -1,5 +1,14 @@
 //! The command `run` with `--trace`: a program is compiled, and its traced module is run.
 
+ghost use Rattle.std.specs.Prelude.{◌≡◌, ◌&&◌, [], is_some, map};
+ghost use Rattle.sa_outside.specs.Output.{Grew};
+ghost use Rattle.sa_drive.specs.Answer.{IsTraced, has_steps};
+ghost use Rattle.sa_drive.specs.Built.{IsTried};
+ghost use Rattle.sa_drive.specs.Ends.{ComesBeforeOutput, IsOfModule};
+ghost use Rattle.sa_drive.specs.Lines.{IsPlaced};
+ghost use Rattle.sa_drive.specs.Runs.{RanTraced};
+ghost use Rattle.sa_drive.specs.Seen.{outside, part};
+
 use crate::compile::{Compiled, compile_files};
 use crate::exec::{Ended, cause_of, done_of};
 use crate::module::Built;
@@ -19,7 +28,17 @@ pub fn run_told<'a, S: ReadFiles, I: Source, O: Sink, E: Sink>(
     input: &mut I,
     out: &mut O,
     err: &mut E,
-) -> Outcome<'a> {
+) -> Outcome<'a>
+    ensures does { IsTraced (outside (part S.files S.faults store.old store.new) (part I.input I.faults input.old input.new)
+        (part O.output O.faults out.old out.new) (part E.output E.faults err.old err.new)) line.now.fuel
+        (map (λ file. file.now) line.now.files.items) result }
+    ensures placed { IsPlaced result.sources result.cause }
+    ensures steps { is_some result.steps ≡ (line.now.stats && has_steps result.cause) }
+    ensures file { result.file.now ≡ [] }
+    ensures files { S.files store.new ≡ S.files store.old }
+    ensures output { Grew (O.output out.old) (O.output out.new) }
+    ensures untouched { ComesBeforeOutput result.cause → (out.new ≡ out.old) × (input.new ≡ input.old) }
+{
     let Compiled { sources, module } = compile_files(
         alloc,
         store,
@@ -46,7 +65,17 @@ fn run_built_told<'a, I: Source, O: Sink, E: Sink>(
     input: &mut I,
     out: &mut O,
     err: &mut E,
-) -> Outcome<'a> {
+) -> Outcome<'a>
+    requires tried { IsTried built }
+    ensures ran { RanTraced (part I.input I.faults input.old input.new) (part O.output O.faults out.old out.new)
+        (part E.output E.faults err.old err.new) fuel (IsOfModule sources) result }
+    ensures sources { result.sources ≡ sources }
+    ensures placed { IsPlaced result.sources result.cause }
+    ensures steps { is_some result.steps ≡ (stats && has_steps result.cause) }
+    ensures file { result.file.now ≡ [] }
+    ensures output { Grew (O.output out.old) (O.output out.new) }
+    ensures untouched { ComesBeforeOutput result.cause → (out.new ≡ out.old) × (input.new ≡ input.old) }
+{
     let Built {
         module,
         bytes,

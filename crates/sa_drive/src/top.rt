@@ -2,13 +2,15 @@
 
 ghost use Rattle.std.specs.Prelude.{◌≡◌, ◌≢◌, ◌&&◌, [], None, Some, is_some, map, string_bytes};
 ghost use Rattle.sa_outside.specs.Output.{Grew};
+ghost use Rattle.sa_trace.specs.Handing.{Sink as Taken, sink};
+ghost use Rattle.sa_trace.specs.declared.sinks.Listening.TheVariants as listening;
 ghost use Rattle.sa_words.specs.Line.{line_in, line_of};
 ghost use Rattle.sa_drive.specs.Answer.{Does, IsTellable, Obeys, PrintsNone, ReadsNone};
 ghost use Rattle.sa_drive.specs.Answer.{RunsNone, WritesNone, asks_stats, has_steps, module_file};
 ghost use Rattle.sa_drive.specs.Ends.{ComesBeforeOutput};
 ghost use Rattle.sa_drive.specs.Lines.{IsPlaced};
 ghost use Rattle.sa_drive.specs.Report.{IsExitOf};
-ghost use Rattle.sa_drive.specs.Seen.{outside, part};
+ghost use Rattle.sa_drive.specs.Seen.{between, outside, part};
 ghost use Rattle.sa_drive.specs.declared.outcome.Outcome.{Outcome as Outcomes};
 
 use crate::assemble::assemble;
@@ -38,13 +40,14 @@ pub fn sather<S: WriteFiles, I: Source, O: Sink, E: Sink>(
     out: &mut O,
     err: &mut E,
 ) -> Exit
-    // What the words ask for was done with an outcome, by the definition of each command. The exit has its cause, or out of memory,
-    // its status and its module, and err took its lines.
-    ensures answer { (outcome : Outcomes) ×
+    // What the words ask for was done with an outcome, by the definition of each command, up to some state of err. The exit has its
+    // cause, or out of memory, its status and its module, and from there on err took its lines.
+    ensures answer { (outcome : Outcomes) × (middle : Taken) ×
         Obeys (outside (part S.files S.faults store.old store.new) (part I.input I.faults input.old input.new)
-        (part O.output O.faults out.old out.new)) (line_in (map string_bytes words.now)) outcome
+        (part O.output O.faults out.old out.new) (between (sink (E.output err.old) (E.faults err.old)) middle))
+        (line_in (map string_bytes words.now)) outcome
         × IsTellable (line_in (map string_bytes words.now)) outcome
-        × IsExitOf outcome (part E.output E.faults err.old err.new) result }
+        × IsExitOf outcome (between middle (sink (E.output err.new) (E.faults err.new))) result }
 
     // A command that runs no module on the input takes nothing from it, and has the status 0 at `Done`.
     ensures input { RunsNone (line_in (map string_bytes words.now)) → input.new ≡ input.old }
@@ -83,7 +86,8 @@ fn obey<'a, S: WriteFiles, I: Source, O: Sink, E: Sink>(
     err: &mut E,
 ) -> Outcome<'a>
     ensures obeys { Obeys (outside (part S.files S.faults store.old store.new) (part I.input I.faults input.old input.new)
-        (part O.output O.faults out.old out.new)) (line_in (map string_bytes words.now)) result }
+        (part O.output O.faults out.old out.new) (part E.output E.faults err.old err.new))
+        (line_in (map string_bytes words.now)) result }
     ensures file { result.cause ≢ Cause.NoMemory → result.file.now ≡ module_file (line_in (map string_bytes words.now)) }
     ensures steps { is_some result.steps ≡ (asks_stats (line_in (map string_bytes words.now)) && has_steps result.cause) }
     ensures placed { IsPlaced result.sources result.cause }
@@ -113,7 +117,7 @@ fn do_command<'a, S: WriteFiles, I: Source, O: Sink, E: Sink>(
     err: &mut E,
 ) -> Outcome<'a>
     ensures does { Does (outside (part S.files S.faults store.old store.new) (part I.input I.faults input.old input.new)
-        (part O.output O.faults out.old out.new)) (line_of command.entry) result }
+        (part O.output O.faults out.old out.new) (part E.output E.faults err.old err.new)) (line_of command.entry) result }
     ensures file { result.file.now ≡ module_file (Some (line_of command.entry)) }
     ensures steps { is_some result.steps ≡ (asks_stats (Some (line_of command.entry)) && has_steps result.cause) }
     ensures placed { IsPlaced result.sources result.cause }
@@ -147,6 +151,7 @@ fn without_command<'a>(alloc: Global, cause: Cause) -> Outcome<'a>
     ensures bytes { result.«module».items ≡ [] }
     ensures file { result.file.now ≡ [] }
     ensures steps { result.steps ≡ None }
+    ensures listening { result.listening ≡ listening.Yes }
 {
     Outcome::without_module(alloc, cause, no_sources(alloc))
 }

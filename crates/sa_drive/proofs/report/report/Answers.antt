@@ -1,11 +1,12 @@
-use Rattle.std.proofs.Common.{◌∙◌, inl, inr, subst}
-use Rattle.sa_outside.specs.Output.{TookFront}
-use Rattle.sa_drive.proofs.OutputLemmas.{TookFront-longer}
+use Rattle.std.proofs.Common.{refl}
 use Rattle.sa_drive.proofs.report.report.Goals as goal
 
-pub returns-in-Ok-clause-told_part : goal.returns-in-Ok-clause-told_part
-returns-in-Ok-clause-told_part g c = λ memory.
-    inl (subst (TookFront (g.E.Sink.output c.args.err.now) (g.E.Sink.output c.tell.new.err)) (c.as_slice.ensures.value ∙ c.in-Ok.ensures) c.tell.ensures.told_part)
+pub returns-in-Yes-clause-ends : goal.returns-in-Yes-clause-ends
+returns-in-Yes-clause-ends g c =
+    rw c.in-Yes.is (record { stands = c.tell_lines.ensures.stands; told = c.tell_lines.ensures.told; told_part = c.tell_lines.ensures.told_part })
 
-pub returns-in-Err-clause-told_part : goal.returns-in-Err-clause-told_part
-returns-in-Err-clause-told_part g c = λ memory. inr (TookFront-longer _ _ _ _ c.tell-in-Err.ensures.told_part)
+pub returns-in-Failed-clause-ends : goal.returns-in-Failed-clause-ends
+returns-in-Failed-clause-ends g c = rw c.in-Failed.is (refl, (refl, refl))
+
+pub returns-in-NoMemory-clause-ends : goal.returns-in-NoMemory-clause-ends
+returns-in-NoMemory-clause-ends g c = rw c.in-NoMemory.is (refl, (refl, refl))

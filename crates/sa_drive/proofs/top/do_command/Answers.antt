@@ -1,25 +1,23 @@
+use Rattle.std.proofs.Common.{refl}
 use Rattle.sa_drive.proofs.top.do_command.Goals as goal
 
-pub returns-in-Run-clause-does : goal.returns-in-Run-clause-does
-returns-in-Run-clause-does g c = rw c.in-Run.is c.run.ensures.does
+pub returns-in-Silent-clause-does : goal.returns-in-Silent-clause-does
+returns-in-Silent-clause-does g c = rw (c.in-Run.is, c.in-Silent.is) (c.run.ensures.does, ((refl, refl), c.run.ensures.listening))
 
 pub returns-in-Build-clause-does : goal.returns-in-Build-clause-does
-returns-in-Build-clause-does g c = rw c.in-Build.is c.build.ensures.does
+returns-in-Build-clause-does g c = rw c.in-Build.is (c.build.ensures.does, ((refl, refl), c.build.ensures.listening))
 
 pub returns-in-Check-clause-does : goal.returns-in-Check-clause-does
-returns-in-Check-clause-does g c = rw c.in-Check.is c.check.ensures.does
+returns-in-Check-clause-does g c = rw c.in-Check.is (c.check.ensures.does, ((refl, refl), c.check.ensures.listening))
 
 pub returns-in-Exec-clause-does : goal.returns-in-Exec-clause-does
-returns-in-Exec-clause-does g c = rw c.in-Exec.is c.exec.ensures.does
+returns-in-Exec-clause-does g c = rw c.in-Exec.is (c.exec.ensures.does, ((refl, refl), c.exec.ensures.listening))
 
 pub returns-in-Gen-clause-does : goal.returns-in-Gen-clause-does
-returns-in-Gen-clause-does g c = rw c.in-Gen.is c.print_generated.ensures.does
+returns-in-Gen-clause-does g c = rw c.in-Gen.is (c.print_generated.ensures.does, ((refl, refl), c.print_generated.ensures.listening))
 
 pub returns-in-Selftest-clause-does : goal.returns-in-Selftest-clause-does
-returns-in-Selftest-clause-does g c = rw c.in-Selftest.is c.selftest.ensures.does
+returns-in-Selftest-clause-does g c = rw c.in-Selftest.is (c.selftest.ensures.does, ((refl, refl), c.selftest.ensures.listening))
 
 pub returns-in-Listing-clause-does : goal.returns-in-Listing-clause-does
-returns-in-Listing-clause-does g c = rw c.in-Listing.is c.listing.ensures.does
-
-pub returns-in-Assemble-clause-does : goal.returns-in-Assemble-clause-does
-returns-in-Assemble-clause-does g c = rw c.in-Assemble.is c.assemble.ensures.does
+returns-in-Listing-clause-does g c = rw c.in-Listing.is (c.listing.ensures.does, ((refl, refl), c.listing.ensures.listening))

@@ -1,14 +1,16 @@
 use Rattle.std.proofs.Common.{◌∙◌, inl, inr, rules, sym}
+use Rattle.sa_trace.specs.Handing.{sink}
 use Rattle.sa_drive.proofs.top.sather.Goals.{in-Done, in_default}
 use Rattle.sa_drive.proofs.top.sather.Goals as goal
 
 pub returns-clause-answer : goal.returns-clause-answer
 returns-clause-answer g c = (
   c.obey-outcome.result,
+  sink (g.E.Sink.output c.obey-outcome.new.err) (g.E.Sink.faults c.obey-outcome.new.err),
   c.obey-outcome.ensures.obeys,
   record { file = c.obey-outcome.ensures.file; steps = c.obey-outcome.ensures.steps },
   record {
-    stands = c.report-cause.ensures.stands;
+    ends = c.report-cause.ensures.ends;
     done = elim c.match-cause.branch [
       | in-Done w ↦ λ done. w.status-is
       | in_default w ↦ λ done. absurd (w.in_default.not-Done done)
@@ -18,8 +20,6 @@ returns-clause-answer g c = (
       | in_default w ↦ λ other. search rules
     ];
     bytes = search rules;
-    told = c.report-cause.ensures.told;
-    told_part = c.report-cause.ensures.told_part;
   },
 )
 

@@ -1,0 +1,30 @@
+use Rattle.std.proofs.Common.{◌∙◌, subst, sym}
+use Rattle.sa_drive.specs.Ends.{ComesBeforeOutput, IsOfModule}
+use Rattle.sa_drive.specs.Lines.{IsPlaced}
+use Rattle.sa_drive.specs.Seen.{part}
+use Rattle.sa_drive.proofs.RunLemmas.{traced}
+use Rattle.sa_drive.proofs.told.run_built_told.Goals as goal
+
+pub returns-clause-ran : goal.returns-clause-ran
+returns-clause-ran g c =
+    let run = c.run_traced-traced.result.run in
+    let ran = c.run_traced-traced.ensures.ran in
+    let of_module = subst (λ cause. IsOfModule c.args.sources cause c.at_place.result) c.cause_of-cause.ensures.value c.at_place.ensures.of_module in
+    traced (part g.I.Source.input g.I.Source.faults c.args.input.now c.run_traced-traced.new.input) (part g.O.Sink.output g.O.Sink.faults c.args.out.now c.run_traced-traced.new.out) (part g.E.Sink.output g.E.Sink.faults c.args.err.now c.run_traced-traced.new.err) (IsOfModule c.args.sources) c.args.built c.args.sources _ c.args.fuel run ran.0 _ c.requires.tried (record {
+      says = c.run_traced-traced.ensures.says;
+      told = c.run_traced-traced.ensures.told;
+      within = c.run_traced-traced.ensures.within;
+      ran = ran.1;
+      starts = λ runnable. c.run_traced-traced.ensures.starts runnable.linked runnable.fit;
+    }) ran.2 c.outcome-outcome.ensures.sources c.outcome-outcome.ensures.bytes (subst (IsOfModule c.args.sources _) (sym c.outcome-outcome.ensures.cause) of_module) (c.outcome-outcome.ensures.done ∙ c.done_of.ensures) c.outcome-outcome.ensures.steps
+
+pub returns-clause-placed : goal.returns-clause-placed
+returns-clause-placed g c =
+    let told = subst (λ sources. IsPlaced sources c.at_place.result) (sym c.outcome-outcome.ensures.sources) (c.at_place.ensures.placed (c.cause_of-cause.ensures.placed c.args.sources)) in
+    subst (IsPlaced c.outcome-outcome.result.sources) (sym c.outcome-outcome.ensures.cause) told
+
+pub returns-clause-untouched : goal.returns-clause-untouched
+returns-clause-untouched g c = λ before.
+    let earlier = c.cause_of-cause.ensures.before (c.at_place.ensures.untouched (subst ComesBeforeOutput c.outcome-outcome.ensures.cause before)) in
+    let kept = c.run_traced-traced.ensures.untouched earlier in
+    (kept.0, kept.1)

@@ -1,0 +1,15 @@
+use Rattle.std.proofs.Common.{inl, inr, refl}
+use Rattle.sa_drive.proofs.EndLemmas.{given_none, taken_of}
+use Rattle.sa_drive.proofs.RunLemmas.{traced_of}
+use Rattle.sa_drive.proofs.told.run_told.Goals as goal
+
+pub returns-in-Ok-clause-does : goal.returns-in-Ok-clause-does
+returns-in-Ok-clause-does g c =
+    rw (← c.as_slice.ensures.value) (inr (
+      taken_of _ _ _ _ _ _ _ c.in-Ok.is c.compile_files-sources.ensures.«module» c.run_built_told.ensures.sources,
+      traced_of _ _ _ _ _ _ c.run_built_told.ensures.sources c.run_built_told.ensures.ran,
+    ))
+
+pub returns-in-Err-clause-does : goal.returns-in-Err-clause-does
+returns-in-Err-clause-does g c =
+    rw (← c.as_slice.ensures.value) (inl (given_none _ _ _ _ _ _ c.in-Err.is c.compile_files-sources.ensures.«module» c.compile_files-sources.ensures.files c.without_module.ensures.sources c.without_module.ensures.cause c.without_module.ensures.bytes, refl, refl, ((refl, refl), c.without_module.ensures.listening)))
