@@ -6,13 +6,14 @@ Tries the page of hosts/web, which `serve` serves with the program:
 - what the server refuses, which needs no browser;
 - that examples.js is what `gather` writes;
 - in a Chromium without a window: programs that are typed, run, refused, stopped, and end by themselves; each example, with its
-  output; the picture of live iters and its steps; the page on a narrow screen, in the dark and by keyboard alone; and the page as
-  a file that is opened.
+  output; the picture of live iters and its steps; the page on a narrow screen, in the dark and by keyboard alone; three lessons
+  (lessons.py); and the page as a file that is opened.
 
 --pictures keeps pictures of the page in a folder. --only takes the tries whose names hold a word. Where there is no Chromium, the
 tries in it are left out, and that is told."""
 import argparse
 import contextlib
+import functools
 import http.client
 import importlib.machinery
 import importlib.util
@@ -24,7 +25,9 @@ from urllib.parse import urlsplit
 
 import browser
 import examples
+import lessons
 import report
+from browser import expect
 
 WEB = os.path.realpath(os.path.join(os.path.dirname(os.path.abspath(__file__)), '..', 'hosts', 'web'))
 CONTROL, SHIFT = browser.CONTROL, browser.SHIFT
@@ -102,21 +105,12 @@ FOCUSED = '''(() => {
 STOPS = ['example', 'run', 'trace', 'source', 'input', 'output', 'first', 'back', 'forward', 'last', 'play', 'slider', 'lanes', 'SUMMARY']
 
 
-class Differs(Exception):
-    """What a try has found to be wrong."""
-
-
-def expect(what, wanted, came):
-    """Raises where something else came than was wanted."""
-    if wanted != came:
-        raise Differs('%s: expected %r, and came %r' % (what, wanted, came))
-
-
 def gather():
     """The script `gather` as a module."""
     loader = importlib.machinery.SourceFileLoader('gather', os.path.join(WEB, 'gather'))
     module = importlib.util.module_from_spec(importlib.util.spec_from_loader('gather', loader))
     sys.dont_write_bytecode = True
+    sys.path.append(WEB)
     loader.exec_module(module)
     return module
 
@@ -191,7 +185,10 @@ def script_differs(program):
     """Where examples.js is something else than `gather` writes, or None."""
     writer = gather()
     stands = {one['name']: one for one in writer.read_script()}
-    trace = (lambda name: writer.trace_of(program, name)) if traces(program) else (lambda name: stands.get(name, {}).get('trace', ''))
+
+    def stood(name):
+        return stands[name]['trace'], stands[name]['shown']
+    trace = functools.partial(writer.trace_of, program) if traces(program) else stood
     wanted = writer.script(writer.gathered(trace))
     with open(writer.WRITTEN, encoding='utf-8') as file:
         return None if file.read() == wanted else 'it isn\'t as `hosts/web/gather PROGRAM` writes it'
@@ -401,7 +398,8 @@ TRIES = [
     *(('examples/%s.sa' % name, runs_example(name)) for name in examples.names()),
     ('the page opens as a file', opens_as_a_file),
 ]
-TRACED = [('what is typed is traced', traces_what_is_typed), ('a trace without end is cut', stops_traces)]
+TRACED = [('what is typed is traced', traces_what_is_typed), ('a trace without end is cut', stops_traces),
+          *lessons.LESSONS]
 
 
 def in_browser(page, name, try_it, folder):
@@ -412,7 +410,7 @@ def in_browser(page, name, try_it, folder):
         if folder:
             with open(os.path.join(folder, name.replace('/', ' ') + '.png'), 'wb') as file:
                 file.write(page.picture())
-    except (Differs, browser.Failed) as error:
+    except (browser.Differs, browser.Failed) as error:
         return str(error)
     # A refusal is answered by a status that the browser takes for an error.
     complaints = [text for text in page.complaints if '422' not in text]

@@ -7,15 +7,19 @@
 const EVENT = /^(start|resume|yield|quit|abandon) (.+):(\d+) (\d+)$/;
 const REFUSAL = /^(.+?):(\d+)(?::(\d+))?: (E\d\d|fault): (.*)$/;
 
-// The events of a trace, and the lines that are none.
-function readTrace(text) {
+// The events of a trace, and the lines that are none. `shown` has for each line how many bytes of the output stand before it.
+function readTrace(text, shown = []) {
   const events = [];
   const others = [];
-  for (const line of text.split('\n')) {
+  text.split('\n').forEach((line, place) => {
     const found = EVENT.exec(line);
-    if (found) events.push({kind: found[1], file: found[2], line: Number(found[3]), number: Number(found[4])});
-    else if (line) others.push(line);
-  }
+    if (found) {
+      const [, kind, file, inLine, number] = found;
+      events.push({kind, file, line: Number(inLine), number: Number(number), shown: shown[place]});
+    } else if (line) {
+      others.push(line);
+    }
+  });
   return {events, others};
 }
 
