@@ -32,6 +32,7 @@ from browser import expect
 WEB = os.path.realpath(os.path.join(os.path.dirname(os.path.abspath(__file__)), '..', 'hosts', 'web'))
 CONTROL, SHIFT = browser.CONTROL, browser.SHIFT
 COUNTS = 'class MAIN is\nmain is\nloop #OUT + 1.upto!(3) + " "; end;\nend;\nend;\n'
+INDENTED = 'class MAIN is\n   main is\n      loop\n         #OUT + 1.upto!(3) + " ";\n      end;\n   end;\nend;\n'
 COPY = 'class MAIN is main is loop b ::= #IN.get_byte; while!(b >= 0); #OUT + b.char; end; end; end;'
 ENDLESS = 'class MAIN is main is #OUT + "begun"; loop end; end; end;'
 REFUSED = 'class MAIN is\n   main is\n      x ::= 3 +;\n   end;\nend;\n'
@@ -216,9 +217,24 @@ def run(page):
 
 
 def is_typed_and_run(page):
-    fill(page, COUNTS.replace('loop ', 'loop\n'))
-    expect('the source', 'class MAIN is\n   main is\n      loop\n         #OUT', page.value('editor.text.slice(0, 49)'))
+    fill(page, COUNTS.replace('loop ', 'loop\n').replace(' end;', '\nend;'))
+    expect('the source', INDENTED, page.value('editor.text'))
     expect('the output', ['1 2 3 ', 'Ended.'], run(page))
+
+
+def is_kept(page):
+    """What was typed is there when the page is loaded anew, and when one comes back from an example."""
+    page.value("location.hash = 'hello'")
+    page.wait("picker.value === 'hello'")
+    fill(page, 'class MAIN is main is end; end;')
+    expect('what is picked', ['own', '#own'], page.value('[picker.value, location.hash]'))
+    page.value("location.hash = 'verse'")
+    page.wait("picker.value === 'verse'")
+    page.value("location.hash = 'own'")
+    page.wait("picker.value === 'own'")
+    expect('the source', 'class MAIN is main is end; end;', page.value('editor.text'))
+    page.open(page.value('location.href'))
+    expect('the source', 'class MAIN is main is end; end;', page.value('editor.text'))
 
 
 def is_highlighted(page):
@@ -299,6 +315,18 @@ def steps(page):
     expect('a step back', 'Event 10 of 11: upto! 0 ends, and its loop with it.', page.value(words))
 
 
+def draws_what_a_terminal_shows(page):
+    """A trace with the output between its lines is drawn with this output."""
+    lines = SUMS_TRACE.splitlines(keepends=True)
+    write(page, SUMS)
+    page.value("document.querySelector('details').open = true, byId('recorded').value = %s, byId('draw').click()"
+               % browser.json.dumps(''.join([*lines[:4], '1 ', *lines[4:8], '3 ', *lines[8:], '\n'])))
+    expect('the lanes', ['main', 'upto! 0', 'sum! 1'], page.value(LANES))
+    page.value('picture.go(3)')
+    expect('what is put out in the time of the event', ['1 3 \n', '1 '],
+           page.value("[output.textContent, output.querySelector('.is-now').textContent]"))
+
+
 def draws_nested_lives(page):
     page.value("location.hash = 'fringe'")
     page.wait("picker.value === 'fringe'")
@@ -328,6 +356,18 @@ def stops_traces(page):
     expect('the end', 'Stopped: the picture has its first 20000 events.', page.value('ended.textContent'))
     page.value('picture.go(15000)')
     expect('the cursor', 15000, page.value('picture.at'))
+
+
+def shows_it_at_once(page):
+    """Source, output and lanes are on the screen together, and one step is seen in each."""
+    page.size(1280, 800)
+    page.value("location.hash = 'squares'")
+    page.wait("picker.value === 'squares' && picture.events.length")
+    page.value("scrollTo(0, 0), document.querySelector('[data-part=forward]').click()")
+    expect('what is below the screen', [], page.value("""['source', 'output', 'ended'].map(byId).concat(picture.lanes)
+      .filter((one) => (one.closest('.editor') ?? one).getBoundingClientRect().bottom > innerHeight).map((one) => one.id)"""))
+    expect('what is put out in the time of the event', '1 makes 1\n', page.value("output.querySelector('.is-now').textContent"))
+    page.size(1280, 900)
 
 
 def looks_right(page):
@@ -387,12 +427,14 @@ def opens_as_a_file(page):
 
 
 TRIES = [
-    ('a program that is typed runs', is_typed_and_run), ('a source is highlighted as it stands', is_highlighted),
+    ('a program that is typed runs', is_typed_and_run), ('what is typed is kept', is_kept), ('a source is highlighted as it stands', is_highlighted),
     ('a program reads its input', gets_its_input), ('a refusal is marked in its line', is_refused),
     ('a fault is marked in its line', has_a_fault), ('a run ends by itself when its time is up', ends_by_itself),
     ('a run is stopped', is_stopped), ('a run that puts out too much is ended', puts_out_too_much),
     ('a trace that was recorded is drawn', draws_lives), ('the picture goes forward and back', steps),
+    ('what a terminal shows of a traced run is drawn', draws_what_a_terminal_shows),
     ('lanes are drawn inside one another', draws_nested_lives),
+    ('source, output and lanes are seen together', shows_it_at_once),
     ('the page looks right on each screen, in the light and in the dark', looks_right),
     ('the page needs no mouse', needs_no_mouse),
     *(('examples/%s.sa' % name, runs_example(name)) for name in examples.names()),

@@ -173,10 +173,15 @@ function pick(name) {
   if (example.source === EMPTY) editor.area.selectionStart = editor.area.selectionEnd = EMPTY.indexOf('\n   end');
 }
 
+// Draws what was recorded of a run of the source.
 function drawRecorded(text) {
-  const trace = readTrace(text);
-  draw(editor.text, trace);
+  const recorded = partRecorded(text);
+  const trace = readTrace(recorded.lines, recorded.shown);
+  tell(told, '');
+  draw(editor.text, trace, recorded.output);
   if (trace.events.length === 0) hint.textContent = 'No line of it tells an event.';
+  if (trace.others.length) tellPlace(trace.others.join('\n'));
+  if (trace.events.length) picture.take();
 }
 
 input.oninput = () => picker.value === OWN && keepOwn();

@@ -5,6 +5,7 @@
 'use strict';
 
 const EVENT = /^(start|resume|yield|quit|abandon) (.+):(\d+) (\d+)$/;
+const RECORDED = /^(.*?)((?:start|resume|yield|quit|abandon) \S+:\d+ \d+|^\S+:\d+: fault: .*)\r?\n?$/;
 const REFUSAL = /^(.+?):(\d+)(?::(\d+))?: (E\d\d|fault): (.*)$/;
 
 // The events of a trace, and the lines that are none. `shown` has for each line how many bytes of the output stand before it.
@@ -21,6 +22,25 @@ function readTrace(text, shown = []) {
     }
   });
   return {events, others};
+}
+
+// What a terminal shows of a traced run, or its lines alone, as the lines and the output, and of each line how many bytes of the output
+// stand before it.
+function partRecorded(text) {
+  const encoder = new TextEncoder();
+  const [lines, shown] = [[], []];
+  let [output, size] = ['', 0];
+  for (const line of text.split(/(?<=\n)/)) {
+    const found = RECORDED.exec(line);
+    const put = found ? found[1] : line;
+    output += put;
+    size += encoder.encode(put).length;
+    if (found) {
+      lines.push(found[2]);
+      shown.push(size);
+    }
+  }
+  return {lines: lines.join('\n'), shown, output: output.trim() ? encoder.encode(output) : null};
 }
 
 // The place that a line of the compiler or of a fault tells, or null.
@@ -116,4 +136,4 @@ function countAlive(events) {
   });
 }
 
-if (typeof module !== 'undefined') module.exports = {readTrace, readPlace, readLives, stateAt, countAlive};
+if (typeof module !== 'undefined') module.exports = {readTrace, partRecorded, readPlace, readLives, stateAt, countAlive};

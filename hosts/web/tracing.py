@@ -1,67 +1,74 @@
-"""Runs a program with its trace, and keeps what it puts on out and on err in the order in which it puts it."""
-import contextlib
+"""Runs a source with its trace, and parts what it puts into its output and its lines on err, in the order in which it puts them.
+
+Out and err are one pipe, which keeps the order. The source lies in a file whose name the program can't know, so that what has this name
+in it is a line of the trace, and no output that looks like one."""
 import dataclasses
-import select
-import socket
+import itertools
+import os
+import re
+import secrets
 import subprocess
 import tempfile
-import time
+import threading
 
-PIECE = 1 << 18     # bytes that a program puts at once, at most
-LOOK = 0.05         # seconds from one look at a program that puts nothing to the next
+PIECE = 1 << 16     # bytes that are read at once
+LINE = rb'((?:start|resume|yield|quit|abandon) (?:%b|prelude):\d+ \d+\n|(?:(?:%b|prelude):\d+[^\n]*|%b)\n\Z)'
+ENDS = {122: b'fuel spent', 125: b'out of memory'}      # the lines without a place that a run ends with, by their status
 
 
 @dataclasses.dataclass
 class Traced:
-    """What a traced run has left: its output, what it has put on err, for each line of that how many bytes of output stand before
-    it, and the status, or None where the run was ended from here."""
+    """What a traced run has left: its output, its lines on err, of each how many bytes of output stand before it, and the status, or
+    None where the run was ended from here."""
     output: bytes
     lines: bytes
     shown: list
     status: int | None
 
 
-@contextlib.contextmanager
-def ears():
-    """A socket that hears what is put on two others, and these two. A pipe for each would lose the order, one for both would mix
-    them."""
-    with contextlib.ExitStack() as stack:
-        heard, out, err = (stack.enter_context(socket.socket(socket.AF_UNIX, socket.SOCK_DGRAM)) for _ in range(3))
-        for one in (heard, out, err):
-            one.bind('')
-        for one in (out, err):
-            one.connect(heard.getsockname())
-        yield heard, out, err
+@dataclasses.dataclass
+class Most:
+    """The most that is kept of a run, and the most seconds that it may take."""
+    lines: int
+    output: int
+    seconds: int
 
 
-def pieces(run, heard, seconds):
-    """What a run puts and which socket it is put on, piece by piece, to its end or until so many seconds are over."""
-    until = time.monotonic() + seconds
-    while time.monotonic() < until:
-        has_ended = run.poll() is not None
-        if select.select([heard], [], [], 0 if has_ended else LOOK)[0]:
-            yield heard.recvfrom(PIECE)
-        elif has_ended:
-            return
+def put_by(run, name, most):
+    """What a run puts, and whether it is more than is kept."""
+    text, lines = bytearray(), 0
+    while piece := run.stdout.read1(PIECE):
+        text += piece
+        lines += piece.count(name)
+        if lines > most.lines or len(text) > most.output:
+            return bytes(text), True
+    return bytes(text), False
 
 
-def traced(words, folder, given, most_lines, most_output, seconds):
-    """Runs a command in a folder with this input, and ends it where it puts more, or takes longer. Of the lines as many are kept."""
-    output, lines, shown = bytearray(), bytearray(), []
-    with tempfile.TemporaryFile() as put_in, ears() as (heard, out, err):
-        put_in.write(given)
-        put_in.seek(0)
-        with subprocess.Popen(words, cwd=folder, stdin=put_in, stdout=out, stderr=err) as run:
-            for text, sender in pieces(run, heard, seconds):
-                if sender == out.getsockname():
-                    output += text
-                else:
-                    lines += text
-                    shown += [len(output)] * text.count(b'\n')
-                if len(shown) > most_lines or len(output) > most_output:
-                    break
-            run.kill()      # nothing to a run that has ended
-    is_cut = len(shown) > most_lines or len(output) > most_output
-    if len(shown) > most_lines:
-        lines = b''.join(line + b'\n' for line in lines.split(b'\n')[:most_lines])
-    return Traced(bytes(output), bytes(lines), shown[:most_lines], None if is_cut or run.returncode < 0 else run.returncode)
+def parted(text, status, hidden, name, most):
+    """The output, the lines, and how much of the output stands before each. The lines have the name that isn't hidden."""
+    pieces = re.split(LINE % (hidden, hidden, ENDS.get(status, b'(?!)')), text)[:2 * most.lines + 1]
+    shown = list(itertools.accumulate(map(len, pieces[0::2])))
+    lines = b''.join(pieces[1::2]).replace(hidden, name.encode())
+    return b''.join(pieces[0::2]), lines, shown[:len(pieces) // 2]
+
+
+def traced(words, name, source, given, most):
+    """What a source leaves with an input where it is run by these words and the name of its file. Its lines call it by the given
+    name."""
+    hidden = secrets.token_hex(8) + '.sa'
+    with tempfile.TemporaryDirectory() as folder:
+        for file_name, text in ((hidden, source), ('input', given)):
+            with open(os.path.join(folder, file_name), 'wb') as file:
+                file.write(text)
+        with open(os.path.join(folder, 'input'), 'rb') as put_in, \
+                subprocess.Popen([*words, hidden], cwd=folder, stdin=put_in, stdout=subprocess.PIPE, stderr=subprocess.STDOUT) as run:
+            clock = threading.Timer(most.seconds, run.kill)
+            clock.start()
+            text, is_cut = put_by(run, hidden.encode(), most)
+            if is_cut:
+                run.kill()
+            run.wait()
+            clock.cancel()
+    status = None if is_cut or run.returncode < 0 else run.returncode
+    return Traced(*parted(text, status, hidden.encode(), name, most), status)
