@@ -35,17 +35,24 @@ def example(name, event):
     return shown
 
 
+def type_own(page, source):
+    """The page with a program of one's own."""
+    page.value("location.hash = 'own'")
+    page.wait("picker.value === 'own'")
+    web.write(page, source)
+
+
 def lesson(text, event):
     """The page with the iters of a program of docs/ITERS.md, as it is run there."""
     def shown(page):
-        web.write(page, of_lessons(text))
+        type_own(page, of_lessons(text))
         page.value('busy(showIters).then(() => picture.go(%d))' % (event - 1))
     return shown
 
 
 def refusal(page):
     """The page with a program that is refused."""
-    web.write(page, of_lessons('first ::= "text".elt!'))
+    type_own(page, of_lessons('first ::= "text".elt!'))
     web.run(page)
 
 
@@ -53,10 +60,10 @@ def refusal(page):
 PICTURES = [
     ('wide', WIDE, False, example('fringe', 25)),
     ('dark', WIDE, True, lesson('steps!(once task:ITER)', 60)),
-    ('narrow', NARROW, False, example('squares', 12)),
+    ('narrow', NARROW, False, example('fringe', 25)),
     ('refusal', (1280, 640), False, refusal),
     ('nested', (1280, 720), False, lesson('below!(9)', 8)),
-    ('walk', WIDE, False, lesson('left.walk!', 60)),
+    ('walk', WIDE, False, lesson('left.walk!', 55)),
 ]
 
 
