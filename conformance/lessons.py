@@ -108,4 +108,7 @@ def two_sites(page):
     expect('whether it is told that the picture is an old one', False, page.value("byId('stale').checkVisibility()"))
 
 
-LESSONS = [('a lesson: the first loop', first_loop), ('a lesson: the walk of a tree', walk), ('a lesson: two sites are two instances', two_sites)]
+LESSONS = [
+    ('a lesson: the first loop', first_loop), ('a lesson: the walk of a tree', walk),
+    ('a lesson: two sites are two instances', two_sites),
+]

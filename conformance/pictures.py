@@ -72,7 +72,9 @@ def keep(name, picture):
     path = os.path.join(FOLDER, name + '.png')
     with open(path, 'wb') as file:
         file.write(picture)
-    for words in (['pngquant', '--force', '--skip-if-larger', '--ext', '.png', '128', path], ['optipng', '-quiet', '-o4', '-strip', 'all', path]):
+    quantized = ['pngquant', '--force', '--skip-if-larger', '--ext', '.png', '128', path]
+    packed = ['optipng', '-quiet', '-o4', '-strip', 'all', path]
+    for words in (quantized, packed):
         if shutil.which(words[0]):
             subprocess.run(words, check=True)
     size = os.path.getsize(path)

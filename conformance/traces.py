@@ -146,9 +146,9 @@ def unlike_page(program, example):
         told = together if parted(block)[1] else apart
         if not FITS[how](told, block):
             return 'the page says that it %s %s, and it tells %s' % (how, report.shown(block, told), report.shown(told, block))
-    if unread := [block for block in example.pieces[1::2] if LINE.search(block.encode()) and block.encode() not in [one for _, one in shown]]:
-        return 'the text before the trace that begins %r doesn\'t say what it is' % unread[0][:40]
-    return None
+    read = [block.decode() for _, block in shown]
+    unread = [block for block in example.pieces[1::2] if LINE.search(block.encode()) and block not in read]
+    return 'the text before the trace that begins %r doesn\'t say what it is' % unread[0][:40] if unread else None
 
 
 def try_page(program, told, word):

@@ -427,7 +427,8 @@ def opens_as_a_file(page):
 
 
 TRIES = [
-    ('a program that is typed runs', is_typed_and_run), ('what is typed is kept', is_kept), ('a source is highlighted as it stands', is_highlighted),
+    ('a program that is typed runs', is_typed_and_run), ('what is typed is kept', is_kept),
+    ('a source is highlighted as it stands', is_highlighted),
     ('a program reads its input', gets_its_input), ('a refusal is marked in its line', is_refused),
     ('a fault is marked in its line', has_a_fault), ('a run ends by itself when its time is up', ends_by_itself),
     ('a run is stopped', is_stopped), ('a run that puts out too much is ended', puts_out_too_much),
