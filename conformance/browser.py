@@ -33,6 +33,16 @@ class Failed(Exception):
     """What the browser, or a script on the page, has failed with."""
 
 
+class Differs(Exception):
+    """What a try of a page has found to be wrong."""
+
+
+def expect(what, wanted, came):
+    """Raises where something else came than was wanted."""
+    if wanted != came:
+        raise Differs('%s: expected %r, and came %r' % (what, wanted, came))
+
+
 def found():
     """The browser's program, or None."""
     return next((path for path in map(shutil.which, NAMES) if path), None)

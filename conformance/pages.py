@@ -4,14 +4,12 @@
 Each block of docs/LANGUAGE.md, docs/ITERS.md and docs/MOVING.md that has a class MAIN is the program of a case in the folder
 `manual` of the table, and what the page says behind it is what the case wants: what it prints, the fault that stops it, the
 code that refuses it, or that it is accepted. Each case of that folder is an example of a page."""
-import os
 import re
 import sys
 
 import cases
 import report
 
-DOCS = os.path.join(os.path.dirname(os.path.abspath(__file__)), '..', 'docs')
 PAGES = ['LANGUAGE.md', 'ITERS.md', 'MOVING.md']
 FENCE = re.compile(r'^```.*\n', re.M)
 PRINTS_TEXT = re.compile(r'\nprints `([^`]*)`')
@@ -19,27 +17,42 @@ PRINTS_AND_TELLS = re.compile(r'\nprints `([^`]*)`, and with `--trace` it tells\
 PRINTS_BLOCK = re.compile(r'\nprints\s*')
 FAULT = re.compile(r'\nis the fault `([^`]*)` in line (\d+)')
 REFUSED = re.compile(r'\nis (E\d\d)(?: in line (\d+))?')
+TRACE = re.compile(r'`--trace`[^`.]*\b(tells|begins|ends)\b[^`.]*[.:]?\s*\Z')
 ACCEPTED = re.compile(r'\nis accepted')
 
 
 class Example:
-    """A program of a page, the text behind it, and the block that follows this text."""
+    """A program of a page, and the pieces behind it up to the next program, by turns text and blocks."""
 
-    def __init__(self, page, line, program, behind, block):
+    def __init__(self, page, line, program, pieces):
         self.place = '%s:%d' % (page, line)
-        self.program, self.behind, self.block = program, behind, block
+        self.program, self.pieces = program.encode(), pieces
+
+    @property
+    def behind(self):
+        """The text behind the program."""
+        return self.pieces[0]
+
+    @property
+    def block(self):
+        """The block that follows this text."""
+        return self.pieces[1].encode() if len(self.pieces) > 1 else b''
+
+    @property
+    def traces(self):
+        """What the page says that the program tells with `--trace`: whether it tells, begins or ends with it, and the text."""
+        for text, block in zip(self.pieces[0::2], self.pieces[1::2]):
+            if found := TRACE.search(text):
+                yield found.group(1), block.encode()
 
 
 def examples(page):
     """The programs of a page. Its pieces are by turns text and blocks."""
-    with open(os.path.join(DOCS, page), encoding='utf-8') as file:
-        text = file.read()
-    pieces = FENCE.split(text) + ['']
-    line = 1
-    for place, piece in enumerate(pieces[:-2]):
-        if place % 2 == 1 and 'class MAIN is' in piece:
-            yield Example(page, line, piece.encode(), pieces[place + 1], pieces[place + 2].encode())
-        line += piece.count('\n') + 1
+    pieces = FENCE.split(report.text_of('docs', page))
+    lines = [1 + sum(piece.count('\n') + 1 for piece in pieces[:place]) for place in range(len(pieces))]
+    places = [place for place in range(1, len(pieces), 2) if 'class MAIN is' in pieces[place]]
+    for place, end in zip(places, places[1:] + [len(pieces)]):
+        yield Example(page, lines[place], pieces[place], pieces[place + 1:end])
 
 
 def wanted(example):

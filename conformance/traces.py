@@ -11,15 +11,20 @@ device, the examples, and N random ones, 100 without --count, from the number S 
 - where TREE is given, the program `typed_tree`, the lines are those of the events that the run of the tree has by the written
   meaning (meaning.py). Of a program whose fuel is spent they are a front of these.
 
+What docs/ITERS.md shows of traces has to be what the programs there tell: all of it, or what it begins or ends with, as the page
+says. A block that has lines of the output too is what out and err take together.
+
 Prints each program that differs, and a last line 'N passed, M failed'; the status is 1 where any failed."""
 import argparse
 import functools
 import glob
 import os
 import re
+import subprocess
 import sys
 
 import meaning
+import pages
 import programs
 import random_programs
 import report
@@ -128,6 +133,32 @@ def tried(program, tree_program, task):
     return turns.Tried(wrong=wrong)
 
 
+FITS = {'tells': bytes.__eq__, 'begins': bytes.startswith, 'ends': bytes.endswith}
+
+
+def unlike_page(program, example):
+    """Where what a program of a page tells isn't what the page shows of it, or None."""
+    with report.folder_with({'f.sa': example.program}) as folder:
+        words = [program, 'run', '--trace', 'f.sa']
+        apart, together = report.run(words, folder).lines, report.run(words, folder, stderr=subprocess.STDOUT).output
+    shown = list(example.traces)
+    for how, block in shown:
+        told = together if parted(block)[1] else apart
+        if not FITS[how](told, block):
+            return 'the page says that it %s %s, and it tells %s' % (how, report.shown(block, told), report.shown(told, block))
+    read = [block.decode() for _, block in shown]
+    unread = [block for block in example.pieces[1::2] if LINE.search(block.encode()) and block not in read]
+    return 'the text before the trace that begins %r doesn\'t say what it is' % unread[0][:40] if unread else None
+
+
+def try_page(program, told, word):
+    """Tries what a page shows of traces."""
+    examples = [one for one in pages.examples('ITERS.md') if word in one.place]
+    told.part('programs of docs/ITERS.md', len(examples))
+    for example, wrong in zip(examples, report.side_by_side(functools.partial(unlike_page, program), examples)):
+        told.count('%s, with --trace' % example.place, wrong)
+
+
 def tasks(word, seed, count):
     """Each program: its name, its files, the words behind `run`, and its input."""
     for case in programs.programs(word):
@@ -141,6 +172,7 @@ def tasks(word, seed, count):
 
 def try_all(program, told, word='', tree_program=None, seed=0, count=100):
     """Tries the traces of the programs whose names hold the word."""
+    try_page(program, told, word)
     every = list(tasks(word, seed, count))
     told.part('traces of iters', len(every))
     for task, one in zip(every, report.side_by_side(functools.partial(tried, program, tree_program), every)):

@@ -6,13 +6,14 @@ Tries the page of hosts/web, which `serve` serves with the program:
 - what the server refuses, which needs no browser;
 - that examples.js is what `gather` writes;
 - in a Chromium without a window: programs that are typed, run, refused, stopped, and end by themselves; each example, with its
-  output; the picture of live iters and its steps; the page on a narrow screen, in the dark and by keyboard alone; and the page as
-  a file that is opened.
+  output; the picture of live iters and its steps; the page on a narrow screen, in the dark and by keyboard alone; three lessons
+  (lessons.py); and the page as a file that is opened.
 
 --pictures keeps pictures of the page in a folder. --only takes the tries whose names hold a word. Where there is no Chromium, the
 tries in it are left out, and that is told."""
 import argparse
 import contextlib
+import functools
 import http.client
 import importlib.machinery
 import importlib.util
@@ -24,11 +25,14 @@ from urllib.parse import urlsplit
 
 import browser
 import examples
+import lessons
 import report
+from browser import expect
 
 WEB = os.path.realpath(os.path.join(os.path.dirname(os.path.abspath(__file__)), '..', 'hosts', 'web'))
 CONTROL, SHIFT = browser.CONTROL, browser.SHIFT
 COUNTS = 'class MAIN is\nmain is\nloop #OUT + 1.upto!(3) + " "; end;\nend;\nend;\n'
+INDENTED = 'class MAIN is\n   main is\n      loop\n         #OUT + 1.upto!(3) + " ";\n      end;\n   end;\nend;\n'
 COPY = 'class MAIN is main is loop b ::= #IN.get_byte; while!(b >= 0); #OUT + b.char; end; end; end;'
 ENDLESS = 'class MAIN is main is #OUT + "begun"; loop end; end; end;'
 REFUSED = 'class MAIN is\n   main is\n      x ::= 3 +;\n   end;\nend;\n'
@@ -102,21 +106,12 @@ FOCUSED = '''(() => {
 STOPS = ['example', 'run', 'trace', 'source', 'input', 'output', 'first', 'back', 'forward', 'last', 'play', 'slider', 'lanes', 'SUMMARY']
 
 
-class Differs(Exception):
-    """What a try has found to be wrong."""
-
-
-def expect(what, wanted, came):
-    """Raises where something else came than was wanted."""
-    if wanted != came:
-        raise Differs('%s: expected %r, and came %r' % (what, wanted, came))
-
-
 def gather():
     """The script `gather` as a module."""
     loader = importlib.machinery.SourceFileLoader('gather', os.path.join(WEB, 'gather'))
     module = importlib.util.module_from_spec(importlib.util.spec_from_loader('gather', loader))
     sys.dont_write_bytecode = True
+    sys.path.append(WEB)
     loader.exec_module(module)
     return module
 
@@ -191,7 +186,10 @@ def script_differs(program):
     """Where examples.js is something else than `gather` writes, or None."""
     writer = gather()
     stands = {one['name']: one for one in writer.read_script()}
-    trace = (lambda name: writer.trace_of(program, name)) if traces(program) else (lambda name: stands.get(name, {}).get('trace', ''))
+
+    def stood(name):
+        return stands[name]['trace'], stands[name]['shown']
+    trace = functools.partial(writer.trace_of, program) if traces(program) else stood
     wanted = writer.script(writer.gathered(trace))
     with open(writer.WRITTEN, encoding='utf-8') as file:
         return None if file.read() == wanted else 'it isn\'t as `hosts/web/gather PROGRAM` writes it'
@@ -219,9 +217,24 @@ def run(page):
 
 
 def is_typed_and_run(page):
-    fill(page, COUNTS.replace('loop ', 'loop\n'))
-    expect('the source', 'class MAIN is\n   main is\n      loop\n         #OUT', page.value('editor.text.slice(0, 49)'))
+    fill(page, COUNTS.replace('loop ', 'loop\n').replace(' end;', '\nend;'))
+    expect('the source', INDENTED, page.value('editor.text'))
     expect('the output', ['1 2 3 ', 'Ended.'], run(page))
+
+
+def is_kept(page):
+    """What was typed is there when the page is loaded anew, and when one comes back from an example."""
+    page.value("location.hash = 'hello'")
+    page.wait("picker.value === 'hello'")
+    fill(page, 'class MAIN is main is end; end;')
+    expect('what is picked', ['own', '#own'], page.value('[picker.value, location.hash]'))
+    page.value("location.hash = 'verse'")
+    page.wait("picker.value === 'verse'")
+    page.value("location.hash = 'own'")
+    page.wait("picker.value === 'own'")
+    expect('the source', 'class MAIN is main is end; end;', page.value('editor.text'))
+    page.open(page.value('location.href'))
+    expect('the source', 'class MAIN is main is end; end;', page.value('editor.text'))
 
 
 def is_highlighted(page):
@@ -302,6 +315,18 @@ def steps(page):
     expect('a step back', 'Event 10 of 11: upto! 0 ends, and its loop with it.', page.value(words))
 
 
+def draws_what_a_terminal_shows(page):
+    """A trace with the output between its lines is drawn with this output."""
+    lines = SUMS_TRACE.splitlines(keepends=True)
+    write(page, SUMS)
+    page.value("document.querySelector('details').open = true, byId('recorded').value = %s, byId('draw').click()"
+               % browser.json.dumps(''.join([*lines[:4], '1 ', *lines[4:8], '3 ', *lines[8:], '\n'])))
+    expect('the lanes', ['main', 'upto! 0', 'sum! 1'], page.value(LANES))
+    page.value('picture.go(3)')
+    expect('what is put out in the time of the event', ['1 3 \n', '1 '],
+           page.value("[output.textContent, output.querySelector('.is-now').textContent]"))
+
+
 def draws_nested_lives(page):
     page.value("location.hash = 'fringe'")
     page.wait("picker.value === 'fringe'")
@@ -331,6 +356,18 @@ def stops_traces(page):
     expect('the end', 'Stopped: the picture has its first 20000 events.', page.value('ended.textContent'))
     page.value('picture.go(15000)')
     expect('the cursor', 15000, page.value('picture.at'))
+
+
+def shows_it_at_once(page):
+    """Source, output and lanes are on the screen together, and one step is seen in each."""
+    page.size(1280, 800)
+    page.value("location.hash = 'squares'")
+    page.wait("picker.value === 'squares' && picture.events.length")
+    page.value("scrollTo(0, 0), document.querySelector('[data-part=forward]').click()")
+    expect('what is below the screen', [], page.value("""['source', 'output', 'ended'].map(byId).concat(picture.lanes)
+      .filter((one) => (one.closest('.editor') ?? one).getBoundingClientRect().bottom > innerHeight).map((one) => one.id)"""))
+    expect('what is put out in the time of the event', '1 makes 1\n', page.value("output.querySelector('.is-now').textContent"))
+    page.size(1280, 900)
 
 
 def looks_right(page):
@@ -390,18 +427,22 @@ def opens_as_a_file(page):
 
 
 TRIES = [
-    ('a program that is typed runs', is_typed_and_run), ('a source is highlighted as it stands', is_highlighted),
+    ('a program that is typed runs', is_typed_and_run), ('what is typed is kept', is_kept),
+    ('a source is highlighted as it stands', is_highlighted),
     ('a program reads its input', gets_its_input), ('a refusal is marked in its line', is_refused),
     ('a fault is marked in its line', has_a_fault), ('a run ends by itself when its time is up', ends_by_itself),
     ('a run is stopped', is_stopped), ('a run that puts out too much is ended', puts_out_too_much),
     ('a trace that was recorded is drawn', draws_lives), ('the picture goes forward and back', steps),
+    ('what a terminal shows of a traced run is drawn', draws_what_a_terminal_shows),
     ('lanes are drawn inside one another', draws_nested_lives),
+    ('source, output and lanes are seen together', shows_it_at_once),
     ('the page looks right on each screen, in the light and in the dark', looks_right),
     ('the page needs no mouse', needs_no_mouse),
     *(('examples/%s.sa' % name, runs_example(name)) for name in examples.names()),
     ('the page opens as a file', opens_as_a_file),
 ]
-TRACED = [('what is typed is traced', traces_what_is_typed), ('a trace without end is cut', stops_traces)]
+TRACED = [('what is typed is traced', traces_what_is_typed), ('a trace without end is cut', stops_traces),
+          *lessons.LESSONS]
 
 
 def in_browser(page, name, try_it, folder):
@@ -412,7 +453,7 @@ def in_browser(page, name, try_it, folder):
         if folder:
             with open(os.path.join(folder, name.replace('/', ' ') + '.png'), 'wb') as file:
                 file.write(page.picture())
-    except (Differs, browser.Failed) as error:
+    except (browser.Differs, browser.Failed) as error:
         return str(error)
     # A refusal is answered by a status that the browser takes for an error.
     complaints = [text for text in page.complaints if '422' not in text]

@@ -1,8 +1,19 @@
 // The editor: a text area whose text is seen through it, highlighted, in the lines below. Lines can be marked, with a note behind them.
 'use strict';
 
-const OPENS = /\b(?:is|then|else|loop|protect)\s*(?:--.*)?$/;
+const OPENS = ['is', 'if', 'loop', 'case', 'typecase', 'protect'];
+const CLOSES = /^ +(?:end|else|elsif|when)[; ]?$/;
 const STEP = '   ';
+
+// Where the line behind this one begins: a step further in for each block that it opens, and further out for each that it closes. The
+// word that a line begins with stands as far out already.
+function indentBehind(line) {
+  const words = piecesOfLine(line).filter(([kind]) => kind).map(([, text]) => text);
+  const count = (which) => words.filter((word) => which.includes(word)).length;
+  const stands = /^ *(?:end|else|elsif|when)\b/.test(line) ? 1 : 0;
+  const steps = /^ */.exec(line)[0].length / STEP.length + count(OPENS) - count(['end']) + stands;
+  return STEP.repeat(Math.max(0, Math.floor(steps)));
+}
 
 function spanOf(name, ...inside) {
   const span = document.createElement('span');
@@ -24,7 +35,8 @@ class Editor {
     this.lines = lines;
     this.texts = [];
     this.marks = new Map();
-    area.addEventListener('input', () => {
+    area.addEventListener('input', ({inputType, data}) => {
+      if (inputType === 'insertText' && (data === ';' || data === ' ')) this.stepOut();
       this.draw();
       changed();
     });
@@ -57,13 +69,31 @@ class Editor {
     this.texts = now;
   }
 
+  // The lines up to the place where something is typed, the last of them up to this place.
+  get front() {
+    return this.text.slice(0, this.area.selectionStart).split('\n');
+  }
+
   // A new line begins where the one before it does, or a step further in where that opens a block.
   keepIndent(event) {
     if (event.key !== 'Enter' || event.isComposing || event.ctrlKey || event.metaKey) return;
     event.preventDefault();
-    const front = this.text.slice(0, this.area.selectionStart).split('\n').at(-1);
-    const indent = /^ */.exec(front)[0] + (OPENS.test(front) ? STEP : '');
-    document.execCommand('insertText', false, `\n${indent}`);
+    this.stepOut();
+    document.execCommand('insertText', false, `\n${indentBehind(this.front.at(-1))}`);
+  }
+
+  // A word that closes a block or a part of it goes a step out, where it stands first in a line that is as far in as the block.
+  stepOut() {
+    const lines = this.front;
+    const line = lines.pop();
+    const indent = /^ */.exec(line)[0];
+    const before = lines.findLast((one) => one.trim()) ?? '';
+    if (!CLOSES.test(line) || indent !== indentBehind(before)) return;
+    const at = this.area.selectionStart;
+    const start = at - line.length;
+    this.area.setSelectionRange(start, start + STEP.length);
+    document.execCommand('delete');
+    this.area.setSelectionRange(at - STEP.length, at - STEP.length);
   }
 
   clearMarks(kind) {

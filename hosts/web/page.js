@@ -2,7 +2,6 @@
 // the examples with their output, and pictures of traces that were recorded.
 'use strict';
 
-const SOURCE_NAME = 'program.sa';
 const isServed = location.protocol.startsWith('http');
 const byId = (id) => document.getElementById(id);
 const [picker, about, told, output, ended, hint] = ['example', 'about', 'told', 'output', 'ended', 'hint'].map(byId);
@@ -11,6 +10,11 @@ const input = byId('input');
 
 let run = null;           // that is going on
 let pictured = '';        // the source that the picture belongs to
+let left = null;          // the bytes that its run put out, where they are known
+
+const ABOUT_OWN = isServed
+  ? 'Type a program. Control+Enter runs it.'
+  : 'Put a program here, and draw a trace of it.';
 
 const HINTS = {
   served: 'Show iters runs the program beside the server, with its input, and draws each iter that it starts.',
@@ -19,13 +23,48 @@ const HINTS = {
   none: 'The program has started no iter.',
 };
 
-const editor = new Editor(byId('source'), byId('lines'), () => tell(told, ''));
-const picture = new Picture(byId('picture'), ({file, line}) => {
-  const isHere = !file.endsWith('prelude');
-  byId('event-line').replaceChildren(lineNode(isHere ? pictured.split('\n')[line - 1] ?? '' : ''));
-  if (editor.text === pictured && isHere) editor.mark('is-event', line);
-  else editor.clearMarks('is-event');
+// What is typed is a program of one's own, which is kept while the window is open. It begins as this one.
+const OWN = 'own';
+const EMPTY = 'class MAIN is\n   main is\n      \n   end;\nend;\n';
+
+const editor = new Editor(byId('source'), byId('lines'), () => {
+  tell(told, '');
+  keepOwn();
 });
+const picture = new Picture(byId('picture'), (event, next) => {
+  const isHere = !event.file.endsWith('prelude');
+  byId('event-line').replaceChildren(lineNode(isHere ? pictured.split('\n')[event.line - 1] ?? '' : ''));
+  if (editor.text === pictured && isHere) editor.mark('is-event', event.line);
+  else editor.clearMarks('is-event');
+  if (left && !run) showOutput(left, event.shown, next?.shown ?? left.length);
+});
+
+// Shows an output, of which the bytes from `before` to `now` are those put out in the time of an event.
+function showOutput(bytes, before, now) {
+  const part = (from, to) => new TextDecoder().decode(bytes.subarray(from, to));
+  const piece = spanOf('is-now', part(before, now));
+  output.replaceChildren(part(0, before), piece, spanOf('is-to-come', part(now)));
+  const [top, height] = [piece.offsetTop - output.offsetTop, piece.offsetHeight];
+  if (top < output.scrollTop) output.scrollTop = top;
+  else if (top + height > output.scrollTop + output.clientHeight) output.scrollTop = top + height - output.clientHeight;
+}
+
+// Keeps what was typed, and says where the picture is that of another text.
+function keepOwn() {
+  sessionStorage.setItem('source', editor.text);
+  sessionStorage.setItem('input', input.value);
+  if (picker.value !== OWN) {
+    picker.value = OWN;
+    history.replaceState(null, '', `#${OWN}`);
+    about.textContent = ABOUT_OWN;
+  }
+  byId('stale').hidden = editor.text === pictured;
+}
+
+function ownProgram() {
+  const [source, given] = ['source', 'input'].map((name) => sessionStorage.getItem(name));
+  return {name: OWN, source: source ?? EMPTY, input: given ?? '', output: '', trace: '', shown: []};
+}
 
 function tell(where, text, isWrong) {
   where.textContent = text;
@@ -80,26 +119,31 @@ async function runHere() {
   stopButton.disabled = true;
   tell(ended, wordsOfEnd(how), how.cause);
   // A module tells the number of a fault; the program tells its line.
-  if (how.cause?.startsWith('stop ')) tellPlace((await runThere(source, given, false)).lines);
+  if (how.cause?.startsWith('stop ')) tellPlace(await linesThere(source, given));
   return undefined;
 }
 
 async function showIters() {
   const [source, given] = [editor.text, input.value];
   tell(ended, 'Running.');
-  const left = await runThere(source, given, true);
-  output.textContent = left.output;
-  const trace = readTrace(left.lines);
-  const isCut = left.status === null;
-  const place = readPlace(left.lines);
-  if (place?.code.startsWith('E')) picture.show([], () => '');
-  else draw(source, trace);
+  const told = await traceThere(source, given);
+  const trace = readTrace(told.lines, told.shown);
+  tell(ended, told.status === null ? wordsOfCut(trace.events.length) : '');
+  output.textContent = new TextDecoder().decode(told.output);
+  const isRefused = readPlace(told.lines)?.code.startsWith('E');
+  draw(source, isRefused ? {events: []} : trace, told.output);
+  if (isRefused) hint.textContent = HINTS.served;
   if (trace.others.length) tellPlace(trace.others.join('\n'));
-  tell(ended, isCut ? `Stopped: the picture has its first ${trace.events.length} events.` : '');
+  if (trace.events.length) picture.take();
 }
 
-// Draws the events of a trace of a source.
-function draw(source, trace) {
+// What is told of a traced run that the server has ended.
+function wordsOfCut(count) {
+  return count ? `Stopped: the picture has its first ${count} events.` : `Stopped: it was running for ${RUN_SECONDS} seconds.`;
+}
+
+// Draws the events of a trace of a source, beside the output of the same run where that is known.
+function draw(source, trace, bytes = null) {
   const lines = source.split('\n');
   const calls = new Map();
   const nameOf = (file, line, place) => {
@@ -109,33 +153,39 @@ function draw(source, trace) {
     return names[place % names.length] ?? 'iter';
   };
   hint.textContent = HINTS.none;
-  pictured = source;
+  [pictured, left] = [source, bytes];
+  byId('stale').hidden = true;
   picture.show(trace.events, nameOf);
 }
 
 function pick(name) {
-  const example = EXAMPLES.find((one) => one.name === name) ?? EXAMPLES[0];
+  const example = name === OWN ? ownProgram() : EXAMPLES.find((one) => one.name === name) ?? EXAMPLES[0];
   run?.stop();
   clear();
   picker.value = example.name;
   editor.text = example.source;
   input.value = example.input;
-  about.textContent = `Shows ${example.shows}.`;
+  about.textContent = name === OWN ? ABOUT_OWN : `Shows ${example.shows}.`;
   if (!isServed) output.textContent = example.output;
-  pictured = example.source;
-  if (example.trace) draw(example.source, readTrace(example.trace));
-  else picture.show([], () => '');
+  draw(example.source, readTrace(example.trace, example.shown), new TextEncoder().encode(example.output));
   if (!example.trace) hint.textContent = isServed ? HINTS.served : HINTS.alone;
   document.querySelector('.editor').scrollTo(0, 0);
+  if (example.source === EMPTY) editor.area.selectionStart = editor.area.selectionEnd = EMPTY.indexOf('\n   end');
 }
 
+// Draws what was recorded of a run of the source.
 function drawRecorded(text) {
-  const trace = readTrace(text);
-  draw(editor.text, trace);
+  const recorded = partRecorded(text);
+  const trace = readTrace(recorded.lines, recorded.shown);
+  tell(told, '');
+  draw(editor.text, trace, recorded.output);
   if (trace.events.length === 0) hint.textContent = 'No line of it tells an event.';
+  if (trace.others.length) tellPlace(trace.others.join('\n'));
+  if (trace.events.length) picture.take();
 }
 
-picker.append(...EXAMPLES.map(({name, does}) => new Option(`${name}: ${does}`, name)));
+input.oninput = () => picker.value === OWN && keepOwn();
+picker.append(new Option('a program of your own', OWN), ...EXAMPLES.map(({name, does}) => new Option(`${name}: ${does}`, name)));
 picker.onchange = () => {
   history.replaceState(null, '', `#${picker.value}`);
   pick(picker.value);

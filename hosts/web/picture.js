@@ -49,6 +49,7 @@ function rowsOf(lives) {
   return rows;
 }
 
+// `stepped` is told the event that the cursor has come to, and the one behind it, if there is one.
 class Picture {
   constructor(root, stepped) {
     const find = (name) => root.querySelector(`[data-part="${name}"]`);
@@ -64,6 +65,7 @@ class Picture {
     this.playButton.onclick = () => this.play(!this.playing);
     this.slider.oninput = () => this.go(Number(this.slider.value));
     this.lanes.onclick = (event) => this.goTo(event);
+    this.lanes.onkeydown = (event) => this.goByKey(event);
     new ResizeObserver(() => this.draw()).observe(this.lanes);
   }
 
@@ -101,7 +103,7 @@ class Picture {
     this.slider.setAttribute('aria-valuetext', words);
     this.draw();
     this.drawStack();
-    this.stepped(event);
+    this.stepped(event, this.events[now + 1]);
     if (now === this.events.length - 1) this.play(false);
   }
 
@@ -109,6 +111,20 @@ class Picture {
     const box = this.lanes.getBoundingClientRect();
     const column = Math.floor((click.clientX - box.left - this.labelWidth) / this.column);
     if (column >= 0) this.go(this.from + column);
+  }
+
+  // Keys step in the lanes as they do in the slider.
+  goByKey(event) {
+    const places = {ArrowLeft: this.at - 1, ArrowRight: this.at + 1, Home: 0, End: this.events.length - 1};
+    if (!(event.key in places) || event.altKey || event.ctrlKey || event.metaKey) return;
+    event.preventDefault();
+    this.go(places[event.key]);
+  }
+
+  // Comes into view, and gets the keys.
+  take() {
+    this.lanes.focus({preventScroll: true});
+    if (this.lanes.getBoundingClientRect().bottom > innerHeight) this.root.scrollIntoView();
   }
 
   play(isOn) {

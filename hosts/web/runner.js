@@ -20,11 +20,20 @@ async function compile(source) {
   return {module: await WebAssembly.compile(await answer.arrayBuffer())};
 }
 
-// What the program leaves in a run beside the server, with its trace or without it.
-async function runThere(source, input, isTraced) {
-  const answer = await post(isTraced ? 'trace' : 'run', {source, input});
+// The lines that a run beside the server leaves: those of its fault.
+async function linesThere(source, input) {
+  const answer = await post('run', {source, input});
   if (!answer.ok) throw new Error(await answer.text());
-  return answer.json();
+  return answer.text();
+}
+
+// What a traced run beside the server leaves: its output as bytes, its lines, of each line how many of these bytes stand before it, and
+// the status, which is null where the server ended it.
+async function traceThere(source, input) {
+  const answer = await post('trace', {source, input});
+  if (!answer.ok) throw new Error(await answer.text());
+  const left = await answer.json();
+  return {...left, output: Uint8Array.from(atob(left.output), (sign) => sign.charCodeAt(0))};
 }
 
 // A run of a module with an input. `show` is given the output piece by piece; `ended` is what the run has come to: a status or a

@@ -5,18 +5,42 @@
 'use strict';
 
 const EVENT = /^(start|resume|yield|quit|abandon) (.+):(\d+) (\d+)$/;
+const RECORDED = /^(.*?)((?:start|resume|yield|quit|abandon) \S+:\d+ \d+|^\S+:\d+: fault: .*)\r?\n?$/;
 const REFUSAL = /^(.+?):(\d+)(?::(\d+))?: (E\d\d|fault): (.*)$/;
 
-// The events of a trace, and the lines that are none.
-function readTrace(text) {
+// The events of a trace, and the lines that are none. `shown` has for each line how many bytes of the output stand before it.
+function readTrace(text, shown = []) {
   const events = [];
   const others = [];
-  for (const line of text.split('\n')) {
+  text.split('\n').forEach((line, place) => {
     const found = EVENT.exec(line);
-    if (found) events.push({kind: found[1], file: found[2], line: Number(found[3]), number: Number(found[4])});
-    else if (line) others.push(line);
-  }
+    if (found) {
+      const [, kind, file, inLine, number] = found;
+      events.push({kind, file, line: Number(inLine), number: Number(number), shown: shown[place]});
+    } else if (line) {
+      others.push(line);
+    }
+  });
   return {events, others};
+}
+
+// What a terminal shows of a traced run, or its lines alone, as the lines and the output, and of each line how many bytes of the output
+// stand before it.
+function partRecorded(text) {
+  const encoder = new TextEncoder();
+  const [lines, shown] = [[], []];
+  let [output, size] = ['', 0];
+  for (const line of text.split(/(?<=\n)/)) {
+    const found = RECORDED.exec(line);
+    const put = found ? found[1] : line;
+    output += put;
+    size += encoder.encode(put).length;
+    if (found) {
+      lines.push(found[2]);
+      shown.push(size);
+    }
+  }
+  return {lines: lines.join('\n'), shown, output: output.trim() ? encoder.encode(output) : null};
 }
 
 // The place that a line of the compiler or of a fault tells, or null.
@@ -112,4 +136,4 @@ function countAlive(events) {
   });
 }
 
-if (typeof module !== 'undefined') module.exports = {readTrace, readPlace, readLives, stateAt, countAlive};
+if (typeof module !== 'undefined') module.exports = {readTrace, partRecorded, readPlace, readLives, stateAt, countAlive};
