@@ -35,13 +35,15 @@ classes = record (new_rule (codes "classes")) { required = true }
 abbrev pub running : App → App
 running app = with_rule (with_rule app (option (codes "fuel"))) (flag (codes "stats"))
 
+-- the options of a command that compiles a program
+abbrev pub compiling : App → App
+compiling app = with_rule (with_rule app (option (codes "room"))) (flag (codes "contracts"))
+
 abbrev pub run : App
-run =
-    let running_with_room = with_rule (running (new_app (codes "run"))) (option (codes "room")) in
-    with_rule (with_rule (with_rule running_with_room (flag (codes "contracts"))) (flag (codes "trace"))) files
+run = with_rule (with_rule (compiling (running (new_app (codes "run")))) (flag (codes "trace"))) files
 
 abbrev pub build : App
-build = with_rule (with_rule (with_rule (with_rule (new_app (codes "build")) (option (codes "room"))) (flag (codes "contracts"))) out) files
+build = with_rule (with_rule (compiling (new_app (codes "build"))) out) files
 
 abbrev pub check : App
 check = with_rule (with_rule (new_app (codes "check")) (flag (codes "contracts"))) files

@@ -76,13 +76,21 @@ fn running<'a>(alloc: Global, command: Command<'a>) -> Result<Command<'a>, Alloc
         .arg(flag(alloc, "stats"))
 }
 
+/// The options of a command that compiles a program: `[--room KIB] [--contracts]`
+fn compiling<'a>(alloc: Global, command: Command<'a>) -> Result<Command<'a>, AllocError>
+    requires own { (out-Command command).has_globals ≡ false }
+    ensures { IfOk result (λ c. (app_of c ≡ line.compiling (app_of command.entry)) × ((out-Command c).has_globals ≡ false)) }
+{
+    command
+        .arg(option(alloc, "room"))?
+        .arg(flag(alloc, "contracts"))
+}
+
 /// `run [--fuel N] [--stats] [--room KIB] [--contracts] [--trace] FILE..`
 fn run<'a>(alloc: Global) -> Result<Command<'a>, AllocError>
     ensures { IfOk result (λ c. (app_of c ≡ line.run) × ((out-Command c).has_globals ≡ false)) }
 {
-    running(alloc, Command::new(alloc, "run"))?
-        .arg(option(alloc, "room"))?
-        .arg(flag(alloc, "contracts"))?
+    compiling(alloc, running(alloc, Command::new(alloc, "run"))?)?
         .arg(flag(alloc, "trace"))?
         .arg(files(alloc))
 }
@@ -91,9 +99,7 @@ fn run<'a>(alloc: Global) -> Result<Command<'a>, AllocError>
 fn build<'a>(alloc: Global) -> Result<Command<'a>, AllocError>
     ensures { IfOk result (λ c. (app_of c ≡ line.build) × ((out-Command c).has_globals ≡ false)) }
 {
-    Command::new(alloc, "build")
-        .arg(option(alloc, "room"))?
-        .arg(flag(alloc, "contracts"))?
+    compiling(alloc, Command::new(alloc, "build"))?
         .arg(out(alloc))?
         .arg(files(alloc))
 }
