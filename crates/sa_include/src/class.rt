@@ -22,7 +22,9 @@ pub(crate) fn flatten_class(
 ) -> Result<Flattened, NoMemory> {
     let class = item(program.classes, number as usize)?;
     let gathered = gather(alloc, program, resolved, maker, number)?;
-    let arrays = program.includes.second_with_array(number);
+    let arrays = program
+        .includes
+        .second_with_array(class.includes.as_slice());
     let judged = judge(alloc, class, &gathered, arrays)?;
     kept(alloc, gathered, judged)
 }

@@ -36,7 +36,7 @@ pub(crate) fn gather<'a>(
     };
     let same = Ty::Same(class.name.pos);
     for (place, include) in class.includes.as_slice().iter().enumerate() {
-        let included = held(program.includes.included(number, place))?;
+        let included = held(program.includes.included(&include.ty))?;
         let source = source_of(program, resolved, included)?;
         bring_clause(alloc, &source, include, place, &same, maker, &mut gathered)?;
     }

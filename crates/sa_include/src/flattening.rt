@@ -1,7 +1,8 @@
 //! The classes of a program with their features flattened.
 
-ghost use Rattle.std.specs.Prelude.{IfOk};
+ghost use Rattle.std.specs.Prelude.{IfOk, OnOk};
 ghost use Rattle.sa_include.specs.Flattened.{AreFlattened};
+ghost use Rattle.sa_include_names.specs.Refusals.{AreIncludesRight};
 
 use crate::budget::Budget;
 use crate::class::flatten_class;
@@ -27,6 +28,7 @@ use std::alloc::Global;
 /// [`MOST_FORMS`](crate::MOST_FORMS).
 pub fn flatten(alloc: Global, classes: &[Class]) -> Result<Flat, FrontFault>
     ensures flattened { IfOk result (λ flat. AreFlattened classes.now flat.classes) }
+    ensures right { OnOk result (AreIncludesRight classes.now) }
 {
     let includes = Includes::new(alloc, classes)?;
     let resolved = resolved(alloc, classes, &includes)?;
@@ -141,6 +143,7 @@ fn accepted_up_to(resolved: &[Flattened], from: usize) -> Result<usize, FrontFau
 }
 
 /// The classes without includes, each with the features that its includes bring and those of its own that stay.
+#[tactic(auto, using(crate::proofs::Nothing::puts_nothing))]
 fn whole_classes(
     alloc: Global,
     classes: &[Class],

@@ -1,1 +1,5 @@
 pub mod Stub
+pub mod Signatures
+pub mod Shapes
+pub mod Clashes
+pub mod Known

@@ -1,8 +1,11 @@
 //! Stubs that are left. A class that isn't partial has none.
 
-use crate::features::ClassFeatures;
+ghost use Rattle.std.specs.Prelude.{◌≡◌};
+ghost use Rattle.sa_include_conflicts.specs.Stub as spec;
+
+use crate::features::{ClassFeatures, is_stub};
 use crate::lists::is_set;
-use sa_tree::{Kind, NoMemory, Refusal, Rule};
+use sa_tree::{Feature, Kind, NoMemory, Refusal, Rule};
 
 /// The refusal, with E22 at its name, of the first stub that stays, of a class that isn't partial.
 ///
@@ -24,4 +27,28 @@ pub fn stub_left(
         }
     }
     Ok(None)
+}
+
+/// Whether a class that isn't partial has a stub among these features.
+pub fn keeps_stub(kind: Kind, features: &[Feature]) -> bool
+    ensures { result ≡ spec.keeps_stub kind features.now }
+{
+    match kind {
+        Kind::Partial => false,
+        Kind::Reference => has_stub(features),
+        Kind::Immutable => has_stub(features),
+        Kind::Abstract => has_stub(features),
+    }
+}
+
+#[tactic(auto, using(std::proofs::lemmas::List::Folds::list_any_more, std::proofs::lemmas::List::Folds::list_any_at))]
+fn has_stub(features: &[Feature]) -> bool
+    ensures { result ≡ spec.has_stub features.now }
+{
+    for feature in features {
+        if is_stub(feature) {
+            return true;
+        }
+    }
+    false
 }
