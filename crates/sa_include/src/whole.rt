@@ -50,10 +50,11 @@ fn try_features(alloc: Global, kind: Kind, features: &[Feature]) -> Result<(), N
     if keeps_stub(kind, features) {
         return Err(NoMemory);
     }
-    try_apart(alloc, features, is_immutable(kind))
+    try_apart(alloc, features, is_immutable(kind))?;
+    Ok(())
 }
 
-fn is_immutable(kind: Kind) -> bool
+pub(crate) fn is_immutable(kind: Kind) -> bool
     ensures { result ≡ is_immutable kind }
 {
     match kind {

@@ -1,40 +1,19 @@
 //! Which features of a class conflict: those that have two signatures which no call could tell apart.
 
+ghost use Rattle.std.specs.Prelude.{◌≡◌, IfOk, MatchOption, OnOk, Some};
+ghost use Rattle.sa_include_conflicts.specs.Known.{IsGroupOf, IsGroupedBy};
+ghost use Rattle.sa_include_conflicts.specs.Sharing.{AreGrouped, IsFirstConflict, NoConflict, groups_at};
+
 use crate::features::ClassFeatures;
+use crate::groups::{Groups, Marks};
 use crate::lists::is_set;
 use crate::shape::Shape;
 use crate::signature::{own_signature, writer_signature};
 use indexmap::IndexSet;
-use sa_graph::{entry, put};
+use sa_graph::entry;
 use sa_tree::{Feature, NoMemory};
 use sa_types::Sig;
 use std::alloc::Global;
-
-/// The groups that the signatures of a feature are in. Two features conflict where they have a group in common.
-#[derive(Clone, Copy)]
-pub(crate) struct Groups {
-    own: usize,
-    writer: Option<usize>,
-}
-
-impl Groups {
-    /// Whether one of them is marked.
-    pub(crate) fn is_marked(&self, marks: &[bool]) -> bool {
-        match self.writer {
-            Some(writer) => is_set(marks, self.own) || is_set(marks, writer),
-            None => is_set(marks, self.own),
-        }
-    }
-
-    /// Marks them.
-    pub(crate) fn mark(&self, marks: &mut [bool]) -> Result<(), NoMemory> {
-        put(marks, self.own, true)?;
-        match self.writer {
-            Some(writer) => put(marks, writer, true),
-            None => Ok(()),
-        }
-    }
-}
 
 /// Signatures in groups of those that conflict with one another. A group has the number of its first signature.
 #[derive(Drop)]
@@ -56,7 +35,9 @@ pub struct Conflicts {
 
 impl Conflicts {
     /// The groups of the feature at a place.
-    pub(crate) fn at(&self, place: usize) -> Result<Groups, NoMemory> {
+    pub(crate) fn at(&self, place: usize) -> Result<Groups, NoMemory>
+        ensures { IfOk result (λ groups. groups_at self.now place ≡ Some groups) }
+    {
         entry(self.of.as_slice(), place)
     }
 }
@@ -67,7 +48,10 @@ impl Conflicts {
 /// # Errors
 ///
 /// `NoMemory`.
-pub fn group_features(alloc: Global, features: &ClassFeatures<'_>) -> Result<Conflicts, NoMemory> {
+#[tactic(auto, using(crate::proofs::Grouping::groupings))]
+pub fn group_features(alloc: Global, features: &ClassFeatures<'_>) -> Result<Conflicts, NoMemory>
+    ensures { IfOk result (AreGrouped features.now) }
+{
     let mut grouping = Grouping {
         known: IndexSet::new(alloc),
         immutable: features.immutable,
@@ -81,17 +65,28 @@ pub fn group_features(alloc: Global, features: &ClassFeatures<'_>) -> Result<Con
 }
 
 impl Grouping {
-    fn groups_of(&mut self, alloc: Global, feature: &Feature) -> Result<Groups, NoMemory> {
+    /// The groups of the signatures of a feature.
+    #[tactic(auto, using(crate::proofs::Grouping::grouped_one, crate::proofs::Grouping::grouped_two))]
+    fn groups_of(&mut self, alloc: Global, feature: &Feature) -> Result<Groups, NoMemory>
+        ensures groups { IfOk result (IsGroupedBy self.old.immutable self.old.known.keys self.new.known.keys feature.now) }
+        ensures immutable { OnOk result (self.new.immutable ≡ self.old.immutable) }
+    {
         let own = self.group_of(own_signature(alloc, feature)?)?;
-        let writer = match writer_signature(alloc, feature, self.immutable)? {
-            Some(sig) => Some(self.group_of(sig)?),
-            None => None,
-        };
-        Ok(Groups { own, writer })
+        match writer_signature(alloc, feature, self.immutable)? {
+            Some(sig) => {
+                let writer = Some(self.group_of(sig)?);
+                Ok(Groups { own, writer })
+            }
+            None => Ok(Groups { own, writer: None }),
+        }
     }
 
     /// The group of a signature, a new one where it conflicts with none of the earlier ones.
-    fn group_of(&mut self, sig: Sig) -> Result<usize, NoMemory> {
+    #[tactic(auto, using(crate::proofs::Grouping::group_found))]
+    fn group_of(&mut self, sig: Sig) -> Result<usize, NoMemory>
+        ensures group { IfOk result (IsGroupOf sig self.old.known.keys self.new.known.keys) }
+        ensures immutable { OnOk result (self.new.immutable ≡ self.old.immutable) }
+    {
         let (group, _) = self.known.insert_full(Shape::new(sig))?;
         Ok(group)
     }
@@ -102,22 +97,28 @@ impl Grouping {
 /// # Errors
 ///
 /// `NoMemory`.
+#[tactic(auto, using(crate::proofs::FirstConflict::conflicting))]
 pub fn first_conflict(
     alloc: Global,
     conflicts: &Conflicts,
     stays: &[bool],
     from: usize,
     to: usize,
-) -> Result<Option<usize>, NoMemory> {
-    let mut marks = vec![in alloc; false; conflicts.count]?;
+) -> Result<Option<usize>, NoMemory>
+    ensures { IfOk result (λ found. MatchOption found
+        (NoConflict conflicts.now stays.now from to)
+        (IsFirstConflict conflicts.now stays.now from to)) }
+{
+    let mut marks = Marks::none(alloc, conflicts.count)?;
     for place in from..to {
-        if is_set(stays, place) {
-            let groups = conflicts.at(place)?;
-            if groups.is_marked(&marks) {
-                return Ok(Some(place));
-            }
-            groups.mark(&mut marks)?;
+        if !is_set(stays, place) {
+            continue;
         }
+        let groups = conflicts.at(place)?;
+        if marks.has(&groups) {
+            return Ok(Some(place));
+        }
+        marks.add(&groups)?;
     }
     Ok(None)
 }
