@@ -73,16 +73,13 @@ clause_brings number whole c clause place included by params given same known ch
   included = included;
   at = at;
   brings =
-      subst (All (IsBrought clause.changes (put_by c included clause) (is_immutable c.kind) keys)) is_features
+      subst (All (IsBrought clause.changes (put_by c included clause) (is_immutable c.kind) (flat_map (signatures_of (is_immutable c.kind)) c.features))) is_features
       (subst (λ ks. All (IsBrought clause.changes (put_by c included clause) (is_immutable c.kind) ks) features) signatures.keys
       (subst (λ b. All (IsBrought clause.changes (put_by c included clause) b known.shapes.keys) features) is_immutable_class
       (subst (λ put. All (IsBrought clause.changes put immutable known.shapes.keys) features) puts
       (subst (λ cs. All (IsBrought cs (put_in by) immutable known.shapes.keys) features) is_changes all))));
 }
   where
-    keys : List Sig
-    keys = flat_map (signatures_of (is_immutable c.kind)) c.features
-
     puts : put_in by ≡ put_by c included clause
     puts =
         ap (λ value. substituted value by.same.now) (fun_ext table.0) ∙ ap (substituted (given_for params given)) (table.1 ∙ is_same)

@@ -160,11 +160,11 @@ module _ (immutable : Bool) where
         one : (a b : ℕ) → Some a ≡ Some b → a ≡ b
         one a b q = cc
 
-        differs : None ≡ Some n → ⊥
+        differs : Some n ≡ None → ⊥
         differs q = cc
 
         by : (o : Option Sig) → writer_signature immutable f ≡ o → option_map_or (λ w. list_any (do_conflict w) firsts) o true ≡ true → option_map (group_number firsts) o ≡ Some n → (s : Sig) × HasSignature f s × (list_any (do_conflict s) firsts ≡ true) × (group_number firsts s ≡ n)
-        by None p known q = absurd (differs q)
+        by None p known q = absurd (differs (sym q))
         by (Some w) p known q = (w, inr p, known, one (group_number firsts w) n q)
 
     group_of : (f : Feature) (groups : Groups) (s : Sig) → IsGrouped immutable firsts f groups → HasSignature f s → HasGroup groups (group_number firsts s)
@@ -194,9 +194,12 @@ module _ {A B : Type 0} where
   zip_weaker R S f (x ∷ xs) [] h = absurd h
   zip_weaker R S f (x ∷ xs) (y ∷ ys) h = (f x y h.0, zip_weaker R S f xs ys h.1)
 
+  nothing_at : (i : ℕ) (x : A) → slice_get [] i ≡ Some x → ⊥
+  nothing_at i x p = cc
+
   zip_at : (R : A → B → Type 0) (xs : List A) (ys : List B) (i : ℕ) (x : A) (y : B) → AllZip R xs ys → slice_get xs i ≡ Some x → slice_get ys i ≡ Some y → R x y
-  zip_at R [] ys i x y h p q = cc
-  zip_at R (a ∷ xs) [] i x y h p q = cc
+  zip_at R [] ys i x y h p q = absurd (nothing_at i x p)
+  zip_at R (a ∷ xs) [] i x y h p q = absurd h
   zip_at R (a ∷ xs) (b ∷ ys) zero x y h p q = subst (R x) (one_b q) (subst (λ z. R z b) (one_a p) h.0)
     where
       one_a : Some a ≡ Some x → a ≡ x
@@ -232,39 +235,43 @@ still_grouped immutable old new more f groups grown grouped = record {
     by None h = (refl, refl)
     by (Some w) h = (ap (list_any (do_conflict w)) grown ∙ kept_any (do_conflict w) old more h, ap Some (number w h))
 
-pub grouped_more : (features : ClassFeatures) (place : ℕ) (f : Feature) (old new : Grouping) (of more : List Groups) (groups : Groups) → slice_get (all_features features) place ≡ Some f → GroupedUpTo features place old of → IsGroupedBy old.immutable old.known.keys new.known.keys f groups → new.immutable ≡ old.immutable → more ≡ of ++ groups ∷ [] → GroupedUpTo features (place + 1) new more
-grouped_more features place f old new of more groups at upto adds same pushed = record {
-  groups =
-      subst (AllZip grouped (take (place + 1) all)) (sym pushed)
-      (subst (λ fs. AllZip grouped fs (of ++ groups ∷ [])) (sym next)
-      (all_zipped_more grouped (take place all) of f groups
-      (zip_weaker (IsGrouped features.immutable old.known.keys) grouped (λ x y h. still_grouped features.immutable old.known.keys new.known.keys adds.more x y adds.grown h) (take place all) of upto.groups)
-      (subst (λ b. IsGrouped b new.known.keys f groups) upto.immutable adds.grouped)));
-  immutable = same ∙ upto.immutable;
-}
-  where
-    all : List Feature
-    all = all_features features
+module _ (features : ClassFeatures) (grouping : Grouping) where
+  abbrev all : List Feature
+  all = all_features features
 
-    grouped : Feature → Groups → Type 0
-    grouped = IsGrouped features.immutable new.known.keys
+  abbrev grouped : Feature → Groups → Type 0
+  grouped = IsGrouped features.immutable grouping.known.keys
 
-    next : take (place + 1) all ≡ take place all ++ f ∷ []
-    next = take_more all place f (slice_get_within all place f at) ∙ ap (λ x. take place all ++ x ∷ []) (get_or_from_slice_get all place f f at)
+  pub grouped_more : (place : ℕ) (f : Feature) (old : Grouping) (of more : List Groups) (groups : Groups) → slice_get (all_features features) place ≡ Some f → GroupedUpTo features place old of → IsGroupedBy old.immutable old.known.keys grouping.known.keys f groups → grouping.immutable ≡ old.immutable → more ≡ of ++ groups ∷ [] → GroupedUpTo features (place + 1) grouping more
+  grouped_more place f old of more groups at upto adds same pushed = record {
+    groups =
+        subst (AllZip grouped (take (place + 1) all)) (sym pushed)
+        (subst (λ fs. AllZip grouped fs (of ++ groups ∷ [])) (sym next)
+        (all_zipped_more grouped (take place all) of f groups kept own));
+    immutable = same ∙ upto.immutable;
+  }
+    where
+      next : take (place + 1) all ≡ take place all ++ f ∷ []
+      next = take_more all place f (slice_get_within all place f at) ∙ ap (λ x. take place all ++ x ∷ []) (get_or_from_slice_get all place f f at)
 
-pub grouped_all : (features : ClassFeatures) (place : ℕ) (grouping : Grouping) (of : List Groups) (conflicts : Conflicts) → GroupedUpTo features place grouping of → length (all_features features) ≤ place → conflicts.of.items ≡ of → AreGrouped features conflicts
-grouped_all features place grouping of conflicts upto le is = record {
-  count = AllZip-long grouped (all_features features) conflicts.of.items all;
-  exactly = λ p q f g m n at_p at_q groups_p groups_q.
-      shared_groups features.immutable grouping.known.keys f g m n
-      (zip_at grouped (all_features features) conflicts.of.items p f m all at_p groups_p)
-      (zip_at grouped (all_features features) conflicts.of.items q g n all at_q groups_q);
-}
-  where
-    grouped : Feature → Groups → Type 0
-    grouped = IsGrouped features.immutable grouping.known.keys
+      kept : AllZip grouped (take place all) of
+      kept =
+          zip_weaker (IsGrouped features.immutable old.known.keys) grouped
+          (λ x y h. still_grouped features.immutable old.known.keys grouping.known.keys adds.more x y adds.grown h) (take place all) of upto.groups
 
-    all : AllZip grouped (all_features features) conflicts.of.items
-    all = subst (AllZip grouped (all_features features)) (sym is) (subst (λ fs. AllZip grouped fs of) (take_all place (all_features features) le) upto.groups)
+      own : grouped f groups
+      own = subst (λ b. IsGrouped b grouping.known.keys f groups) upto.immutable adds.grouped
+
+  pub grouped_all : (place : ℕ) (of : List Groups) (conflicts : Conflicts) → GroupedUpTo features place grouping of → length (all_features features) ≤ place → conflicts.of.items ≡ of → AreGrouped features conflicts
+  grouped_all place of conflicts upto le is = record {
+    count = AllZip-long grouped all conflicts.of.items each;
+    exactly = λ p q f g m n at_p at_q groups_p groups_q.
+        shared_groups features.immutable grouping.known.keys f g m n
+        (zip_at grouped all conflicts.of.items p f m each at_p groups_p)
+        (zip_at grouped all conflicts.of.items q g n each at_q groups_q);
+  }
+    where
+      each : AllZip grouped all conflicts.of.items
+      each = subst (AllZip grouped all) (sym is) (subst (λ fs. AllZip grouped fs of) (take_all place all le) upto.groups)
 
 pub ruleset groupings = (grouped_none, grouped_more, grouped_all)

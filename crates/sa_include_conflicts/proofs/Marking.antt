@@ -1,5 +1,5 @@
 -- Marks at groups.
-use Rattle.std.proofs.Common.{◌≡◌, ◌≢◌, ◌↔◌, ◌||◌, ℕ, zero, suc, ◌<◌, Bool, true, false, List, Option, None, Some, length, get_or, set, refl, sym, ap, subst, ◌∙◌, ◌⊎◌, inl, inr, ⊎_elim}
+use Rattle.std.proofs.Common.{◌≡◌, ◌↔◌, ◌||◌, ℕ, zero, suc, ◌<◌, Bool, true, false, List, Option, None, Some, length, get_or, set, refl, sym, ap, subst, ◌∙◌, ◌⊎◌, inl, inr, ⊎_elim}
 use Rattle.std.proofs.lemmas.Bool.{cases_eq, false≢true, true≢false}
 use Rattle.std.proofs.lemmas.List.{get_or-set_same, get_or-set_other}
 use Rattle.std.specs.Option.{option_map_or}
@@ -30,10 +30,10 @@ mark_added old new group within is = record { exactly = λ n. by n (cases_eq n g
 
 pub adds_own : (groups : Groups) (old new : Marks) → AddsGroup groups.own old new → groups.writer ≡ None → AddsGroups groups old new
 adds_own groups old new own none = record {
-  exactly = λ n. (λ h. ⊎_elim inl (λ q. inr (inl q)) ((own.exactly n).0 h), λ h. (own.exactly n).1 (⊎_elim inl (λ g. ⊎_elim inr (λ q. absurd (differs n (sym none ∙ q))) g) h));
+  exactly = λ n. (λ h. ⊎_elim inl (λ q. inr (inl q)) ((own.exactly n).0 h), λ h. (own.exactly n).1 (⊎_elim inl (λ g. ⊎_elim inr (λ q. absurd (differs n (sym q ∙ none))) g) h));
 }
   where
-    differs : (n : ℕ) → None ≡ Some n → ⊥
+    differs : (n : ℕ) → Some n ≡ None → ⊥
     differs n q = cc
 
 pub adds_both : (groups : Groups) (old between new : Marks) (writer : ℕ) → AddsGroup groups.own old between → groups.writer ≡ Some writer → AddsGroup writer between new → AddsGroups groups old new

@@ -8,7 +8,7 @@ module _ {A : Type 0} where
   first_part (y ∷ xs) ys (suc i) x h = first_part xs ys i x h
 
   behind : (xs ys : List A) (i k : ℕ) → i ≡ length xs + k → slice_get (xs ++ ys) i ≡ slice_get ys k
-  behind [] ys i k e = ap (slice_get ys) e
+  behind [] ys i k e = let same : i ≡ k = omega (arith, e) in ap (slice_get ys) same
   behind (x ∷ xs) ys zero k e = absurd (omega (arith, e))
   behind (x ∷ xs) ys (suc i) k e = behind xs ys i k (omega (arith, e))
 
