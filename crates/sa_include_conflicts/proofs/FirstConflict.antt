@@ -1,5 +1,5 @@
 -- The first feature that conflicts with an earlier one.
-use Rattle.std.proofs.Common.{◌≡◌, ◌↔◌, ℕ, ◌+◌, ◌<◌, ◌≤◌, Bool, true, false, Option, Some, sym, ap, subst, ◌∙◌, ◌⊎◌, inl, inr, ⊎_elim, arith}
+use Rattle.std.proofs.Common.{◌≡◌, ◌↔◌, ℕ, ◌+◌, ◌<◌, ◌≤◌, Bool, true, false, List, Some, sym, ap, subst, ◌∙◌, ◌⊎◌, inl, inr, ⊎_elim, arith}
 use Rattle.std.proofs.lemmas.Bool.{false≢true}
 use Rattle.sa_include_conflicts.specs.declared.conflicts.Conflicts.{Conflicts}
 use Rattle.sa_include_conflicts.specs.declared.groups.Groups.{Groups}
@@ -53,7 +53,7 @@ module _ (conflicts : Conflicts) (stays : List Bool) (from : ℕ) where
   pub passed_over : (place : ℕ) (marks : Marks) (set : Bool) → SoFar place marks → set ≡ is_set stays place → set ≡ false → SoFar (place + 1) marks
   passed_over place marks set so_far is unset = record {
     marked = λ group. (λ h. later place group ((so_far.marked group).0 h), λ t. by group t (near t.earlier place t.before));
-    none = next_none place so_far.none (λ h. gone h.here.stays);
+    none = next_none place so_far.none (λ h. gone h.here.kept);
   }
     where
       gone : is_set stays place ≡ true → ⊥
@@ -61,13 +61,13 @@ module _ (conflicts : Conflicts) (stays : List Bool) (from : ℕ) where
 
       by : (group : ℕ) (t : IsTaken (place + 1) group) → (t.earlier < place) ⊎ (t.earlier ≡ place) → is_marked marks group ≡ true
       by group t (inl lt) = (so_far.marked group).1 (record { earlier = t.earlier; after = t.after; before = lt; groups = t.groups; there = t.there; has = t.has })
-      by group t (inr e) = absurd (gone (ap (is_set stays) (sym e) ∙ t.there.stays))
+      by group t (inr e) = absurd (gone (ap (is_set stays) (sym e) ∙ t.there.kept))
 
   -- ---- one that does
 
   module _ (place : ℕ) (marks : Marks) (groups : Groups) (set has : Bool) (so_far : SoFar place marks) (is : set ≡ is_set stays place) (known : set ≡ true) (at : groups_at conflicts place ≡ Some groups) (tested : has ≡ has_marked groups marks) where
     here : StaysWith conflicts stays place groups
-    here = record { at = at; stays = sym is ∙ known }
+    here = record { at = at; kept = sym is ∙ known }
 
     same : (others : Groups) → groups_at conflicts place ≡ Some others → others ≡ groups
     same others h = one (sym h ∙ at)

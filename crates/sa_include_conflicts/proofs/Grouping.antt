@@ -187,15 +187,15 @@ module _ (immutable : Bool) where
 
 -- ---- one feature more
 
+nothing_at : {A : Type 0} (i : ℕ) (x : A) → slice_get [] i ≡ Some x → ⊥
+nothing_at i x p = cc
+
 module _ {A B : Type 0} where
   zip_weaker : (R S : A → B → Type 0) → ((x : A) (y : B) → R x y → S x y) → (xs : List A) (ys : List B) → AllZip R xs ys → AllZip S xs ys
   zip_weaker R S f [] [] h = tt
   zip_weaker R S f [] (y ∷ ys) h = absurd h
   zip_weaker R S f (x ∷ xs) [] h = absurd h
   zip_weaker R S f (x ∷ xs) (y ∷ ys) h = (f x y h.0, zip_weaker R S f xs ys h.1)
-
-  nothing_at : (i : ℕ) (x : A) → slice_get [] i ≡ Some x → ⊥
-  nothing_at i x p = cc
 
   zip_at : (R : A → B → Type 0) (xs : List A) (ys : List B) (i : ℕ) (x : A) (y : B) → AllZip R xs ys → slice_get xs i ≡ Some x → slice_get ys i ≡ Some y → R x y
   zip_at R [] ys i x y h p q = absurd (nothing_at i x p)

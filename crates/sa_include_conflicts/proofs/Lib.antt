@@ -4,4 +4,4 @@ pub mod Places
 pub mod Marking
 pub mod Grouping
 pub mod FirstConflict
-pub mod Stubs
+pub mod LeftStubs

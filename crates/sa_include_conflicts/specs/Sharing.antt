@@ -44,7 +44,7 @@ module _ (conflicts : Conflicts) (stays : List Bool) where
   -- the feature at a place stays, and has these groups
   pub record StaysWith (place : ℕ) (groups : Groups) : Type 0 where
     pub at : groups_at conflicts place ≡ Some groups
-    pub stays : is_set stays place ≡ true
+    pub kept : is_set stays place ≡ true
 
   -- it has a group in common with one that stays at a place before, from `from` on
   pub record IsInConflict (from place : ℕ) : Type 0 where

@@ -32,7 +32,7 @@ module _ (features : List Feature) (stays : List Bool) where
   pub record IsStubLeft (place : ℕ) (f : Feature) : Type 0 where
     pub at : slice_get features place ≡ Some f
     pub stub : is_stub_part f.part ≡ true
-    pub stays : is_set stays place ≡ true
+    pub kept : is_set stays place ≡ true
 
   pub record NoStubBefore (bound : ℕ) : Type 0 where
     pub none : (place : ℕ) (f : Feature) → place < bound → ¬ IsStubLeft place f

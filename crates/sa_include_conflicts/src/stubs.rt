@@ -13,7 +13,7 @@ use sa_tree::{Feature, Kind, NoMemory, Pos};
 /// # Errors
 ///
 /// `NoMemory`.
-#[tactic(auto, using(crate::proofs::Stubs::stubs))]
+#[tactic(auto, using(crate::proofs::LeftStubs::stubs))]
 pub fn stub_left(
     kind: Kind,
     features: &ClassFeatures<'_>,

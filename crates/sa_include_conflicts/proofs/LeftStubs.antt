@@ -24,7 +24,7 @@ module _ (features : List Feature) (stays : List Bool) where
     where
       by : (n : ℕ) (g : Feature) → IsStubLeft features stays n g → (n < place) ⊎ (n ≡ place) → ⊥
       by n g h (inl lt) = so_far.none n g lt h
-      by n g h (inr e) = false≢true (sym unset ∙ is ∙ ap (λ b. b && set) (ap (λ (x : Feature). is_stub_part x.part) same ∙ h.stub) ∙ is_stays ∙ ap (is_set stays) (sym e) ∙ h.stays)
+      by n g h (inr e) = false≢true (sym unset ∙ is ∙ ap (λ b. b && set) (ap (λ (x : Feature). is_stub_part x.part) same ∙ h.stub) ∙ is_stays ∙ ap (is_set stays) (sym e) ∙ h.kept)
         where
           same : f ≡ g
           same = one (sym at ∙ ap (slice_get features) (sym e) ∙ h.at)
@@ -39,7 +39,7 @@ module _ (features : List Feature) (stays : List Bool) where
         whole = sym kind_is ∙ whole;
         place = place;
         feature = f;
-        left = record { at = at; stub = parts.0; stays = sym is_stays ∙ parts.1 };
+        left = record { at = at; stub = parts.0; kept = sym is_stays ∙ parts.1 };
         first = so_far;
         named = named;
       }
