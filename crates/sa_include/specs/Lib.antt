@@ -1,5 +1,3 @@
 pub mod Parts
 pub mod Flattened
-pub mod Included
-pub mod Changes
 pub mod Refusals

@@ -1,8 +1,5 @@
 //! The features that the include clauses of a class bring.
 
-ghost use Rattle.std.specs.Prelude.{◌≡◌};
-ghost use Rattle.sa_include.specs.Included.{given_in};
-
 use crate::refused::ClassRefusal;
 use crate::renamed::{Renaming, access_after, name_after};
 use crate::resolved::{Flattened, Program};
@@ -191,15 +188,10 @@ impl<'a> Clause<'a> {
     }
 }
 
-/// The types that are given to an included class.
-#[tactic(auto, using(crate::proofs::Bringing::givens))]
-pub(crate) fn given_in(ty: &Ty) -> &[Ty]
-    ensures { result.now ≡ given_in ty.now }
-{
+/// The parameters that are given to an included class.
+fn given_in(ty: &Ty) -> &[Ty] {
     match ty {
         Ty::Named(_, given, _) => given.as_slice(),
-        Ty::Same(_) => &[],
-        Ty::Rout(_, _, _) => &[],
-        Ty::Iter(_, _, _) => &[],
+        _ => &[],
     }
 }

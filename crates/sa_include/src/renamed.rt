@@ -1,17 +1,11 @@
 //! The changes of an include clause: what an included feature is called, and who sees it. A change is of a feature that the
 //! clause brings, and its two names are both those of iters or neither is (else E16).
 
-ghost use Rattle.std.specs.Prelude.{◌≡◌, IfOk, OnOk};
-ghost use Rattle.std.specs.Option.{option_copied};
-ghost use Rattle.sa_include.specs.Changes.{AddsChange, HasChanges};
-ghost use Rattle.sa_include.specs.Included.{name_brought};
-
 use crate::refused::{ClassRefusal, ClassRule};
 use indexmap::IndexMap;
 use sa_graph::put;
 use sa_include_conflicts::is_set;
 use sa_tree::{Access, Change, Include, Name, NoMemory};
-use sqlite_items::at;
 use std::alloc::{AllocError, Global};
 
 /// The changes of an include clause, found by the names that they change.
@@ -24,10 +18,7 @@ pub(crate) struct Renaming {
 }
 
 impl Renaming {
-    #[tactic(auto, using(crate::proofs::Renamings::changes_added))]
-    pub(crate) fn new(alloc: Global, changes: &[Change]) -> Result<Renaming, NoMemory>
-        ensures { IfOk result (HasChanges changes.now) }
-    {
+    pub(crate) fn new(alloc: Global, changes: &[Change]) -> Result<Renaming, NoMemory> {
         let mut renaming = Renaming {
             first: IndexMap::new(alloc),
             met: vec![in alloc; false; changes.len()]?,
@@ -38,35 +29,12 @@ impl Renaming {
         Ok(renaming)
     }
 
-    #[tactic(auto, using(crate::proofs::Renamings::one_added))]
-    fn add(&mut self, alloc: Global, name: &Name, place: usize) -> Result<(), NoMemory>
-        ensures { OnOk result (AddsChange name.now place self.old self.new) }
-    {
-        match self.first.get(name).copied() {
-            Some(_) => Ok(()),
-            None => {
-                self.first.insert(name.copy(alloc)?, place)?;
-                Ok(())
-            }
+    fn add(&mut self, alloc: Global, name: &Name, place: usize) -> Result<(), NoMemory> {
+        if self.first.get(name).is_some() {
+            return Ok(());
         }
-    }
-
-    /// What a feature is called that the clause brings, or None where a change leaves it out.
-    #[tactic(auto, using(crate::proofs::Renamings::names))]
-    pub(crate) fn name_of<'a>(&self, name: &'a Name, changes: &'a [Change]) -> Option<&'a Name>
-        requires { HasChanges changes.now self.now }
-        ensures { option_copied result ≡ name_brought changes.now name.now }
-    {
-        let Some(place) = self.first.get(name).copied() else {
-            return Some(name);
-        };
-        let Some(change) = at(changes, place) else {
-            return Some(name);
-        };
-        match &change.to {
-            Some(to) => Some(to),
-            None => None,
-        }
+        self.first.insert(name.copy(alloc)?, place)?;
+        Ok(())
     }
 
     /// The change of the features of this name that the clause brings.

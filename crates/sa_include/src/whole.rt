@@ -50,11 +50,10 @@ fn try_features(alloc: Global, kind: Kind, features: &[Feature]) -> Result<(), N
     if keeps_stub(kind, features) {
         return Err(NoMemory);
     }
-    try_apart(alloc, features, is_immutable(kind))?;
-    Ok(())
+    try_apart(alloc, features, is_immutable(kind))
 }
 
-pub(crate) fn is_immutable(kind: Kind) -> bool
+fn is_immutable(kind: Kind) -> bool
     ensures { result ≡ is_immutable kind }
 {
     match kind {

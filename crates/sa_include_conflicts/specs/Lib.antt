@@ -4,4 +4,3 @@ pub mod Clashes
 pub mod Sharing
 pub mod Stub
 pub mod Known
-pub mod Brought

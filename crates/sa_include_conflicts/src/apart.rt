@@ -1,7 +1,6 @@
 //! Features of which no two conflict, tried: each signature is put into a table, in which none of an earlier feature conflicts with it.
 
-ghost use Rattle.std.specs.Prelude.{IfOk, OnOk};
-ghost use Rattle.sa_include_conflicts.specs.Brought.{HasSignatures};
+ghost use Rattle.std.specs.Prelude.{OnOk};
 ghost use Rattle.sa_include_conflicts.specs.Clashes.{NoneClash};
 ghost use Rattle.sa_include_conflicts.specs.Known.{AddsFeature, AddsSignature};
 
@@ -12,22 +11,20 @@ use sa_tree::{Feature, NoMemory};
 use sa_types::Sig;
 use std::alloc::Global;
 
-/// The signatures of features of which no two conflict.
+/// The signatures of the features so far.
 #[derive(Drop)]
-pub struct Known {
-    pub(crate) shapes: IndexSet<Shape>,
+struct Known {
+    shapes: IndexSet<Shape>,
 }
 
-/// The signatures of the features of a class. It tries that no two of these conflict, which is known to the writer and not to
-/// a proof.
+/// Tries that no two features of a class conflict, which is known to the writer and not to a proof.
 ///
 /// # Errors
 ///
 /// `NoMemory`, also where two conflict.
 #[tactic(auto, using(crate::proofs::Separate::none_apart, crate::proofs::Separate::more_apart))]
-pub fn try_apart(alloc: Global, features: &[Feature], immutable: bool) -> Result<Known, NoMemory>
-    ensures none_clash { OnOk result (NoneClash immutable features.now) }
-    ensures signatures { IfOk result (HasSignatures immutable features.now) }
+pub fn try_apart(alloc: Global, features: &[Feature], immutable: bool) -> Result<(), NoMemory>
+    ensures { OnOk result (NoneClash immutable features.now) }
 {
     let mut known = Known {
         shapes: IndexSet::new(alloc),
@@ -35,7 +32,7 @@ pub fn try_apart(alloc: Global, features: &[Feature], immutable: bool) -> Result
     for feature in features {
         known.add_feature(alloc, feature, immutable)?;
     }
-    Ok(known)
+    Ok(())
 }
 
 impl Known {

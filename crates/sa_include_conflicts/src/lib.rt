@@ -2,7 +2,6 @@
 #![tactic(auto)]
 
 mod apart;
-mod brought;
 mod conflicts;
 mod features;
 mod groups;
@@ -12,7 +11,7 @@ mod shape;
 mod signature;
 mod stubs;
 
-pub use apart::{Known, try_apart};
+pub use apart::try_apart;
 pub use conflicts::{Conflicts, first_conflict, group_features};
 pub use features::{ClassFeatures, is_stub};
 pub use lists::{is_set, item};
