@@ -1,1 +1,7 @@
+pub mod Asserted
+pub mod ContractTables
+pub mod Leaving
+pub mod NotQuiet
 pub mod Quiet
+pub mod Taken
+pub mod WovenClasses
