@@ -93,7 +93,11 @@ module _ (conditions : List Condition) (ty : Option Ty) where
   unfolding leaving leaving_arm leaving_case_arm leaving_type_arm
   leaving_type_arm-parts a = fold_out-TypeArm Stmt Arm CaseArm TypeArm (leaving_level conditions ty) arm_level case_arm_level type_arm_level a
 
-pub ruleset statements = (map_more, leaving-Declare, leaving-Assign, leaving-If, leaving-Loop, leaving-Case, leaving-TypeCase, leaving-Protect, leaving-Return, leaving-Yield, leaving-Quit, leaving-Raise, leaving-Assert, leaving-Do, leaving_arm-parts, leaving_case_arm-parts, leaving_type_arm-parts)
+pub ruleset statements = (leaving-Declare, leaving-Assign, leaving-If, leaving-Loop, leaving-Case, leaving-TypeCase, leaving-Protect, leaving-Return, leaving-Yield, leaving-Quit, leaving-Raise, leaving-Assert, leaving-Do)
+
+pub ruleset arms = (leaving_arm-parts, leaving_case_arm-parts, leaving_type_arm-parts)
+
+pub ruleset lists = (map_more)
 
 -- ---- a statement that has other statements for the case that no branch is taken
 

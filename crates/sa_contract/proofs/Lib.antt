@@ -1,3 +1,5 @@
+pub mod AskedLists
+pub mod DeclaredAt
 pub mod FirstAt
 pub mod LeavingAt
 pub mod QuietArgs

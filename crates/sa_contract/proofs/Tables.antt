@@ -11,8 +11,10 @@ use Rattle.sa_tree.specs.declared.contract.Contract.{Contract}
 use Rattle.sa_tree.specs.declared.contract.Contract.TheVariants as contract
 use Rattle.sa_contract.specs.declared.contracts.Clauses.{Clauses}
 use Rattle.sa_contract.specs.declared.contracts.ContractTable.{ContractTable}
+use Rattle.sa_contract.specs.AskedChecks.{asked, woven_checks}
 use Rattle.sa_contract.specs.ContractTables.{HasContracts, HasOneMore, clauses_in, duties_in, invariant_in, place, plain_clauses, same_place}
 use Rattle.sa_contract.specs.WovenClasses.{clauses_behind, clauses_of, duties, duties_of, invariant_behind, invariant_of, woven_classes}
+use Rattle.sa_contract.proofs.AskedLists.{same-asked}
 use Rattle.sa_contract.proofs.WovenLists.{same-classes}
 
 chosen : (b : Bool) (value : Clauses) (found : Option Clauses) (pre post : Option Condition) → option_copied value.pre ≡ pre → option_copied value.post ≡ post → plain_clauses (cond b (Some value) found) ≡ cond b (pre, post) (plain_clauses found)
@@ -62,15 +64,19 @@ has-more table more contracts i c within is has one = record {
       ∙ sym (fold_more (invariant_behind class) None contracts i c within);
 }
 
--- classes are woven by the table as by the contracts
+-- the table says of each feature what the contracts say
+same-duties : (table : ContractTable) (contracts : List Contract) → HasContracts table contracts → (class feature : ℕ) (f : Feature) → duties_in table class feature f ≡ duties_of contracts class feature f
+same-duties table contracts has class feature f =
+    ap (λ (c : Option Condition × Option Condition). duties c (invariant_in table class) f) (has.of_features class feature)
+    ∙ ap (λ (holds : Option Condition). duties (clauses_of contracts class feature) holds f) (has.of_classes class)
+
+-- classes are woven by the table as by the contracts, and the same checks are asked
 pub woven-by : (table : ContractTable) (contracts : List Contract) → HasContracts table contracts → (classes : List Class) → woven_classes (duties_in table) 0 classes ≡ woven_classes (duties_of contracts) 0 classes
-woven-by table contracts has classes = same-classes (duties_in table) (duties_of contracts) same classes
-  where
-    same : (class feature : ℕ) (f : Feature) → duties_in table class feature f ≡ duties_of contracts class feature f
-    same class feature f =
-        ap (λ (c : Option Condition × Option Condition). duties c (invariant_in table class) f) (has.of_features class feature)
-        ∙ ap (λ (holds : Option Condition). duties (clauses_of contracts class feature) holds f) (has.of_classes class)
+woven-by table contracts has classes = same-classes (duties_in table) (duties_of contracts) (same-duties table contracts has) classes
+
+pub asked-by : (table : ContractTable) (contracts : List Contract) → HasContracts table contracts → (classes : List Class) → asked (woven_checks (duties_in table) 0 classes) ≡ asked (woven_checks (duties_of contracts) 0 classes)
+asked-by table contracts has classes = same-asked (duties_in table) (duties_of contracts) (same-duties table contracts has) classes
 
 pub ruleset tables = (more-clauses, more-invariant, has-more)
 
-pub ruleset classes = (woven-by)
+pub ruleset classes = (woven-by, asked-by)

@@ -309,7 +309,17 @@ pub declared_by_arguments-none : (before : List Stmt) → declared_by_arguments 
 unfolding declared_by_arguments
 declared_by_arguments-none before = refl
 
-pub ruleset taken = (replaced-Int, declared_by-Int, replaced-Bool, declared_by-Bool, replaced-Char, declared_by-Char, replaced-Text, declared_by-Text, replaced-Me, declared_by-Me, replaced-Void, declared_by-Void, replaced-Exception, declared_by-Exception, replaced-IsVoid, declared_by-IsVoid, replaced-New, declared_by-New, replaced-Create, declared_by-Create, replaced-Items, declared_by-Items, replaced-Call, declared_by-Call, replaced-Binary, declared_by-Binary, replaced-Unary, declared_by-Unary, replaced-Index, declared_by-Index, replaced-Bind, declared_by-Bind, replaced_argument-Value, declared_by_argument-Value, replaced_argument-Left, declared_by_argument-Left, replaced_receiver-Implied, declared_by_receiver-Implied, replaced_receiver-Of, declared_by_receiver-Of, replaced_receiver-OfClass, declared_by_receiver-OfClass, replaced_option-None, replaced_option-Some, declared_by_option-None, declared_by_option-Some, replaced_exprs-more, replaced_exprs-none, declared_by_exprs-more, declared_by_exprs-none, replaced_arguments-more, replaced_arguments-none, declared_by_arguments-more, declared_by_arguments-none)
+pub ruleset forms = (replaced-Int, declared_by-Int, replaced-Bool, declared_by-Bool, replaced-Char, declared_by-Char, replaced-Text, declared_by-Text, replaced-Me, declared_by-Me, replaced-Void, declared_by-Void, replaced-Exception, declared_by-Exception, replaced-IsVoid, declared_by-IsVoid, replaced-New, declared_by-New, replaced-Create, declared_by-Create, replaced-Items, declared_by-Items, replaced-Call, declared_by-Call, replaced-Binary, declared_by-Binary, replaced-Unary, declared_by-Unary, replaced-Index, declared_by-Index, replaced-Bind, declared_by-Bind)
+
+pub ruleset argument = (replaced_argument-Value, declared_by_argument-Value, replaced_argument-Left, declared_by_argument-Left)
+
+pub ruleset receivers = (replaced_receiver-Implied, declared_by_receiver-Implied, replaced_receiver-Of, declared_by_receiver-Of, replaced_receiver-OfClass, declared_by_receiver-OfClass)
+
+pub ruleset options = (replaced_option-None, replaced_option-Some, declared_by_option-None, declared_by_option-Some)
+
+pub ruleset exprs = (replaced_exprs-more, replaced_exprs-none, declared_by_exprs-more, declared_by_exprs-none)
+
+pub ruleset arguments = (replaced_arguments-more, replaced_arguments-none, declared_by_arguments-more, declared_by_arguments-none)
 
 -- ---- the value of the last argument
 

@@ -1,3 +1,4 @@
+pub mod AskedChecks
 pub mod Asserted
 pub mod ContractTables
 pub mod Leaving

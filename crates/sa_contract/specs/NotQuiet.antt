@@ -1,11 +1,9 @@
 -- The first check of a woven program that isn't quiet: in the order of its features and of their statements, and in the test of a
 -- check before the statements inside.
 use Rattle.std.specs.Prelude.{ℕ, ◌-◌, Bool, true, false, ◌&&◌, List, [], ◌∷◌, Option, None, Some}
-use Rattle.std.specs.Prelude.{if◌then◌else◌, nat_eq, nat_lt}
-use Rattle.std.specs.Prelude.{length, slice_get}
+use Rattle.std.specs.Prelude.{if◌then◌else◌, nat_lt, length, slice_get}
 use Rattle.std.specs.List.{list_any}
 use Rattle.std.specs.Option.{option_or}
-use Rattle.indexmap.specs.IndexMap.{get}
 use Rattle.sa_tree.specs.declared.fault_kind.FaultKind.{FaultKind}
 use Rattle.sa_tree.specs.declared.fault_kind.FaultKind.TheVariants as fault
 use Rattle.sa_tree.specs.declared.pos.Pos.{Pos}
@@ -14,14 +12,11 @@ use Rattle.sa_core.specs.declared.feature.FeatureCore.{FeatureCore}
 use Rattle.sa_core.specs.Tree.{Expr, Exprs, no_exprs, expr, Stmt, Let, If, Loop, TypeCase, Protect, Stop, Stmts, no_stmts, stmt}
 use Rattle.sa_core.specs.Tree.{Tests, no_tests, branch, Arms, no_arms, arm, no_else, otherwise}
 use Rattle.sa_contract.specs.declared.checks.BodyChecks.{BodyChecks}
-use Rattle.sa_contract.specs.declared.checks.Checks.{Checks}
 use Rattle.sa_contract.specs.declared.checks.InFeature.{InFeature}
+use Rattle.sa_contract.specs.AskedChecks.{Asked, same_pos}
 use Rattle.sa_contract.specs.Quiet.{is_quiet}
 
 -- ---- which checks there are in a feature
-
-abbrev pub same_pos : Pos → Pos → Bool
-same_pos a b = nat_eq a.file b.file && nat_eq a.at b.at
 
 -- the positions of its conditions, and of its words `initial` in order, and how many arguments it has
 pub record FeatureChecks : Type 0 where
@@ -102,10 +97,10 @@ abbrev pub first_in_body : Option BodyChecks → FeatureCore → Option Pos
 first_in_body None f = None
 first_in_body (Some b) f = first_in_block (checks_with (length f.modes) b) (block_of f.body)
 
--- the checks of a feature are found by the position of its name
-abbrev pub first_in_feature : Checks → FeatureCore → Option Pos
-first_in_feature c f = first_in_body (get same_pos c.by_name f.pos) f
+-- of the checks that are asked by the position of its name
+abbrev pub first_in_feature : Asked → FeatureCore → Option Pos
+first_in_feature asked f = first_in_body (asked f.pos) f
 
-abbrev pub first_in_features : Checks → List FeatureCore → Option Pos
-first_in_features c [] = None
-first_in_features c (f ∷ more) = option_or (first_in_feature c f) (first_in_features c more)
+abbrev pub first_in_features : Asked → List FeatureCore → Option Pos
+first_in_features asked [] = None
+first_in_features asked (f ∷ more) = option_or (first_in_feature asked f) (first_in_features asked more)

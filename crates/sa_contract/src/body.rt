@@ -1,7 +1,9 @@
 //! The body of a feature with what its contract says woven in.
 
 ghost use Rattle.std.specs.Prelude.{◌≡◌, [], ◌++◌, IfOk, OnOk, map};
+ghost use Rattle.std.specs.List.{flat_map};
 ghost use Rattle.std.specs.Option.{option_copied};
+ghost use Rattle.sa_contract.specs.AskedChecks.{body_checks, declared_at, places_of, position_of, positions_of};
 ghost use Rattle.sa_contract.specs.ContractTables.{plain_duties};
 ghost use Rattle.sa_contract.specs.Leaving.{leaving_by};
 ghost use Rattle.sa_contract.specs.WovenClasses.{end_checks, ends_without_value, invariant_kept, kept_conditions, post_declared};
@@ -13,7 +15,7 @@ use crate::checks::BodyChecks;
 use crate::contracts::{FeatureContract, is_iter};
 use crate::initials::take_initials;
 use crate::statements::check_leaving;
-use sa_tree::{Condition, Feature, NoMemory, Pos, Stmt};
+use sa_tree::{Condition, Feature, Local, NoMemory, Pos, Stmt};
 use sqlite_items::Items;
 use std::alloc::Global;
 
@@ -34,11 +36,15 @@ pub(crate) fn weave_body(
     contract: &FeatureContract<'_>,
     budget: &mut Budget,
 ) -> Result<WovenBody, NoMemory>
-    ensures { IfOk result (λ woven. woven.list ≡ woven_body feature.now (plain_duties contract.now) body.now) }
+    ensures body { IfOk result (λ woven. woven.list ≡ woven_body feature.now (plain_duties contract.now) body.now) }
+    ensures checks { IfOk result (λ woven. woven.checks ≡ body_checks (plain_duties contract.now)) }
 {
     let mut declared = Items::new(alloc);
     let conditions = conditions_of(alloc, contract, &mut declared, budget)?;
-    let checks = checks_of(alloc, contract, declared.as_slice())?;
+    let checks = BodyChecks {
+        conditions: positions_of(alloc, contract)?,
+        initials: words(alloc, declared.as_slice())?,
+    };
     let kept = Kept {
         conditions: conditions.as_slice(),
         result: &feature.result,
@@ -170,34 +176,60 @@ fn ends_without_value(feature: &Feature) -> bool
     !feature.result.is_some() && !is_iter(&feature.name.name)
 }
 
-/// Where the checks are that are woven into the body, by these declarations of variables for its `initial`s.
-fn checks_of(
-    alloc: Global,
-    contract: &FeatureContract<'_>,
-    declared: &[Stmt],
-) -> Result<BodyChecks, NoMemory> {
-    let mut conditions = Items::new(alloc);
-    for condition in [contract.pre, contract.post, contract.invariant] {
-        if let Some(condition) = condition {
-            conditions.push(condition.pos)?;
-        }
-    }
-    let initials = words(alloc, declared)?;
-    Ok(BodyChecks {
-        conditions,
-        initials,
-    })
+/// The positions of the conditions that are woven into the body: of the `pre`, the `post` and the invariant.
+fn positions_of(alloc: Global, contract: &FeatureContract<'_>) -> Result<Items<Pos>, NoMemory>
+    ensures { IfOk result (λ positions. positions ≡ positions_of (plain_duties contract.now)) }
+{
+    let mut positions = Items::new(alloc);
+    add_position(contract.pre, &mut positions)?;
+    add_position(contract.post, &mut positions)?;
+    add_position(contract.invariant, &mut positions)?;
+    Ok(positions)
 }
 
-/// The positions of the names that are declared.
-fn words(alloc: Global, declared: &[Stmt]) -> Result<Items<Pos>, NoMemory> {
-    let mut words = Items::new(alloc);
-    for s in declared {
-        if let Stmt::Declare(names, _, _) = s {
-            for name in names.as_slice() {
-                words.push(name.pos)?;
-            }
+/// Puts the position of the condition, if there is one, at the end of the list.
+fn add_position(condition: Option<&Condition>, positions: &mut Items<Pos>) -> Result<(), NoMemory>
+    ensures { OnOk result (positions.new ≡ positions.old ++ position_of (option_copied condition.entry)) }
+{
+    match condition {
+        None => Ok(()),
+        Some(condition) => {
+            positions.push(condition.pos)?;
+            Ok(())
         }
     }
+}
+
+/// The positions of the names that are declared, in order: those of the words `initial`.
+#[tactic(auto, using(crate::proofs::DeclaredAt::all))]
+fn words(alloc: Global, declared: &[Stmt]) -> Result<Items<Pos>, NoMemory>
+    ensures { IfOk result (λ words. words ≡ flat_map declared_at declared.now) }
+{
+    let mut words = Items::new(alloc);
+    for s in declared {
+        add_words(s, &mut words)?;
+    }
     Ok(words)
+}
+
+/// Puts the positions of the names that the statement declares at the end of the list.
+#[tactic(auto, using(crate::proofs::DeclaredAt::one))]
+fn add_words(s: &Stmt, words: &mut Items<Pos>) -> Result<(), NoMemory>
+    ensures { OnOk result (words.new ≡ words.old ++ declared_at s.now) }
+{
+    match s {
+        Stmt::Declare(names, _, _) => add_places(names.as_slice(), words),
+        _ => Ok(()),
+    }
+}
+
+/// Puts the positions of the names at the end of the list.
+#[tactic(auto, using(crate::proofs::DeclaredAt::names))]
+fn add_places(names: &[Local], words: &mut Items<Pos>) -> Result<(), NoMemory>
+    ensures { OnOk result (words.new ≡ words.old ++ places_of names.now) }
+{
+    for name in names {
+        words.push(name.pos)?;
+    }
+    Ok(())
 }

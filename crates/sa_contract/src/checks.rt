@@ -1,12 +1,13 @@
 //! Where the checks stand in the typed tree of a woven program, and whether they are quiet (else E46).
 
-ghost use Rattle.std.specs.Prelude.{◌≡◌, IfErr, MatchResult, None, Some};
+ghost use Rattle.std.specs.Prelude.{◌≡◌, [], ◌∷◌, IfErr, MatchResult, None, OnOk, Some};
 ghost use Rattle.std.specs.List.{list_any};
 ghost use Rattle.sa_tree.specs.declared.rule.Rule.TheVariants.{ConditionNotQuiet};
 ghost use Rattle.sa_core.specs.Copy.{arms_of, block_of, expr_of, exprs_of, stmt_of, tests_of};
 ghost use Rattle.sa_contract.specs.NotQuiet.{asserted_at, condition_of, first_in, first_in_arms, first_in_block, first_in_feature};
 ghost use Rattle.sa_contract.specs.NotQuiet.{first_in_features, first_in_tests, initial_of, loud, loud_exprs, loud_tests};
-ghost use Rattle.sa_contract.specs.NotQuiet.{asserted, is_assert, plain_checks, same_pos};
+ghost use Rattle.sa_contract.specs.AskedChecks.{asked_by, asked_first, nothing_asked, same_pos};
+ghost use Rattle.sa_contract.specs.NotQuiet.{asserted, is_assert, plain_checks};
 
 use crate::quietness::quiet;
 use indexmap::IndexMap;
@@ -31,14 +32,20 @@ pub struct Checks {
 }
 
 impl Checks {
-    pub(crate) fn new(alloc: Global) -> Checks {
+    pub(crate) fn new(alloc: Global) -> Checks
+        ensures { asked_by result ≡ nothing_asked }
+    {
         Checks {
             by_name: IndexMap::new(alloc),
         }
     }
 
-    /// Adds those of the feature whose name is at the position.
-    pub(crate) fn add(&mut self, name: Pos, checks: BodyChecks) -> Result<(), NoMemory> {
+    /// Adds those of the feature whose name is at the position, in place of others of this name.
+    #[tactic(auto, using(crate::proofs::AskedLists::more))]
+    pub(crate) fn add(&mut self, name: Pos, checks: BodyChecks) -> Result<(), NoMemory>
+        ensures { OnOk result
+            (asked_by self.new ≡ asked_first (record { name = name; checks = checks } ∷ []) (asked_by self.old)) }
+    {
         self.by_name.insert(name, checks)?;
         Ok(())
     }
@@ -52,7 +59,7 @@ impl Checks {
     #[tactic(auto, using(crate::proofs::FirstAt::features))]
     pub fn check_quiet(&self, core: &Core) -> Result<(), Refusal>
         ensures rule { IfErr result (λ refusal. refusal.rule ≡ ConditionNotQuiet) }
-        ensures first { let first = first_in_features self.now core.now.features in
+        ensures first { let first = first_in_features (asked_by self.now) core.now.features in
             MatchResult result (λ _. first ≡ None) (λ refusal. first ≡ Some refusal.pos) }
     {
         for feature in core.features.as_slice() {
@@ -65,7 +72,7 @@ impl Checks {
 
     /// The first check in the body of a feature that isn't quiet.
     fn first_in_feature(&self, feature: &FeatureCore) -> Option<Pos>
-        ensures { result ≡ first_in_feature self.now feature.now }
+        ensures { result ≡ first_in_feature (asked_by self.now) feature.now }
     {
         let checks = self.by_name.get(&feature.pos)?;
         let woven = InFeature {

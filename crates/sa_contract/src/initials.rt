@@ -18,7 +18,7 @@ use std::alloc::{AllocError, Global};
 
 /// The test of a condition with a variable in place of each `initial`, whose declarations are put behind those in the list.
 /// The variables are numbered by their places in it.
-#[tactic(auto, using(crate::proofs::TakenAt::taken))]
+#[tactic(auto, using(crate::proofs::TakenAt::forms))]
 #[cycle(taking)]
 pub(crate) fn take_initials(
     alloc: Global,
@@ -76,7 +76,6 @@ pub(crate) fn take_initials(
     }
 }
 
-#[tactic(auto, using(crate::proofs::TakenAt::taken))]
 #[cycle(taking)]
 fn take_in_boxed(
     alloc: Global,
@@ -91,7 +90,7 @@ fn take_in_boxed(
     Ok(Boxed::new(alloc, taken)?)
 }
 
-#[tactic(auto, using(crate::proofs::TakenAt::taken))]
+#[tactic(auto, using(crate::proofs::TakenAt::options))]
 #[cycle(taking)]
 fn take_in_optional(
     alloc: Global,
@@ -111,7 +110,7 @@ fn take_in_optional(
     }
 }
 
-#[tactic(auto, using(crate::proofs::TakenAt::taken))]
+#[tactic(auto, using(crate::proofs::TakenAt::exprs))]
 #[cycle(taking)]
 fn take_in_exprs(
     alloc: Global,
@@ -129,7 +128,7 @@ fn take_in_exprs(
     Ok(taken)
 }
 
-#[tactic(auto, using(crate::proofs::TakenAt::taken))]
+#[tactic(auto, using(crate::proofs::TakenAt::receivers))]
 #[cycle(taking)]
 fn take_in_receiver(
     alloc: Global,
@@ -147,7 +146,7 @@ fn take_in_receiver(
     }
 }
 
-#[tactic(auto, using(crate::proofs::TakenAt::taken))]
+#[tactic(auto, using(crate::proofs::TakenAt::arguments))]
 #[cycle(taking)]
 fn take_in_args(
     alloc: Global,
@@ -165,7 +164,7 @@ fn take_in_args(
     Ok(taken)
 }
 
-#[tactic(auto, using(crate::proofs::TakenAt::taken))]
+#[tactic(auto, using(crate::proofs::TakenAt::argument))]
 #[cycle(taking)]
 fn take_in_arg(
     alloc: Global,

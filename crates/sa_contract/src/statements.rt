@@ -31,7 +31,7 @@ impl Giving {
 
 /// The statements, in which what the feature keeps is checked at each `return` and `yield`. It fails where memory runs out,
 /// or the budget.
-#[tactic(auto, using(crate::proofs::LeavingAt::statements))]
+#[tactic(auto, using(crate::proofs::LeavingAt::lists))]
 #[cycle(statement)]
 pub(crate) fn check_leaving(
     alloc: Global,
@@ -120,7 +120,7 @@ fn statement(
 }
 
 /// The same in the arms of an `if`.
-#[tactic(auto, using(crate::proofs::LeavingAt::statements))]
+#[tactic(auto, using(crate::proofs::LeavingAt::lists))]
 #[cycle(statement)]
 fn arms(
     alloc: Global,
@@ -137,7 +137,7 @@ fn arms(
     Ok(woven)
 }
 
-#[tactic(auto, using(crate::proofs::LeavingAt::statements))]
+#[tactic(auto, using(crate::proofs::LeavingAt::arms))]
 #[cycle(statement)]
 fn arm(alloc: Global, of: &Arm, kept: &Kept<'_>, budget: &mut Budget) -> Result<Arm, NoMemory>
     ensures { IfOk result (λ woven. woven ≡ leaving_arm_by kept.now of.now) }
@@ -148,7 +148,7 @@ fn arm(alloc: Global, of: &Arm, kept: &Kept<'_>, budget: &mut Budget) -> Result<
 }
 
 /// The same in the branches of a `case`.
-#[tactic(auto, using(crate::proofs::LeavingAt::statements))]
+#[tactic(auto, using(crate::proofs::LeavingAt::lists))]
 #[cycle(statement)]
 fn case_arms(
     alloc: Global,
@@ -165,7 +165,7 @@ fn case_arms(
     Ok(woven)
 }
 
-#[tactic(auto, using(crate::proofs::LeavingAt::statements))]
+#[tactic(auto, using(crate::proofs::LeavingAt::arms))]
 #[cycle(statement)]
 fn case_arm(
     alloc: Global,
@@ -181,7 +181,7 @@ fn case_arm(
 }
 
 /// The same in the branches of a `typecase` or a `protect`.
-#[tactic(auto, using(crate::proofs::LeavingAt::statements))]
+#[tactic(auto, using(crate::proofs::LeavingAt::lists))]
 #[cycle(statement)]
 fn type_arms(
     alloc: Global,
@@ -198,7 +198,7 @@ fn type_arms(
     Ok(woven)
 }
 
-#[tactic(auto, using(crate::proofs::LeavingAt::statements))]
+#[tactic(auto, using(crate::proofs::LeavingAt::arms))]
 #[cycle(statement)]
 fn type_arm(
     alloc: Global,

@@ -1,7 +1,8 @@
 //! The classes of a program with the checks of its contracts woven into the bodies.
 
-ghost use Rattle.std.specs.Prelude.{◌≡◌, IfOk};
+ghost use Rattle.std.specs.Prelude.{◌≡◌, IfOk, OnOk};
 ghost use Rattle.std.specs.Option.{unwrap_or};
+ghost use Rattle.sa_contract.specs.AskedChecks.{asked, asked_by, asked_first, feature_checks, features_checks, woven_checks};
 ghost use Rattle.sa_contract.specs.ContractTables.{duties_in};
 ghost use Rattle.sa_contract.specs.WovenClasses.{duties_of, woven_class, woven_classes, woven_feature, woven_features, woven_part};
 
@@ -39,7 +40,8 @@ pub fn weave(
     classes: Items<Class>,
     contracts: &[Contract],
 ) -> Result<Woven, NoMemory>
-    ensures { IfOk result (λ woven. woven.classes ≡ woven_classes (duties_of contracts.now) 0 classes) }
+    ensures classes { IfOk result (λ woven. woven.classes ≡ woven_classes (duties_of contracts.now) 0 classes) }
+    ensures checks { IfOk result (λ woven. asked_by woven.checks ≡ asked (woven_checks (duties_of contracts.now) 0 classes)) }
 {
     let table = ContractTable::new(alloc, contracts)?;
     let mut weaving = Weaving {
@@ -53,14 +55,16 @@ pub fn weave(
     })
 }
 
-#[tactic(auto, using(crate::proofs::WovenLists::popped))]
+#[tactic(auto, using(crate::proofs::WovenLists::popped, crate::proofs::AskedLists::popped))]
 fn weave_classes(
     alloc: Global,
     table: &ContractTable<'_>,
     classes: Items<Class>,
     weaving: &mut Weaving,
 ) -> Result<Items<Class>, NoMemory>
-    ensures { IfOk result (λ woven. woven ≡ woven_classes (duties_in table.now) 0 classes) }
+    ensures classes { IfOk result (λ woven. woven ≡ woven_classes (duties_in table.now) 0 classes) }
+    ensures checks { OnOk result (asked_by weaving.new.checks
+        ≡ asked_first (woven_checks (duties_in table.now) 0 classes) (asked_by weaving.old.checks)) }
 {
     let mut rest = classes;
     let mut last_first = Vec::new(alloc);
@@ -79,14 +83,16 @@ fn weave_class(
     number: usize,
     weaving: &mut Weaving,
 ) -> Result<Class, NoMemory>
-    ensures { IfOk result (λ woven. woven ≡ woven_class (duties_in table.now) number class) }
+    ensures class { IfOk result (λ woven. woven ≡ woven_class (duties_in table.now) number class) }
+    ensures checks { OnOk result (asked_by weaving.new.checks
+        ≡ asked_first (features_checks (duties_in table.now) number 0 class.features) (asked_by weaving.old.checks)) }
 {
     let features = weave_features(alloc, table, class.features, number, weaving)?;
     Ok(Class { features, ..class })
 }
 
 /// The features that the class with this number writes.
-#[tactic(auto, using(crate::proofs::WovenLists::popped))]
+#[tactic(auto, using(crate::proofs::WovenLists::popped, crate::proofs::AskedLists::popped))]
 fn weave_features(
     alloc: Global,
     table: &ContractTable<'_>,
@@ -94,7 +100,9 @@ fn weave_features(
     class: usize,
     weaving: &mut Weaving,
 ) -> Result<Items<Feature>, NoMemory>
-    ensures { IfOk result (λ woven. woven ≡ woven_features (duties_in table.now) class 0 features) }
+    ensures features { IfOk result (λ woven. woven ≡ woven_features (duties_in table.now) class 0 features) }
+    ensures checks { OnOk result (asked_by weaving.new.checks
+        ≡ asked_first (features_checks (duties_in table.now) class 0 features) (asked_by weaving.old.checks)) }
 {
     let mut rest = features;
     let mut last_first = Vec::new(alloc);
@@ -117,7 +125,10 @@ fn weave_feature(
     place: FeaturePlace,
     weaving: &mut Weaving,
 ) -> Result<Feature, NoMemory>
-    ensures { IfOk result (λ woven. woven ≡ woven_feature feature (duties_in table.now place.class place.feature feature)) }
+    ensures feature { let duties = duties_in table.now place.class place.feature feature in
+        IfOk result (λ woven. woven ≡ woven_feature feature duties) }
+    ensures checks { let duties = duties_in table.now place.class place.feature feature in
+        OnOk result (asked_by weaving.new.checks ≡ asked_first (feature_checks feature duties) (asked_by weaving.old.checks)) }
 {
     let part = woven_part(alloc, table, &feature, place, weaving)?;
     Ok(with_part(feature, part))
@@ -141,8 +152,11 @@ fn woven_part(
     place: FeaturePlace,
     weaving: &mut Weaving,
 ) -> Result<Option<Part>, NoMemory>
-    ensures { let duties = duties_in table.now place.class place.feature feature.now in
+    ensures part { let duties = duties_in table.now place.class place.feature feature.now in
         IfOk result (λ part. unwrap_or part feature.now.part ≡ woven_part feature.now duties feature.now.part) }
+    ensures checks { let duties = duties_in table.now place.class place.feature feature.now in
+        OnOk result (asked_by weaving.new.checks
+        ≡ asked_first (feature_checks feature.now duties) (asked_by weaving.old.checks)) }
 {
     let Part::Routine(body) = &feature.part else {
         return Ok(None);
