@@ -1,9 +1,12 @@
 //! A flat program as a module, with what its reader has to know of it.
 
 use crate::memory::memory_of;
-use crate::module::module;
+use crate::module::{functions_of, module};
 use crate::places::places_of;
 use crate::pool::{slot_bytes, slot_words};
+use crate::reached::reached_of;
+use crate::runtime::runtime_of;
+use crate::types::own_types;
 use sa_dispatch::Rows;
 use sa_emit_value::{Below, Program};
 use sa_flat::FlatProgram;
@@ -33,9 +36,14 @@ pub fn emit(
     room: u32,
 ) -> Result<Emitted, NoMemory> {
     let slot_words = slot_words(flat)?;
-    let memory = memory_of(alloc, flat, slot_bytes(slot_words)?, room)?;
+    let reached = reached_of(alloc, flat, rows)?;
+    let memory = memory_of(alloc, flat, &reached, slot_bytes(slot_words)?, room)?;
     let below = Below::of(alloc, flat)?;
-    let places = places_of(alloc, flat, rows)?;
+    let places = places_of(alloc, flat, rows, &reached)?;
+    let mut types = own_types(alloc)?;
+    let runtime = runtime_of(alloc, &mut types, &memory, room, &reached.runtime)?;
+    let numbers = Items::from_slice(alloc, runtime.numbers.as_slice())?;
+    let functions = functions_of(alloc, &reached, runtime.funcs.len())?;
     let program = Program {
         flat,
         rows,
@@ -43,9 +51,11 @@ pub fn emit(
         below: &below,
         entries: memory.entries.as_slice(),
         places: places.of.as_slice(),
+        runtime: numbers.as_slice(),
+        functions: functions.as_slice(),
     };
     Ok(Emitted {
-        module: module(alloc, program, &memory, &places, room)?,
+        module: module(alloc, program, &reached, &memory, &places, runtime, types)?,
         sites: Items::from_slice(alloc, flat.sites.as_slice())?,
     })
 }

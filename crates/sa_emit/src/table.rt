@@ -2,8 +2,9 @@
 //! a span the function that does it, and behind them the functions of the other bodies that bound values call.
 
 use crate::places::Places;
+use crate::reached::Reached;
 use crate::sums::{number, sum};
-use sa_emit_value::{Program, function_of, held};
+use sa_emit_value::{Program, held};
 use sqlite_items::Items;
 use std::alloc::Global;
 use std::mem;
@@ -31,6 +32,7 @@ struct Filled {
 pub(crate) fn elements(
     alloc: Global,
     program: Program<'_>,
+    reached: &Reached,
     places: &Places,
 ) -> Result<Items<ElemSegment>, NoMemory> {
     let mut filled = Filled {
@@ -39,9 +41,11 @@ pub(crate) fn elements(
         funcs: Items::new(alloc),
     };
     for sig in 0..program.rows.signatures() {
-        add_signature(alloc, &mut filled, program, sig)?;
+        if reached.signatures.get(sig as usize) == Some(&true) {
+            add_signature(alloc, &mut filled, program, sig)?;
+        }
     }
-    add_placed(alloc, &mut filled, places)?;
+    add_placed(alloc, &mut filled, program, places)?;
     filled.close(alloc)?;
     let Filled {
         elems,
@@ -62,17 +66,22 @@ fn add_signature(
         if let Some(place) = program.rows.place(sig, *ty) {
             let row = held(program.rows.row(sig, *ty))?;
             let body = program.body_of_row(row)?;
-            filled.add(alloc, place, function_of(body)?)?;
+            filled.add(alloc, place, program.function_of(body)?)?;
         }
     }
     Ok(())
 }
 
 /// Adds the functions of the bodies behind those of the implementations.
-fn add_placed(alloc: Global, filled: &mut Filled, places: &Places) -> Result<(), NoMemory> {
+fn add_placed(
+    alloc: Global,
+    filled: &mut Filled,
+    program: Program<'_>,
+    places: &Places,
+) -> Result<(), NoMemory> {
     for (behind, body) in places.bodies.as_slice().iter().enumerate() {
         let place = sum(places.first, number(behind)?)?;
-        filled.add(alloc, place, function_of(*body)?)?;
+        filled.add(alloc, place, program.function_of(*body)?)?;
     }
     Ok(())
 }

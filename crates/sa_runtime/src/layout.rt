@@ -58,29 +58,27 @@ pub const BOXED: u32 = 40;
 /// The function that gives the immutable value that was widened.
 pub const UNWRAPPED: u32 = 41;
 
-/// The function that takes a slot of the pool of frames, and gives its number or -1.
-pub const TAKE: u32 = 42;
-
-/// The function that gives a slot back by its number.
-pub const GIVE: u32 = 43;
-
 /// The function that takes a frame and gives its address, or 0 where all are taken.
-pub const NEW_FRAME: u32 = 44;
+pub const NEW_FRAME: u32 = 42;
 
 /// The function that gives a frame back.
-pub const END_FRAME: u32 = 45;
+pub const END_FRAME: u32 = 43;
 
 /// The function that gives back a frame and those of the instances inside it, inner ones first.
-pub const RELEASE: u32 = 46;
+pub const RELEASE: u32 = 44;
 
 /// The function that calls a bound value on the arguments in the area.
-pub const BOUND_CALL: u32 = 47;
+pub const BOUND_CALL: u32 = 45;
 
 /// The function of the first body of the program.
-pub const FIRST_BODY: u32 = 48;
+pub const FIRST_BODY: u32 = 46;
 
-/// The number of the type that the function of each body has, behind those of the three imported functions: it takes the depth
-/// of its activation and its frame, or 0, and answers a status.
+/// How many of the arguments of a body are parameters of its function, at most. The others lie in memory.
+pub const PARAMETERS: usize = 4;
+
+/// The number of the type that the function of a body without arguments has, behind those of the three imported functions; those
+/// of bodies with arguments follow, up to `PARAMETERS` of them. A function takes its arguments, its own object, how much deeper
+/// activations may nest, and its frame, or 0, and answers a status.
 pub const BODY_TYPE: u32 = 3;
 
 /// The status of a body that has returned.
@@ -182,14 +180,12 @@ pub const SET_SHARED: u32 = 11;
 /// The built-in feature with the number 0; the others follow it in the order of their numbers.
 pub const FIRST_BOUND_BUILTIN: u32 = 12;
 
-/// The address of the word that hands `self` to a body.
-pub const SELF_AT: u32 = 16;
-
-/// The address of the word that hands a body its first argument. There is room for 200.
-pub const FIRST_ARGUMENT_AT: u32 = 24;
+/// The address of the word of a body's first argument, for arguments that are handed over or handed back in memory. There is room for
+/// 200.
+pub const FIRST_ARGUMENT_AT: u32 = 16;
 
 /// The address of the first shared, behind the arguments.
-pub const SHAREDS_AT: u32 = 1624;
+pub const SHAREDS_AT: u32 = 1616;
 
 /// The tag of an object of a reference class, and of an immutable value at its own type.
 pub const OBJECT: u8 = 0;

@@ -79,12 +79,8 @@ pub(crate) const SUPPORT_TYPES: [Signature; 5] = [
     },
 ];
 
-/// The types of `NEW_FRAME` and `TAKE`, of `END_FRAME`, `RELEASE` and `GIVE`, and of `BOUND_CALL`.
-pub(crate) const FRAME_TYPES: [Signature; 3] = [
-    Signature {
-        params: &[],
-        results: &[I32],
-    },
+/// The types of `RELEASE` and of `BOUND_CALL`.
+pub(crate) const FRAME_TYPES: [Signature; 2] = [
     Signature {
         params: &[I32],
         results: &[],
@@ -95,11 +91,8 @@ pub(crate) const FRAME_TYPES: [Signature; 3] = [
     },
 ];
 
-/// The type of a function that takes a frame out of the pool.
-pub(crate) const TAKES_FRAME: u32 = 0;
-
 /// The type of a function that gives frames back.
-pub(crate) const GIVES_FRAME: u32 = 1;
+pub(crate) const GIVES_FRAME: u32 = 0;
 
 /// The type of `BOUND_CALL`.
-pub(crate) const CALLS_BOUND: u32 = 2;
+pub(crate) const CALLS_BOUND: u32 = 1;
