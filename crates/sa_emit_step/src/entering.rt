@@ -1,12 +1,11 @@
 //! Steps of bodies that were made for an implementation by an iter. Such a body is no activation: it takes the frame of the
 //! instance at a start, hands it out, and runs the iter's body on it, at the depth of its caller.
 
-use crate::frames::{add_frame_self, add_is_frame};
-use crate::outcome::{Instance, add_is_raised, add_is_suspended, add_left, add_quit};
+use crate::frames::add_is_frame;
+use crate::outcome::{Instance, add_is_raised, add_is_suspended, add_quit, add_status};
 use sa_emit_call::{add_deeper, add_too_deep};
 use sa_emit_value::{
-    Around, FRAME, Handing, add_answers, add_handed, add_handed_on, add_if, add_if_else,
-    function_of,
+    Around, Handing, add_answers, add_handed_on, add_if, add_if_else, add_passed,
 };
 use sa_flat::FlatArg;
 use sa_runtime::fault_numbers::{TOO_DEEP, TOO_MANY_FRAMES};
@@ -24,7 +23,7 @@ pub(crate) fn add_has_frame(
     around: &Around<'_>,
     to: u32,
 ) -> Result<(), NoMemory> {
-    add_is_frame(code, around, to, FRAME)
+    add_is_frame(code, around, to, around.frame())
 }
 
 /// The step that takes the frame of the instance at a start, and runs the iter's body on it.
@@ -47,19 +46,20 @@ pub(crate) fn add_enter(
     around: &Around<'_>,
     entering: &Entering<'_>,
 ) -> Result<(), NoMemory> {
-    let func = function_of(entering.body)?;
-    add_too_deep(code)?;
+    let func = around.program.function_of(entering.body)?;
+    add_too_deep(code, around)?;
     add_handed_on_if(alloc, code, TOO_DEEP)?;
-    add_frame(alloc, code, around, entering.recv)?;
-    add_handed(code, around.body, entering.args, Handing::AtStart)?;
-    add_deeper(code, Op::Get(FRAME))?;
+    add_frame(alloc, code, around)?;
+    add_passed(code, around, entering.args, Handing::AtStart)?;
+    add_line(code, &[around.operand(entering.recv)])?;
+    add_deeper(code, around, Op::Get(around.frame()))?;
     add_line(code, &[Op::Call(func)])?;
     let inner = around.further_in()?;
     let mut suspended = Items::new(alloc);
     add_suspended(&mut suspended, &inner, entering)?;
     let mut ended = Items::new(alloc);
     add_ended(alloc, &mut ended, &inner, entering.quit)?;
-    add_left(code, around, FRAME)?;
+    add_status(code, around, around.frame())?;
     add_is_suspended(code)?;
     add_if_else(code, suspended, ended)
 }
@@ -76,17 +76,17 @@ fn add_frame(
     alloc: Global,
     code: &mut Items<Instr>,
     around: &Around<'_>,
-    recv: u32,
 ) -> Result<(), NoMemory> {
-    let inner = around.further_in()?;
+    let frame = around.frame();
+    let tracing = around.program.tracing;
     let mut start = Items::new(alloc);
-    let line = [Op::Call(NEW_FRAME), Op::Tee(FRAME), Op::Do(I32_EQZ)];
+    let line = [around.runtime(NEW_FRAME)?, Op::Tee(frame), Op::Do(I32_EQZ)];
     add_line(&mut start, &line)?;
     add_handed_on_if(alloc, &mut start, TOO_MANY_FRAMES)?;
-    add_frame_self(&mut start, &inner, FRAME, recv)?;
+    add_event(&mut start, tracing, frame, Event::Start)?;
     let mut resumption = Items::new(alloc);
-    add_event(&mut resumption, inner.program.tracing, FRAME, Event::Resume)?;
-    add_line(code, &[Op::Get(FRAME), Op::Do(I32_EQZ)])?;
+    add_event(&mut resumption, tracing, frame, Event::Resume)?;
+    add_line(code, &[Op::Get(frame), Op::Do(I32_EQZ)])?;
     add_if_else(code, start, resumption)
 }
 
@@ -96,8 +96,8 @@ fn add_suspended(
     around: &Around<'_>,
     entering: &Entering<'_>,
 ) -> Result<(), NoMemory> {
-    add_line(code, &[Op::Get(FRAME), Op::SetGlobal(FRAME_OUT)])?;
-    add_answers(code, around.body, entering.value, entering.args)?;
+    add_line(code, &[Op::Get(around.frame()), Op::SetGlobal(FRAME_OUT)])?;
+    add_answers(code, around, entering.value, entering.args)?;
     add_quit(code, around, entering.quit, Instance::Suspended)
 }
 
@@ -108,10 +108,10 @@ fn add_ended(
     around: &Around<'_>,
     quit: u32,
 ) -> Result<(), NoMemory> {
-    add_line(code, &[Op::Get(FRAME), Op::Call(END_FRAME)])?;
+    add_line(code, &[Op::Get(around.frame()), around.runtime(END_FRAME)?])?;
     let mut raise = Items::new(alloc);
     add_line(&mut raise, &[Op::I32(RAISED), Op::Do(RETURN)])?;
-    add_is_raised(code)?;
+    add_is_raised(code, around)?;
     add_if(alloc, code, raise)?;
     add_quit(code, around, quit, Instance::Ended)
 }

@@ -11,11 +11,17 @@
 use crate::layout::{PUT, RAISED, STARTED, STARTING_SITE, TRACED_SITE_AT, TRACED_WORDS};
 use crate::line::Op::{Call, Do, Get, GetGlobal, I32, I64, Memory, SetGlobal};
 use crate::line::add_line;
-use crate::signatures::{TELLS, TELLS_BYTE};
+use crate::signatures::{TELLS, TELLS_BY_NUMBER};
 use sqlite_items::Items;
 use std::alloc::Global;
 use wa_syntax::opcode::{I32_EQ, I32_LOAD8_U, I32_STORE, I64_ADD, I64_STORE, SELECT};
 use wa_syntax::{Func, Instr, Locals, NoMemory};
+
+/// The first parameter of a function that tells of an instance: the frame in memory.
+const FRAME: u32 = 0;
+
+/// The second parameter: the number of the event, or the status.
+const WHAT: u32 = 1;
 
 /// Whether a module is traced.
 #[derive(Clone, Copy, Debug, PartialEq, Eq)]
@@ -31,6 +37,8 @@ pub enum Tracing {
 pub struct Tellers {
     /// Puts the frame of a byte of the output, which is the low byte of its argument.
     pub byte: u32,
+    /// Makes a frame in memory that of a new instance, and puts the frame of its start.
+    pub start: u32,
     /// Puts the frame of an event, of the frame of an instance in memory and the event's number.
     pub event: u32,
     /// Puts the frame of the event by which the body of an instance was left, of its frame in memory and the body's status.
@@ -44,9 +52,10 @@ impl Tellers {
     ///
     /// `NoMemory` where 32 bits don't hold their numbers.
     pub fn from(first: u32) -> Result<Tellers, NoMemory> {
-        let last = first.checked_add(2).ok_or(NoMemory)?;
+        let last = first.checked_add(3).ok_or(NoMemory)?;
         Ok(Tellers {
             byte: first,
+            start: last - 2,
             event: last - 1,
             outcome: last,
         })
@@ -88,13 +97,24 @@ pub fn add_event(
     frame: u32,
     event: Event,
 ) -> Result<(), NoMemory> {
-    match tracing {
-        Tracing::Off => Ok(()),
-        Tracing::On(tellers) => add_line(
-            to,
-            &[Get(frame), I32(event.number()), Call(tellers.event)],
-        ),
+    let Tracing::On(tellers) = tracing else {
+        return Ok(());
+    };
+    match event {
+        Event::Start => add_line(to, &[Get(frame), Call(tellers.start)]),
+        Event::Resume | Event::Abandon => add_told(to, tellers, frame, event),
     }
+}
+
+/// Adds what puts the frame of an event of the instance whose frame is in this local.
+fn add_told(
+    to: &mut Items<Instr>,
+    tellers: Tellers,
+    frame: u32,
+    event: Event,
+) -> Result<(), NoMemory> {
+    let line = [Get(frame), I32(event.number()), Call(tellers.event)];
+    add_line(to, &line)
 }
 
 /// Adds what tells how the body of the instance was left whose frame is in this local: by the status in the other local.
@@ -130,29 +150,13 @@ pub(crate) fn add_put(to: &mut Items<Instr>, tracing: Tracing) -> Result<(), NoM
     }
 }
 
-/// Adds what makes the frame in this local, which has so many bytes, that of a new instance, and tells its start.
-pub(crate) fn add_started(
-    to: &mut Items<Instr>,
-    tracing: Tracing,
-    frame: u32,
-    slot_bytes: u32,
-) -> Result<(), NoMemory> {
-    match tracing {
-        Tracing::Off => Ok(()),
-        Tracing::On(_) => {
-            add_identity(to, frame, slot_bytes)?;
-            add_event(to, tracing, frame, Event::Start)
-        }
-    }
-}
-
-/// Adds what puts the site and the number of a new instance into the frame in this local, which has so many bytes.
-fn add_identity(to: &mut Items<Instr>, frame: u32, slot_bytes: u32) -> Result<(), NoMemory> {
+/// Adds what puts the site and the number of a new instance into its frame, which has so many bytes.
+fn add_identity(to: &mut Items<Instr>, slot_bytes: u32) -> Result<(), NoMemory> {
     let line = [
-        Get(frame),
+        Get(FRAME),
         GetGlobal(STARTING_SITE),
         Memory(I32_STORE, TRACED_SITE_AT),
-        Get(frame),
+        Get(FRAME),
         GetGlobal(STARTED),
         Memory(I64_STORE, number_at(slot_bytes)),
         GetGlobal(STARTED),
@@ -168,12 +172,6 @@ fn number_at(slot_bytes: u32) -> u32 {
     slot_bytes.saturating_sub(8)
 }
 
-/// The first parameter of a function that tells an event: the frame in memory.
-const FRAME: u32 = 0;
-
-/// The second parameter: the number of the event, or the status.
-const WHAT: u32 = 1;
-
 /// The functions that put frames, in the order of `Tellers`.
 pub(crate) fn teller_functions(
     alloc: Global,
@@ -182,6 +180,7 @@ pub(crate) fn teller_functions(
 ) -> Result<Items<Func>, NoMemory> {
     let mut funcs = Items::new(alloc);
     funcs.push(tells_byte(alloc)?)?;
+    funcs.push(tells_start(alloc, tellers, slot_bytes)?)?;
     funcs.push(tells_event(alloc, slot_bytes)?)?;
     funcs.push(tells_outcome(alloc, tellers)?)?;
     Ok(funcs)
@@ -192,7 +191,19 @@ fn tells_byte(alloc: Global) -> Result<Func, NoMemory> {
     let mut body = Items::new(alloc);
     add_line(&mut body, &[I32(0), Call(PUT), Get(0), Call(PUT)])?;
     Ok(Func {
-        ty: TELLS_BYTE,
+        ty: TELLS,
+        locals: Locals::new(alloc),
+        body,
+    })
+}
+
+/// The function that makes a frame in memory that of a new instance, and puts the frame of its start.
+fn tells_start(alloc: Global, tellers: Tellers, slot_bytes: u32) -> Result<Func, NoMemory> {
+    let mut body = Items::new(alloc);
+    add_identity(&mut body, slot_bytes)?;
+    add_told(&mut body, tellers, FRAME, Event::Start)?;
+    Ok(Func {
+        ty: TELLS,
         locals: Locals::new(alloc),
         body,
     })
@@ -205,7 +216,7 @@ fn tells_event(alloc: Global, slot_bytes: u32) -> Result<Func, NoMemory> {
     add_bytes(&mut body, TRACED_SITE_AT, 4)?;
     add_bytes(&mut body, number_at(slot_bytes), 8)?;
     Ok(Func {
-        ty: TELLS,
+        ty: TELLS_BY_NUMBER,
         locals: Locals::new(alloc),
         body,
     })
@@ -236,7 +247,7 @@ fn tells_outcome(alloc: Global, tellers: Tellers) -> Result<Func, NoMemory> {
     ];
     add_line(&mut body, &line)?;
     Ok(Func {
-        ty: TELLS,
+        ty: TELLS_BY_NUMBER,
         locals: Locals::new(alloc),
         body,
     })
