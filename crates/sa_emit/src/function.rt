@@ -97,7 +97,7 @@ fn shaped_code(
     let mut code = Items::new(alloc);
     if shaped.entries.len() == 1 {
         add_prologue(&mut code, around.body)?;
-    } else if shaped.repeats {
+    } else if shaped.repeats() {
         add_before_choice(alloc, &mut code, &around)?;
     }
     let mut writer = Writer::new(alloc, around.body)?;

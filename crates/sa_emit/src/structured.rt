@@ -221,7 +221,7 @@ fn add_entries(
     spot: Spot<'_>,
 ) -> Result<(), NoMemory> {
     let around = writer.at_exit(&spot.around);
-    if spot.shaped.repeats {
+    if spot.shaped.repeats() {
         return add_choice_again(alloc, code, &around, spot.shaped, spot.behind);
     }
     add_choice(alloc, code, &around, spot.shaped)?;

@@ -1,15 +1,13 @@
-//! The pool as two functions of a WebAssembly module: the same steps on the same words. Slots are named by their addresses.
+//! The pool as two functions of a WebAssembly module: the same slots in the same order. Slots are named by their addresses, and so are
+//! they on the chain.
 
 ghost use Rattle.std.specs.Prelude.{◌≡◌, IfOk};
 
-use sa_runtime::line::Op::{self, Do, Get, I32, I64, Memory, Set, Tee};
+use sa_runtime::line::Op::{self, Do, Get, I32, I64, Memory, Tee};
 use sa_runtime::line::add_line;
 use sqlite_items::Items;
 use std::alloc::Global;
-use wa_syntax::opcode::{
-    I32_ADD, I32_AND, I32_DIV_U, I32_EQ, I32_MUL, I32_SUB, I32_WRAP_I64, I64_ADD, I64_AND,
-    I64_EXTEND_I32_U, I64_LOAD, I64_SHL, I64_SHR_U, I64_STORE, I64_SUB, RETURN,
-};
+use wa_syntax::opcode::{I32_ADD, I32_EQ, I32_LOAD, I32_STORE, I64_STORE, RETURN};
 use wa_syntax::{Func, Instr, Locals, NoMemory, ValTy};
 
 /// The functions of a module that take a slot and give one back.
@@ -19,11 +17,8 @@ pub struct PoolCode {
     pub give: Func,
 }
 
-/// The address of the slot: the parameter of `give`, and a local of `take`, where it is the number first.
+/// The address of the slot: the parameter of `give`, and the local of `take`, where it is also how many bytes were ever taken.
 const SLOT: u32 = 0;
-
-/// The head.
-const HEAD: u32 = 1;
 
 /// The type of `take`: no parameter, and a result of the type `i32`.
 const TAKES: u32 = 0;
@@ -31,17 +26,26 @@ const TAKES: u32 = 0;
 /// The type of `give`: a parameter of the type `i32`, and no result.
 const GIVES: u32 = 1;
 
-/// The bytes of the head, which the slots follow.
+/// How many slots there are.
+const SLOTS: u32 = 10_000;
+
+/// The bytes of the head, which the slots follow: the address of the first slot of the chain, or 0, and behind it how many bytes the
+/// slots have that were ever taken.
 const HEAD_BYTES: u32 = 8;
 
-/// The bits of a head without those of its chain.
-const ALL_BUT_TOP: u64 = 0xffff_0000_ffff;
-
-/// A live slot in a head.
-const ONE_LIVE: u64 = 0x1_0000_0000;
-
-/// A live slot that was never taken before in a head.
-const ONE_USED: u64 = 0x1_0000_0001;
+/// Where a pool lies.
+#[derive(Clone, Copy)]
+struct Place {
+    /// The address of the first slot of the chain.
+    chain: u32,
+    /// The address of how many bytes were ever taken.
+    taken: u32,
+    /// The address of the first slot.
+    first: u32,
+    slot_bytes: u32,
+    /// The bytes of all slots.
+    all_bytes: u32,
+}
 
 /// The functions of a pool in the memory from the address `base` on, with slots of so many bytes: both are multiples of 8, a slot
 /// has 16 bytes or more, and the memory holds `8 + 10000 * slot_bytes` bytes from there on. Memory that is 0 is a new pool.
@@ -56,65 +60,58 @@ const ONE_USED: u64 = 0x1_0000_0001;
 pub fn code(alloc: Global, base: u32, slot_bytes: u32) -> Result<PoolCode, NoMemory>
     ensures { IfOk result (λ code. (code.take.ty ≡ 0) × (code.give.ty ≡ 1)) }
 {
+    let place = place_of(base, slot_bytes)?;
     let mut locals = Locals::new(alloc);
     locals.push(1, ValTy::I32)?;
-    locals.push(1, ValTy::I64)?;
-    let mut behind_slot = Locals::new(alloc);
-    behind_slot.push(1, ValTy::I64)?;
     Ok(PoolCode {
         take: Func {
             ty: TAKES,
             locals,
-            body: take(alloc, base, slot_bytes)?,
+            body: take(alloc, place)?,
         },
         give: Func {
             ty: GIVES,
-            locals: behind_slot,
-            body: give(alloc, base, slot_bytes)?,
+            locals: Locals::new(alloc),
+            body: give(alloc, place)?,
         },
     })
 }
 
+/// Where a pool lies.
+fn place_of(base: u32, slot_bytes: u32) -> Result<Place, NoMemory> {
+    let first = base.checked_add(HEAD_BYTES).ok_or(NoMemory)?;
+    Ok(Place {
+        chain: base,
+        taken: first - 4,
+        first,
+        slot_bytes,
+        all_bytes: slot_bytes.checked_mul(SLOTS).ok_or(NoMemory)?,
+    })
+}
+
 /// The body of `take`.
-fn take(alloc: Global, base: u32, slot_bytes: u32) -> Result<Items<Instr>, NoMemory> {
-    let first = base.wrapping_add(HEAD_BYTES);
+fn take(alloc: Global, place: Place) -> Result<Items<Instr>, NoMemory> {
     let mut body = Items::new(alloc);
-    // The slot that the chain begins with: one more than its number, or 0 without one.
-    let first_of_chain = [
-        I32(0),
-        Memory(I64_LOAD, base),
-        Tee(HEAD),
-        I64(16),
-        Do(I64_SHR_U),
-        Do(I32_WRAP_I64),
-        I32(0xffff),
-        Do(I32_AND),
-        Tee(SLOT),
-    ];
+    let first_of_chain = [I32(0), Memory(I32_LOAD, place.chain), Tee(SLOT)];
     add_line(&mut body, &first_of_chain)?;
-    add_if(alloc, &mut body, chained(alloc, base, slot_bytes)?)?;
-    // The first slot that was never taken, and whether there is none.
-    let first_unused = [
-        Get(HEAD),
-        Do(I32_WRAP_I64),
-        I32(0xffff),
-        Do(I32_AND),
+    add_if(alloc, &mut body, chained(alloc, place)?)?;
+    let is_all_taken = [
+        I32(0),
+        Memory(I32_LOAD, place.taken),
         Tee(SLOT),
-        I32(10_000),
+        I32(place.all_bytes),
         Do(I32_EQ),
     ];
-    add_line(&mut body, &first_unused)?;
+    add_line(&mut body, &is_all_taken)?;
     add_if(alloc, &mut body, line(alloc, &[I32(0), Do(RETURN)])?)?;
     let take_unused = [
         I32(0),
-        Get(HEAD),
-        I64(ONE_USED),
-        Do(I64_ADD),
-        Memory(I64_STORE, base),
         Get(SLOT),
-        I32(slot_bytes),
-        Do(I32_MUL),
-        I32(first),
+        I32(place.slot_bytes),
+        Do(I32_ADD),
+        Memory(I32_STORE, place.taken),
+        Get(SLOT),
+        I32(place.first),
         Do(I32_ADD),
     ];
     add_line(&mut body, &take_unused)?;
@@ -122,27 +119,12 @@ fn take(alloc: Global, base: u32, slot_bytes: u32) -> Result<Items<Instr>, NoMem
 }
 
 /// What `take` does where the chain has a slot.
-fn chained(alloc: Global, base: u32, slot_bytes: u32) -> Result<Items<Instr>, NoMemory> {
-    let before_first = base.wrapping_add(HEAD_BYTES).wrapping_sub(slot_bytes);
+fn chained(alloc: Global, place: Place) -> Result<Items<Instr>, NoMemory> {
     let take_chained = [
-        Get(SLOT),
-        I32(slot_bytes),
-        Do(I32_MUL),
-        I32(before_first),
-        Do(I32_ADD),
-        Set(SLOT),
         I32(0),
-        Get(HEAD),
-        I64(ALL_BUT_TOP),
-        Do(I64_AND),
-        I64(ONE_LIVE),
-        Do(I64_ADD),
         Get(SLOT),
-        Memory(I64_LOAD, 0),
-        I64(16),
-        Do(I64_SHL),
-        Do(I64_ADD),
-        Memory(I64_STORE, base),
+        Memory(I32_LOAD, 0),
+        Memory(I32_STORE, place.chain),
         Get(SLOT),
         I64(0),
         Memory(I64_STORE, 8),
@@ -153,34 +135,15 @@ fn chained(alloc: Global, base: u32, slot_bytes: u32) -> Result<Items<Instr>, No
 }
 
 /// The body of `give`: the slot goes to the beginning of the chain.
-fn give(alloc: Global, base: u32, slot_bytes: u32) -> Result<Items<Instr>, NoMemory> {
-    let before_first = base.wrapping_add(HEAD_BYTES).wrapping_sub(slot_bytes);
+fn give(alloc: Global, place: Place) -> Result<Items<Instr>, NoMemory> {
     let give = [
         Get(SLOT),
         I32(0),
-        Memory(I64_LOAD, base),
-        Tee(HEAD),
-        I64(16),
-        Do(I64_SHR_U),
-        I64(0xffff),
-        Do(I64_AND),
-        Memory(I64_STORE, 0),
+        Memory(I32_LOAD, place.chain),
+        Memory(I32_STORE, 0),
         I32(0),
-        Get(HEAD),
-        I64(ALL_BUT_TOP),
-        Do(I64_AND),
-        I64(ONE_LIVE),
-        Do(I64_SUB),
         Get(SLOT),
-        I32(before_first),
-        Do(I32_SUB),
-        I32(slot_bytes),
-        Do(I32_DIV_U),
-        Do(I64_EXTEND_I32_U),
-        I64(16),
-        Do(I64_SHL),
-        Do(I64_ADD),
-        Memory(I64_STORE, base),
+        Memory(I32_STORE, place.chain),
     ];
     line(alloc, &give)
 }

@@ -1,14 +1,15 @@
 -- That a shape stands for the blocks of a body: what each block goes on in begins behind it, or is jumped to from where its label can
 -- be seen, or is reached by way of the choice.
-use Rattle.std.specs.Prelude.{ℕ, Bool, true, false, not, ◌&&◌, ◌||◌, ◌==◌, if◌then◌else◌, List, [], ◌∷◌, length, slice_get}
+use Rattle.std.specs.Prelude.{ℕ, Bool, true, false, not, ◌&&◌, ◌||◌, ◌==◌, if◌then◌else◌, List, [], ◌∷◌, ◌++◌, length, slice_get}
 use Rattle.std.specs.Prelude.{Option, Some, None, is_some}
-use Rattle.std.specs.Option.{option_map_or}
+use Rattle.std.specs.Option.{option_map_or, option_flatten}
 use Rattle.sa_flat.specs.declared.body.FlatBlock.{FlatBlock}
 use Rattle.sa_flat.specs.declared.body.FlatBody.{FlatBody}
 use Rattle.sa_flat.specs.declared.call.Raised.{Raised}
 use Rattle.sa_flat.specs.declared.step.FlatExit.{FlatExit}
-use Rattle.sa_flat.specs.declared.step.FlatExit.TheVariants.{Jump, Branch, Suspend, Stop}
+use Rattle.sa_flat.specs.declared.step.FlatExit.TheVariants.{Jump, Branch, Suspend, Raise, Stop}
 use Rattle.sa_flat.specs.declared.step.FlatStep.{FlatStep}
+use Rattle.sa_lower_live.specs.Kept.{raised_by}
 use Rattle.sa_shape.specs.Shapes.{Piece, Block, If, Part, Loop, Choice, Pieces, nothing, ◌then◌, first, behind_piece}
 
 abbrev pub is_in : List ℕ → ℕ → Bool
@@ -23,57 +24,97 @@ each p (a ∷ rest) = p a && each p rest
 abbrev pub begins : Option ℕ → ℕ → Bool
 begins there block = option_map_or (λ other. other == block) there false
 
--- A body, the blocks in which it begins and goes on, those that are reached again by way of the choice, and where a step raises to.
-module _ (b : FlatBody) (entries again : List ℕ) (raised_of : FlatStep → Option Raised) (leaves : Raised → Bool) where
-  -- `open` has the blocks whose labels can be seen
-  abbrev pub is_jumped_to : List ℕ → ℕ → Bool
-  is_jumped_to open block = is_in again block || is_in open block
+-- ---- ways to a block; `again` has for each block its number in the choice, if it is reached again by that, and `open` the blocks
+-- whose labels can be seen
 
-  abbrev pub is_reached : List ℕ → Option ℕ → ℕ → Bool
-  is_reached open behind block = begins behind block || is_jumped_to open block
+abbrev pub is_again : List (Option ℕ) → ℕ → Bool
+is_again again block = is_some (option_flatten (slice_get again block))
 
-  abbrev pub raise_stands : List ℕ → Raised → Bool
-  raise_stands open raised = leaves raised || is_jumped_to open raised.block
+abbrev pub is_jumped_to : List (Option ℕ) → List ℕ → ℕ → Bool
+is_jumped_to again open block = is_again again block || is_in open block
 
-  abbrev pub steps_stand : List ℕ → List FlatStep → Bool
-  steps_stand open steps = each (λ a. option_map_or (raise_stands open) (raised_of a) true) steps
+-- it begins behind, or is jumped to
+abbrev pub is_reached : List (Option ℕ) → List ℕ → Option ℕ → ℕ → Bool
+is_reached again open behind block = begins behind block || is_jumped_to again open block
 
-  -- an exit, where a side stands for where a branch goes if its test holds
-  abbrev pub exit_stands : List ℕ → Option ℕ → FlatExit → Bool
-  exit_stands open behind (Jump block) = is_reached open behind block
-  exit_stands open behind (Branch test first second) = is_reached open behind first && is_reached open behind second
-  exit_stands open behind (Suspend value resume) = option_map_or (is_in entries) resume true
-  exit_stands open behind (Stop kind fail) = raise_stands open fail.raised
-  exit_stands open behind _ = true
+-- the choice comes to it
+abbrev pub is_come_to : List ℕ → Option ℕ → ℕ → Bool
+is_come_to open behind block = begins behind block || is_in open block
 
-  abbrev pub side_stands : List ℕ → Option ℕ → Option ℕ → FlatExit → Bool
-  side_stands open side behind (Branch test first second) = begins side first && is_reached open behind second
-  side_stands open side behind _ = false
+-- ---- raises of steps
 
-  abbrev pub block_stands : (FlatExit → Bool) → List ℕ → ℕ → Bool
-  block_stands exit open block =
-      option_map_or (λ at. steps_stand open at.steps && exit at.exit) (slice_get b.blocks block) false
+abbrev pub is_raise_of : Raised → FlatExit → Bool
+is_raise_of raised (Raise value place kind) = value == raised.value && place == raised.place && kind == raised.kind
+is_raise_of raised _ = false
 
-  -- inside something whose label is that of a block, which has none yet
-  abbrev pub labelled : Option ℕ → List ℕ → (List ℕ → Bool) → Bool
-  labelled None open stands = false
-  labelled (Some block) open stands = not (is_in open block) && stands (block ∷ open)
+-- its block does nothing but leave the body with it
+abbrev pub leaves : FlatBody → Raised → Bool
+leaves b raised = option_map_or (λ at. length at.steps == 0 && is_raise_of raised at.exit) (slice_get b.blocks raised.block) false
 
+abbrev pub raise_stands : FlatBody → List (Option ℕ) → List ℕ → Raised → Bool
+raise_stands b again open raised = leaves b raised || is_jumped_to again open raised.block
+
+abbrev pub step_stands : FlatBody → List (Option ℕ) → List ℕ → FlatStep → Bool
+step_stands b again open step = option_map_or (raise_stands b again open) (raised_by step) true
+
+-- ---- exits
+
+-- a body goes on behind a suspension in one of its entries
+abbrev pub suspension_stands : List ℕ → Option ℕ → Bool
+suspension_stands entries resume = option_map_or (is_in entries) resume true
+
+abbrev pub exit_stands : FlatBody → List ℕ → List (Option ℕ) → List ℕ → Option ℕ → FlatExit → Bool
+exit_stands b entries again open behind (Jump block) = is_reached again open behind block
+exit_stands b entries again open behind (Branch test yes no) = is_reached again open behind yes && is_reached again open behind no
+exit_stands b entries again open behind (Suspend value resume) = suspension_stands entries resume
+exit_stands b entries again open behind (Stop kind fail) = raise_stands b again open fail.raised
+exit_stands b entries again open behind _ = true
+
+-- a branch, where what begins with this block is where it goes if its test holds
+abbrev pub side_stands : List (Option ℕ) → List ℕ → Option ℕ → Option ℕ → FlatExit → Bool
+side_stands again open side behind (Branch test yes no) = begins side yes && is_reached again open behind no
+side_stands again open side behind _ = false
+
+-- ---- blocks and pieces
+
+abbrev pub block_stands : FlatBody → List (Option ℕ) → (FlatExit → Bool) → List ℕ → ℕ → Bool
+block_stands b again exit open number =
+    option_map_or (λ at. each (step_stands b again open) at.steps && exit at.exit) (slice_get b.blocks number) false
+
+-- inside something whose label is that of a block, which has none yet
+abbrev pub labelled : Option ℕ → List ℕ → (List ℕ → Bool) → Bool
+labelled None open inside = false
+labelled (Some block) open inside = not (is_in open block) && inside (open ++ block ∷ [])
+
+-- A body, the blocks in which it begins and goes on, and those that are reached again by way of the choice.
+module _ (b : FlatBody) (entries : List ℕ) (again : List (Option ℕ)) where
   abbrev mutual
     pub piece_stands : List ℕ → Option ℕ → Piece → Bool
-    piece_stands open behind (Block block) = block_stands (exit_stands open behind) open block
+    piece_stands open behind (Block block) = block_stands b again (exit_stands b entries again open behind) open block
     piece_stands open behind (If block side) =
-        block_stands (side_stands open (first side) behind) open block && pieces_stand open None side
+        block_stands b again (side_stands again open (first side) behind) open block && pieces_stand open None side
     piece_stands open behind (Part inside) = labelled behind open (λ more. pieces_stand more behind inside)
     piece_stands open behind (Loop inside) =
         if is_some (first inside) then labelled (first inside) open (λ more. pieces_stand more None inside)
         else pieces_stand open None inside
-    piece_stands open behind Choice = each (is_reached open behind) entries
+    piece_stands open behind Choice = each (is_come_to open behind) entries
 
     pub pieces_stand : List ℕ → Option ℕ → Pieces → Bool
     pieces_stand open behind nothing = true
     pieces_stand open behind (q then rest) = piece_stands open (behind_piece rest behind) q && pieces_stand open behind rest
 
-  -- It begins with the first block where that is the one entry, and else with the choice.
-  abbrev pub stands : Pieces → Bool
-  stands list = (begins (first list) 0 && length entries == 1 || not (is_some (first list))) && pieces_stand [] None list
+-- ---- whole shapes
+
+abbrev pub is_loop : Pieces → Bool
+is_loop (Loop inside then nothing) = true
+is_loop _ = false
+
+-- with the first block where that is the one entry, and else with the choice, which stands in a loop around all where blocks are
+-- reached again by it
+abbrev pub begins_well : List ℕ → List (Option ℕ) → Pieces → Bool
+begins_well entries again list =
+    if is_some (first list) then begins (first list) 0 && length entries == 1 && length again == 0
+    else length again == 0 || is_loop list
+
+abbrev pub stands : FlatBody → List ℕ → List (Option ℕ) → Pieces → Bool
+stands b entries again list = begins_well entries again list && pieces_stand b entries again [] None list

@@ -1,5 +1,8 @@
 //! Shapes as a type.
 
+ghost use Rattle.std.specs.Prelude.{◌≡◌};
+ghost use Rattle.sa_shape.specs.Shapes.{behind_piece, first, first_of, piece, pieces};
+
 use sqlite_items::Items;
 
 /// A piece of structured control. The pieces of a list stand one after the other.
@@ -19,15 +22,20 @@ pub enum Shape {
 
 /// The block that a list begins with. A list that begins with the choice begins with none.
 #[cycle(first)]
-pub fn first_of(list: &[Shape]) -> Option<u32> {
+pub fn first_of(list: &[Shape]) -> Option<u32>
+    ensures { result ≡ first (pieces list.now) }
+{
     match list.first() {
         Some(shape) => first_of_shape(shape),
         None => None,
     }
 }
 
+/// The block that a piece begins with.
 #[cycle(first)]
-fn first_of_shape(shape: &Shape) -> Option<u32> {
+fn first_of_shape(shape: &Shape) -> Option<u32>
+    ensures { result ≡ first_of (piece shape.now) }
+{
     match shape {
         Shape::Block(block) => Some(*block),
         Shape::If(block, _) => Some(*block),
@@ -38,7 +46,9 @@ fn first_of_shape(shape: &Shape) -> Option<u32> {
 }
 
 /// The block that begins behind a piece: the one that the rest of its list begins with, or else the one behind the list.
-pub fn block_behind(rest: &[Shape], behind: Option<u32>) -> Option<u32> {
+pub fn block_behind(rest: &[Shape], behind: Option<u32>) -> Option<u32>
+    ensures { result ≡ behind_piece (pieces rest.now) behind }
+{
     if rest.is_empty() {
         return behind;
     }

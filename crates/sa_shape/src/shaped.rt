@@ -1,5 +1,8 @@
 //! The shape of a body, found and tried.
 
+ghost use Rattle.std.specs.Prelude.{◌≡◌, IfOk, IfSome};
+ghost use Rattle.sa_shape.specs.Right.{StandsFor};
+
 use crate::building::{Built, Plan, build_list};
 use crate::dominators::{Dominators, Order, Tree};
 use crate::flow::{Flow, flow_of};
@@ -27,10 +30,15 @@ pub struct Shaped {
     pub entries: Items<u32>,
     /// For each block its number in the choice, if it has one.
     pub numbers: Items<Option<u32>>,
-    /// For each block its number in the choice, if jumps to it go by way of that.
+    /// For each block its number in the choice, if jumps to it go by way of that. There are none where the choice is made once.
     pub again: Items<Option<u32>>,
+}
+
+impl Shaped {
     /// Whether jumps go back to the choice, which stands in a loop then.
-    pub repeats: bool,
+    pub fn repeats(&self) -> bool {
+        !self.again.is_empty()
+    }
 }
 
 /// The flow of a body without crossing edges, and what is known of it.
@@ -48,7 +56,9 @@ struct Known {
 /// # Errors
 ///
 /// `NoMemory`, also where a number of the body names no block.
-pub fn shape_of(alloc: Global, body: &FlatBody) -> Result<Option<Shaped>, NoMemory> {
+pub fn shape_of(alloc: Global, body: &FlatBody) -> Result<Option<Shaped>, NoMemory>
+    ensures { IfOk result (IfSome (StandsFor body.now)) }
+{
     let mut flow = flow_of(alloc, body)?;
     let blocks = body.blocks.len();
     let mut again = vec![in alloc; None; blocks]?;
@@ -113,7 +123,9 @@ fn shape_found(
     known: Known,
     again: &[Option<u32>],
     repeats: bool,
-) -> Result<Option<Shaped>, NoMemory> {
+) -> Result<Option<Shaped>, NoMemory>
+    ensures { IfOk result (IfSome (StandsFor body.now)) }
+{
     let loops = Loops::of(alloc, &known.order, &known.back, &known.edges)?;
     let placing = placing_of(alloc, &known.flow, &known.order, &known.dominators, loops)?;
     let entries = known.flow.entries.as_slice();
@@ -130,12 +142,12 @@ fn shape_found(
     let against = Against {
         body,
         entries,
-        again,
+        again: if repeats { again } else { &[] },
     };
     if !stands(alloc, against, list.as_slice())? {
         return Ok(None);
     }
-    Ok(Some(described(alloc, body, list, against, repeats)?))
+    Ok(Some(described(alloc, list, against)?))
 }
 
 /// A shape whose choice is jumped back to, as a loop.
@@ -151,12 +163,12 @@ fn in_loop(alloc: Global, list: Items<Shape>, repeats: bool) -> Result<Items<Sha
 /// What has to be known of a shape where it is written.
 fn described(
     alloc: Global,
-    body: &FlatBody,
     list: Items<Shape>,
     against: Against<'_>,
-    repeats: bool,
-) -> Result<Shaped, NoMemory> {
-    let mut numbers = vec![in alloc; None; body.blocks.len()]?;
+) -> Result<Shaped, NoMemory>
+    ensures { IfOk result (λ shaped. (shaped.list ≡ list) × (shaped.entries ≡ against.entries.now) × (shaped.again ≡ against.again.now)) }
+{
+    let mut numbers = vec![in alloc; None; against.body.blocks.len()]?;
     for (place, block) in against.entries.iter().enumerate() {
         put(&mut numbers, *block as usize, Some(word(place)?))?;
     }
@@ -165,6 +177,5 @@ fn described(
         entries: Items::from_slice(alloc, against.entries)?,
         numbers: Items::from_vec(numbers),
         again: Items::from_slice(alloc, against.again)?,
-        repeats,
     })
 }

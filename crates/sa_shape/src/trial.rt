@@ -1,10 +1,13 @@
 //! The trial whether a shape stands for the blocks of a body: what each block goes on in begins behind it, or is jumped to from where
 //! its label can be seen.
 
+ghost use Rattle.std.specs.Prelude.{◌≡◌, IfOk};
+ghost use Rattle.sa_shape.specs.Shapes.{piece, pieces};
+ghost use Rattle.sa_shape.specs.Stands as are;
+
 use crate::raises::{leaves, raised_of};
 use crate::shape::{Shape, block_behind, first_of};
-use sa_flat::{FlatBlock, FlatBody, FlatExit, FlatStep, Raised};
-use sa_graph::put;
+use sa_flat::{FlatBody, FlatExit, FlatStep, Raised};
 use sa_tree::NoMemory;
 use std::alloc::Global;
 
@@ -14,67 +17,97 @@ pub(crate) struct Against<'a> {
     pub body: &'a FlatBody,
     /// The blocks in which the body begins and goes on, the first of which is block 0.
     pub entries: &'a [u32],
-    /// For each block whether it is reached again by way of the choice.
+    /// For each block its number in the choice, if it is reached again by way of that: of no block where the choice is made once.
     pub again: &'a [Option<u32>],
 }
 
-/// Whether a list stands for the blocks of a body: it begins with the first block, or with the choice.
+/// Whether a list stands for the blocks of a body.
+///
+/// # Errors
+///
+/// `NoMemory`.
 pub(crate) fn stands(
     alloc: Global,
     against: Against<'_>,
     list: &[Shape],
-) -> Result<bool, NoMemory> {
-    let mut open = vec![in alloc; false; against.body.blocks.len()]?;
-    if !begins(list, against.entries) {
+) -> Result<bool, NoMemory>
+    ensures { IfOk result (λ so. so ≡ are.stands against.body.now against.entries.now against.again.now (pieces list.now)) }
+{
+    if !begins(against, list) {
         return Ok(false);
     }
-    list_stands(against, &mut open, list, None)
+    list_stands(alloc, against, &[], list, None)
 }
 
-/// Whether a shape begins with the first block, where that is the one entry.
-fn begins(list: &[Shape], entries: &[u32]) -> bool {
+/// Whether a list begins with the first block where that is the one entry, and else with the choice; and is one loop with the choice
+/// where that is reached again.
+fn begins(against: Against<'_>, list: &[Shape]) -> bool
+    ensures { result ≡ are.begins_well against.entries.now against.again.now (pieces list.now) }
+{
     match first_of(list) {
-        Some(block) => entries.len() == 1 && block == 0,
-        None => true,
+        Some(block) => block == 0 && against.entries.len() == 1 && against.again.is_empty(),
+        None => against.again.is_empty() || is_loop(list),
     }
 }
 
-/// Whether a list stands for its blocks, before the block behind it. `open` tells of each block whether its label can be seen.
+/// Whether a list is one loop.
+fn is_loop(list: &[Shape]) -> bool
+    ensures { result ≡ are.is_loop (pieces list.now) }
+{
+    match list {
+        [Shape::Loop(_)] => true,
+        _ => false,
+    }
+}
+
+/// Whether a list stands for its blocks, before the block behind it. `open` has the blocks whose labels can be seen.
 #[cycle(standing)]
 fn list_stands(
+    alloc: Global,
     against: Against<'_>,
-    open: &mut Vec<bool>,
+    open: &[u32],
     list: &[Shape],
     behind: Option<u32>,
-) -> Result<bool, NoMemory> {
+) -> Result<bool, NoMemory>
+    ensures { IfOk result (λ so. so ≡
+        are.pieces_stand against.body.now against.entries.now against.again.now open.now behind (pieces list.now)) }
+{
     for (place, shape) in list.iter().enumerate() {
-        let rest = list.get(place.saturating_add(1)..).unwrap_or(&[]);
-        if !shape_stands(against, open, shape, block_behind(rest, behind))? {
+        let next = block_behind(&list[place + 1..], behind);
+        if !shape_stands(alloc, against, open, shape, next)? {
             return Ok(false);
         }
     }
     Ok(true)
 }
 
+/// Whether a piece stands for its blocks.
 #[cycle(standing)]
 fn shape_stands(
+    alloc: Global,
     against: Against<'_>,
-    open: &mut Vec<bool>,
+    open: &[u32],
     shape: &Shape,
     behind: Option<u32>,
-) -> Result<bool, NoMemory> {
+) -> Result<bool, NoMemory>
+    ensures { IfOk result (λ so. so ≡
+        are.piece_stands against.body.now against.entries.now against.again.now open.now behind (piece shape.now)) }
+{
     match shape {
         Shape::Block(block) => Ok(block_stands(against, open, *block, behind)),
         Shape::If(block, list) => {
-            let stands = if_stands(against, open, *block, first_of(list.as_slice()), behind);
-            Ok(stands && list_stands(against, open, list.as_slice(), None)?)
+            let side = list.as_slice();
+            if !if_stands(against, open, *block, first_of(side), behind) {
+                return Ok(false);
+            }
+            list_stands(alloc, against, open, side, None)
         }
-        Shape::Part(list) => labelled_stands(against, open, behind, list.as_slice(), behind),
+        Shape::Part(list) => labelled_stands(alloc, against, open, behind, list.as_slice(), behind),
         Shape::Loop(list) => {
-            let first = first_of(list.as_slice());
-            match first {
-                Some(_) => labelled_stands(against, open, first, list.as_slice(), None),
-                None => list_stands(against, open, list.as_slice(), None),
+            let inside = list.as_slice();
+            match first_of(inside) {
+                Some(block) => labelled_stands(alloc, against, open, Some(block), inside, None),
+                None => list_stands(alloc, against, open, inside, None),
             }
         }
         Shape::Choice => Ok(choice_stands(against, open, behind)),
@@ -84,109 +117,175 @@ fn shape_stands(
 /// Whether a list stands for its blocks inside something whose label is that of a block.
 #[cycle(standing)]
 fn labelled_stands(
+    alloc: Global,
     against: Against<'_>,
-    open: &mut Vec<bool>,
+    open: &[u32],
     label: Option<u32>,
     list: &[Shape],
     behind: Option<u32>,
-) -> Result<bool, NoMemory> {
+) -> Result<bool, NoMemory>
+    ensures { IfOk result (λ so. so ≡ are.labelled label open.now (λ more.
+        are.pieces_stand against.body.now against.entries.now against.again.now more behind (pieces list.now))) }
+{
     let Some(block) = label else {
         return Ok(false);
     };
-    if open.get(block as usize) != Some(&false) {
+    if is_in(open, block) {
         return Ok(false);
     }
-    put(open, block as usize, true)?;
-    let stands = list_stands(against, open, list, behind)?;
-    put(open, block as usize, false)?;
-    Ok(stands)
+    let mut more = Vec::from_slice(alloc, open)?;
+    more.push(block)?;
+    list_stands(alloc, against, &more, list, behind)
 }
 
 /// Whether each block that the body begins or goes on in begins behind the choice, or its label can be seen.
-fn choice_stands(against: Against<'_>, open: &[bool], behind: Option<u32>) -> bool {
+fn choice_stands(against: Against<'_>, open: &[u32], behind: Option<u32>) -> bool
+    ensures { result ≡ are.each (are.is_come_to open.now behind) against.entries.now }
+{
     for block in against.entries {
-        if behind != Some(*block) && open.get(*block as usize) != Some(&true) {
+        if behind != Some(*block) && !is_in(open, *block) {
             return false;
         }
     }
     true
 }
 
+/// Whether a list has a block.
+fn is_in(list: &[u32], block: u32) -> bool
+    ensures { result ≡ are.is_in list.now block }
+{
+    for other in list {
+        if *other == block {
+            return true;
+        }
+    }
+    false
+}
+
 /// Whether a block is gone on in: it begins behind, or is jumped to.
-fn is_reached(against: Against<'_>, open: &[bool], block: u32, behind: Option<u32>) -> bool {
+fn is_reached(against: Against<'_>, open: &[u32], behind: Option<u32>, block: u32) -> bool
+    ensures { result ≡ are.is_reached against.again.now open.now behind block }
+{
     behind == Some(block) || is_jumped_to(against, open, block)
 }
 
-fn is_jumped_to(against: Against<'_>, open: &[bool], block: u32) -> bool {
+/// Whether a block is jumped to: by way of the choice, or its label can be seen.
+fn is_jumped_to(against: Against<'_>, open: &[u32], block: u32) -> bool
+    ensures { result ≡ are.is_jumped_to against.again.now open.now block }
+{
     let again = against.again.get(block as usize).copied().flatten();
-    again.is_some() || open.get(block as usize) == Some(&true)
+    again.is_some() || is_in(open, block)
 }
 
-fn block_stands(against: Against<'_>, open: &[bool], number: u32, behind: Option<u32>) -> bool {
-    let Some(block) = against.body.blocks.get(number as usize) else {
-        return false;
-    };
-    if !steps_stand(against, open, block) {
-        return false;
-    }
-    match &block.exit {
-        FlatExit::Jump(to) => is_reached(against, open, *to, behind),
-        FlatExit::Branch { test: _, yes, no } => {
-            is_reached(against, open, *yes, behind) && is_reached(against, open, *no, behind)
+/// Whether a block stands.
+fn block_stands(against: Against<'_>, open: &[u32], number: u32, behind: Option<u32>) -> bool
+    ensures { result ≡ are.block_stands against.body.now against.again.now
+        (are.exit_stands against.body.now against.entries.now against.again.now open.now behind) open.now number }
+{
+    match against.body.blocks.get(number as usize) {
+        Some(block) => {
+            steps_stand(against, open, block.steps.as_slice())
+                && exit_stands(against, open, behind, &block.exit)
         }
-        FlatExit::Stop { kind: _, fail } => raise_stands(against, open, fail.raised),
+        None => false,
+    }
+}
+
+/// Whether a block stands that ends with a branch, whose side for where the test holds begins with a block.
+fn if_stands(
+    against: Against<'_>,
+    open: &[u32],
+    number: u32,
+    first: Option<u32>,
+    behind: Option<u32>,
+) -> bool
+    ensures { result ≡ are.block_stands against.body.now against.again.now
+        (are.side_stands against.again.now open.now first behind) open.now number }
+{
+    match against.body.blocks.get(number as usize) {
+        Some(block) => {
+            steps_stand(against, open, block.steps.as_slice())
+                && side_stands(against, open, first, behind, &block.exit)
+        }
+        None => false,
+    }
+}
+
+/// Whether an exit goes on in blocks that are reached.
+fn exit_stands(
+    against: Against<'_>,
+    open: &[u32],
+    behind: Option<u32>,
+    exit: &FlatExit,
+) -> bool
+    ensures { result ≡ are.exit_stands against.body.now against.entries.now against.again.now open.now behind exit.now }
+{
+    match exit {
+        FlatExit::Jump(to) => is_reached(against, open, behind, *to),
+        FlatExit::Branch { test: _, yes, no } => {
+            is_reached(against, open, behind, *yes) && is_reached(against, open, behind, *no)
+        }
         FlatExit::Suspend { value: _, resume } => suspension_stands(against, *resume),
+        FlatExit::Stop { kind: _, fail } => raise_stands(against, open, fail.raised),
         FlatExit::Return { value: _ } => true,
         FlatExit::Quit => true,
         FlatExit::Raise { .. } => true,
     }
 }
 
-/// Whether a block with a branch stands, whose side for where the test holds begins with a block.
-fn if_stands(
+/// Whether an exit is a branch that goes on in a side, and else in a block that is reached.
+fn side_stands(
     against: Against<'_>,
-    open: &[bool],
-    number: u32,
+    open: &[u32],
     first: Option<u32>,
     behind: Option<u32>,
-) -> bool {
-    let Some(block) = against.body.blocks.get(number as usize) else {
-        return false;
-    };
-    match &block.exit {
+    exit: &FlatExit,
+) -> bool
+    ensures { result ≡ are.side_stands against.again.now open.now first behind exit.now }
+{
+    match exit {
         FlatExit::Branch { test: _, yes, no } => {
-            first == Some(*yes)
-                && is_reached(against, open, *no, behind)
-                && steps_stand(against, open, block)
+            first == Some(*yes) && is_reached(against, open, behind, *no)
         }
         _ => false,
     }
 }
 
 /// Whether the blocks are jumped to that raises of the steps go to.
-fn steps_stand(against: Against<'_>, open: &[bool], block: &FlatBlock) -> bool {
-    block
-        .steps
-        .as_slice()
-        .iter()
-        .all(|step| step_stands(against, open, step))
+fn steps_stand(against: Against<'_>, open: &[u32], steps: &[FlatStep]) -> bool
+    ensures { result ≡ are.each (are.step_stands against.body.now against.again.now open.now) steps.now }
+{
+    for step in steps {
+        if !step_stands(against, open, step) {
+            return false;
+        }
+    }
+    true
 }
 
-fn step_stands(against: Against<'_>, open: &[bool], step: &FlatStep) -> bool {
+/// Whether the block is jumped to that a raise of a step goes to.
+fn step_stands(against: Against<'_>, open: &[u32], step: &FlatStep) -> bool
+    ensures { result ≡ are.step_stands against.body.now against.again.now open.now step.now }
+{
     match raised_of(step) {
         Some(raised) => raise_stands(against, open, raised),
         None => true,
     }
 }
 
-fn raise_stands(against: Against<'_>, open: &[bool], raised: Raised) -> bool {
+/// Whether the block of a raise is jumped to, or the raise leaves the body at once.
+fn raise_stands(against: Against<'_>, open: &[u32], raised: Raised) -> bool
+    ensures { result ≡ are.raise_stands against.body.now against.again.now open.now raised }
+{
     leaves(against.body, raised) || is_jumped_to(against, open, raised.block)
 }
 
 /// Whether the block that a suspension goes on in is one of the entries.
-fn suspension_stands(against: Against<'_>, resume: Option<u32>) -> bool {
+fn suspension_stands(against: Against<'_>, resume: Option<u32>) -> bool
+    ensures { result ≡ are.suspension_stands against.entries.now resume }
+{
     match resume {
-        Some(block) => against.entries.iter().any(|other| *other == block),
+        Some(block) => is_in(against.entries, block),
         None => true,
     }
 }

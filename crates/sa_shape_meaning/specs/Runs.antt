@@ -11,7 +11,7 @@ use Rattle.sa_flat_meaning.specs.Order.{Eval, count}
 use Rattle.sa_flat_meaning.specs.Steps.{step}
 use Rattle.sa_flat_meaning.specs.Exits.{exit}
 use Rattle.sa_shape.specs.Shapes.{Piece, Block, If, Part, Loop, Choice, Pieces, nothing, ◌then◌, first, behind_piece}
-use Rattle.sa_shape.specs.Stands.{begins, is_in}
+use Rattle.sa_shape.specs.Stands.{begins, is_again}
 
 -- what a jump to a block does at a place
 abbrev pub Jumps : Type 0
@@ -38,9 +38,9 @@ module _ (p : FlatProgram) (rows : List (List ℕ)) (go : ℕ → ℕ → Eval E
   abbrev pub run_block : FlatBody → ℕ → (jump on : Jumps) → Eval Ending
   run_block b number jump on = at_place b.blocks number >>= (λ block. run_steps block.steps block.exit jump on)
 
-  -- The pieces of a body that begins or goes on in the block `entry`, and whose blocks `again` are reached again by the choice. A loop
+  -- The pieces of a body that begins or goes on in the block `entry`. `again` tells which blocks are reached again by the choice. A loop
   -- is begun at most as often as the level says.
-  module _ (b : FlatBody) (again : List ℕ) where
+  module _ (b : FlatBody) (again : List (Option ℕ)) where
     abbrev mutual
       pub run_piece : (level : ℕ) → (entry : ℕ) → Piece → Jumps → Option ℕ → Eval Ending → Eval Ending
       run_piece level entry (Block block) jump there behind = run_block b block jump (reach there behind jump)
@@ -62,7 +62,7 @@ module _ (p : FlatProgram) (rows : List (List ℕ)) (go : ℕ → ℕ → Eval E
           run_pieces level entry inside (again_in (first inside) (λ e. run_loop level e inside jump) entry jump) None stuck
 
       pub again_in : Option ℕ → (ℕ → Eval Ending) → ℕ → Jumps → Jumps
-      again_in None anew entry jump block = if is_in again block then anew block else jump block
+      again_in None anew entry jump block = if is_again again block then anew block else jump block
       again_in (Some head) anew entry jump block = reach (Some head) (anew entry) jump block
 
     -- the whole shape; nothing is around it
