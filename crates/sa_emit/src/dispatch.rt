@@ -95,11 +95,7 @@ fn half_of(level: u32) -> Result<u32, NoMemory> {
 }
 
 /// Adds whether the dispatch target in the local for it is before this one.
-fn add_is_below(
-    code: &mut Items<Instr>,
-    around: &Around<'_>,
-    target: u32,
-) -> Result<(), NoMemory> {
+fn add_is_below(code: &mut Items<Instr>, around: &Around<'_>, target: u32) -> Result<(), NoMemory> {
     code.push(Instr::LocalGet(around.block()))?;
     code.push(Instr::I32Const(target))?;
     code.push(Instr::Plain(opcode::I32_LT_U))?;

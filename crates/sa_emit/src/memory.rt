@@ -102,12 +102,7 @@ fn laid_binds(alloc: Global, at: u64, binds: &[BindEntry]) -> Result<Run, NoMemo
 }
 
 /// The texts that are reached from this address on. The others take no room.
-fn laid_texts(
-    alloc: Global,
-    at: u64,
-    texts: &[Name],
-    reached: &[bool],
-) -> Result<Run, NoMemory> {
+fn laid_texts(alloc: Global, at: u64, texts: &[Name], reached: &[bool]) -> Result<Run, NoMemory> {
     let mut run = run_at(alloc, at);
     for (text, is_reached) in texts.iter().zip(reached.iter()) {
         let size = size_of(WORD, text.as_slice().len())?;

@@ -15,9 +15,7 @@ use sa_emit_value::Program;
 use sa_runtime::layout::FIRST_BUILTIN;
 use sqlite_items::Items;
 use std::alloc::Global;
-use wa_syntax::{
-    Export, ExportKind, FuncTy, Import, ImportKind, Limits, Module, Name, NoMemory,
-};
+use wa_syntax::{Export, ExportKind, FuncTy, Import, ImportKind, Limits, Module, Name, NoMemory};
 
 /// The module of a program, with the functions of the runtime that it needs, and their types.
 pub(crate) fn module(

@@ -216,12 +216,7 @@ impl Reached {
     }
 
     /// What the values of a bind call is reached where they are made.
-    fn reach_bind(
-        &mut self,
-        flat: &FlatProgram,
-        rows: &Rows,
-        entry: u32,
-    ) -> Result<(), NoMemory> {
+    fn reach_bind(&mut self, flat: &FlatProgram, rows: &Rows, entry: u32) -> Result<(), NoMemory> {
         self.reach_runtime(ALLOCATE)?;
         if !mark(&mut self.binds, entry)? {
             return Ok(());

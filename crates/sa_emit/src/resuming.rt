@@ -20,7 +20,12 @@ pub(crate) fn add_before_choice(
     let mut resumption = Items::new(alloc);
     add_taken_up(alloc, &mut resumption, around.body, around.keeping)?;
     let mut start = Items::new(alloc);
-    add_begun(&mut start, around.body, around.keeping, only_resume(around)?)?;
+    add_begun(
+        &mut start,
+        around.body,
+        around.keeping,
+        only_resume(around)?,
+    )?;
     code.push(Instr::If(None, resumption, start))?;
     Ok(())
 }

@@ -183,11 +183,7 @@ fn needed(alloc: Global, funcs: &[Func], called: &[bool]) -> Result<Vec<bool>, N
 }
 
 /// A function is needed. Those that are imported are there anyway.
-fn need(
-    needed: &mut Vec<bool>,
-    waiting: &mut Vec<u32>,
-    function: u32,
-) -> Result<(), NoMemory> {
+fn need(needed: &mut Vec<bool>, waiting: &mut Vec<u32>, function: u32) -> Result<(), NoMemory> {
     let Some(place) = function.checked_sub(FIRST_BUILTIN) else {
         return Ok(());
     };

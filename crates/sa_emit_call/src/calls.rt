@@ -72,11 +72,7 @@ pub fn add_too_deep(code: &mut Items<Instr>, around: &Around<'_>) -> Result<(), 
 }
 
 /// Adds how much deeper activations may nest in a new activation, and its frame, as operands. `frame` reads the frame.
-pub fn add_deeper(
-    code: &mut Items<Instr>,
-    around: &Around<'_>,
-    frame: Op,
-) -> Result<(), NoMemory> {
+pub fn add_deeper(code: &mut Items<Instr>, around: &Around<'_>, frame: Op) -> Result<(), NoMemory> {
     let line = [Op::Get(around.depth()), Op::I32(1), Op::Do(I32_SUB), frame];
     add_line(code, &line)
 }
@@ -92,9 +88,9 @@ pub(crate) fn add_as_deep(
 }
 
 /// Adds a call through the table of the function whose place is the operand, and which has so many parameters that are arguments.
-pub(crate) fn add_indirect_call(
-    code: &mut Items<Instr>,
-    parameters: u32,
-) -> Result<(), NoMemory> {
-    add_line(code, &[Op::CallIndirect(BODY_TYPE.saturating_add(parameters))])
+pub(crate) fn add_indirect_call(code: &mut Items<Instr>, parameters: u32) -> Result<(), NoMemory> {
+    add_line(
+        code,
+        &[Op::CallIndirect(BODY_TYPE.saturating_add(parameters))],
+    )
 }

@@ -3,8 +3,8 @@
 //! The implementations of a signature are bodies of features, or each is a body that was made for it alone: that one is no
 //! activation, so no depth is tested before it, and it hands its faults on.
 
-use crate::entry::placed;
 use crate::calls::{add_as_deep, add_deeper, add_depth_test, add_indirect_call};
+use crate::entry::placed;
 use sa_dispatch::Span;
 use sa_emit_value::{
     Around, Handing, add_answers, add_fail_if, add_if, add_passed, add_raise, add_type_of,
@@ -222,7 +222,10 @@ fn add_place_test(
     let place = placed(around, chosen_body(around, sig, ty)?)?;
     let mut found = Items::new(alloc);
     add_line(&mut found, &[Op::I32(place), Op::Br(1)])?;
-    add_line(code, &[Op::Get(around.address()), Op::I32(ty), Op::Do(I32_EQ)])?;
+    add_line(
+        code,
+        &[Op::Get(around.address()), Op::I32(ty), Op::Do(I32_EQ)],
+    )?;
     add_if(alloc, code, found)
 }
 

@@ -4,9 +4,7 @@
 use crate::frames::add_is_frame;
 use crate::outcome::{Instance, add_is_raised, add_is_suspended, add_quit, add_status};
 use sa_emit_call::{add_deeper, add_too_deep};
-use sa_emit_value::{
-    Around, Handing, add_answers, add_handed_on, add_if, add_if_else, add_passed,
-};
+use sa_emit_value::{Around, Handing, add_answers, add_handed_on, add_if, add_if_else, add_passed};
 use sa_flat::FlatArg;
 use sa_runtime::fault_numbers::{TOO_DEEP, TOO_MANY_FRAMES};
 use sa_runtime::layout::{END_FRAME, FRAME_OUT, NEW_FRAME, RAISED};
@@ -72,11 +70,7 @@ fn add_handed_on_if(alloc: Global, code: &mut Items<Instr>, kind: u32) -> Result
 }
 
 /// Adds what takes a frame where the instance has none. Where it has one, it goes on.
-fn add_frame(
-    alloc: Global,
-    code: &mut Items<Instr>,
-    around: &Around<'_>,
-) -> Result<(), NoMemory> {
+fn add_frame(alloc: Global, code: &mut Items<Instr>, around: &Around<'_>) -> Result<(), NoMemory> {
     let frame = around.frame();
     let tracing = around.program.tracing;
     let mut start = Items::new(alloc);

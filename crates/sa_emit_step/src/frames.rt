@@ -77,7 +77,11 @@ pub(crate) fn add_new_frame(
 ) -> Result<(), NoMemory> {
     let fail = &site.plan.fail;
     add_depth_test(alloc, code, around, fail)?;
-    let line = [around.runtime(NEW_FRAME)?, Op::Tee(site.frame), Op::Do(I32_EQZ)];
+    let line = [
+        around.runtime(NEW_FRAME)?,
+        Op::Tee(site.frame),
+        Op::Do(I32_EQZ),
+    ];
     add_line(code, &line)?;
     add_fail_if(alloc, code, around, Op::I32(TOO_MANY_FRAMES), fail)?;
     add_event(code, around.program.tracing, site.frame, Event::Start)

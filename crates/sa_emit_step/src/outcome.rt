@@ -281,10 +281,7 @@ fn add_raised(
 }
 
 /// Adds the test whether the status in the local is that of a raise, as an operand.
-pub(crate) fn add_is_raised(
-    code: &mut Items<Instr>,
-    around: &Around<'_>,
-) -> Result<(), NoMemory> {
+pub(crate) fn add_is_raised(code: &mut Items<Instr>, around: &Around<'_>) -> Result<(), NoMemory> {
     let line = [Op::Get(around.status()), Op::I32(RAISED), Op::Do(I32_EQ)];
     add_line(code, &line)
 }

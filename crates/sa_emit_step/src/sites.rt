@@ -9,8 +9,7 @@ use sa_emit_call::{
     Choice, Class, Implementations, add_chosen, add_deeper, add_depth_test, implementations_of,
 };
 use sa_emit_value::{
-    ARGUMENTS, Around, Handing, add_handed, add_passed, add_type_of, add_void_test,
-    parameters,
+    ARGUMENTS, Around, Handing, add_handed, add_passed, add_type_of, add_void_test, parameters,
 };
 use sa_flat::{CallPlan, Callee};
 use sa_runtime::layout::{BOUND_CALL, CALLED_AT};

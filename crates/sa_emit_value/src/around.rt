@@ -21,11 +21,17 @@ use wa_syntax::{Locals, NoMemory, ValTy};
 /// may nest, the frame, the number of the block to go on in, a status, an address or the number of a type, and a word that nothing
 /// reads.
 const ME: u32 = 0;
+
 const DEPTH: u32 = 1;
+
 const FRAME: u32 = 2;
+
 const BLOCK: u32 = 3;
+
 const STATUS: u32 = 4;
+
 const ADDRESS: u32 = 5;
+
 const WORD: u32 = 6;
 
 /// How many locals stand between the variables that are parameters and the others.

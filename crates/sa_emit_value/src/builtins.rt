@@ -50,11 +50,7 @@ pub fn add_builtin(
 }
 
 /// Reads an argument of a call.
-pub(crate) fn argument(
-    around: &Around<'_>,
-    plan: &CallPlan,
-    place: usize,
-) -> Result<Op, NoMemory> {
+pub(crate) fn argument(around: &Around<'_>, plan: &CallPlan, place: usize) -> Result<Op, NoMemory> {
     Ok(around.operand(argument_variable(plan, place)?))
 }
 
@@ -125,11 +121,7 @@ struct Bound {
 }
 
 /// The bound of a sum or a difference of the receiver and a constant.
-fn bound_of(
-    around: &Around<'_>,
-    plan: &CallPlan,
-    opcode: u8,
-) -> Result<Option<Bound>, NoMemory> {
+fn bound_of(around: &Around<'_>, plan: &CallPlan, opcode: u8) -> Result<Option<Bound>, NoMemory> {
     let second = argument_variable(plan, 0)?;
     let Reading::Word(word) = around.reading(second) else {
         return Ok(None);
@@ -166,7 +158,10 @@ fn add_negation(
     if around.is_operand(plan.recv) {
         add_line(code, &[Op::I64(u64::MAX), Op::Do(I64_MUL)])?;
     } else {
-        add_line(code, &[Op::I64(0), around.operand(plan.recv), Op::Do(I64_SUB)])?;
+        add_line(
+            code,
+            &[Op::I64(0), around.operand(plan.recv), Op::Do(I64_SUB)],
+        )?;
     }
     add_in_range(alloc, code, around, plan)
 }

@@ -21,8 +21,8 @@ pub use area::{
     add_passed, add_prologue, is_copied_back, is_once, parameters,
 };
 pub use around::{
-    Around, Program, Role, address_local, block_local, frame_local, held, local_of,
-    locals_of, me_local, parameters_of, site_local,
+    Around, Program, Role, address_local, block_local, frame_local, held, local_of, locals_of,
+    me_local, parameters_of, site_local,
 };
 pub use attributes::{
     add_get, add_get_shared, add_init_shared, add_set, add_set_shared, is_immutable, shared_at,
@@ -35,10 +35,10 @@ pub use failing::{
     target_number,
 };
 pub use nesting::Nesting;
-pub use reading::Reading;
 pub use objects::{
     NewArray, Widening, add_new, add_new_array, add_put_item, add_unwrap, add_widen, add_widened,
 };
+pub use reading::Reading;
 pub use values::{
     add_any_span, add_const, add_is_void, add_me, add_move, add_test, add_truth, add_type_is,
     add_type_of, word_of,

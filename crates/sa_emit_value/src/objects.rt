@@ -2,10 +2,10 @@
 
 use crate::area::add_result;
 use crate::around::{Around, Role};
-use crate::reading::Reading;
 use crate::builtins::CREATE;
 use crate::choice::add_if_else;
 use crate::failing::add_fail_if;
+use crate::reading::Reading;
 use sa_flat::Fail;
 use sa_runtime::fault_numbers::NO_ROOM;
 use sa_runtime::layout::{
@@ -105,7 +105,10 @@ pub fn add_put_item(
         None => add_element(code, around.operand(array), around.operand(at))?,
     }
     let offset = offset.unwrap_or(first);
-    add_line(code, &[around.operand(value), Op::Memory(I64_STORE, offset)])
+    add_line(
+        code,
+        &[around.operand(value), Op::Memory(I64_STORE, offset)],
+    )
 }
 
 /// Where an element lies in its object, by its place and where the first one lies, if 32 bits hold that.
@@ -116,11 +119,7 @@ fn constant_offset(first: u32, place: u64) -> Option<u32> {
 
 /// Adds what gives the address of an element of an object less the offset of the first one, as an operand.
 /// `object` and `place` read the two.
-pub(crate) fn add_element(
-    code: &mut Items<Instr>,
-    object: Op,
-    place: Op,
-) -> Result<(), NoMemory> {
+pub(crate) fn add_element(code: &mut Items<Instr>, object: Op, place: Op) -> Result<(), NoMemory> {
     let line = [
         object,
         place,

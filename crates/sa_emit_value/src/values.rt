@@ -125,7 +125,11 @@ fn add_span_test(
     span: &TypeSpan,
 ) -> Result<(), NoMemory> {
     if span.least == span.greatest {
-        let line = [Op::Get(around.address()), Op::I32(span.least), Op::Do(I32_EQ)];
+        let line = [
+            Op::Get(around.address()),
+            Op::I32(span.least),
+            Op::Do(I32_EQ),
+        ];
         return add_line(code, &line);
     }
     let line = [

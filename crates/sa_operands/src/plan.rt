@@ -2,9 +2,7 @@
 
 use crate::behind::{Behind, behind_of, temporary};
 use crate::given::Given;
-use crate::operands::{
-    exit_reads_truth, operand_at, operand_of_exit, other_operand, reads_truth,
-};
+use crate::operands::{exit_reads_truth, operand_at, operand_of_exit, other_operand, reads_truth};
 use crate::reading::{add_read, add_read_by_exit, add_set};
 use crate::results::{calculates, gives_truth, is_free, quit_of, result_of};
 use sa_flat::{FIRST_TEMPORARY, FlatBlock, FlatBody, FlatExit, FlatStep};

@@ -14,7 +14,10 @@ pub(crate) fn add_read(vars: &mut Vec<u32>, step: &FlatStep) -> Result<(), NoMem
         FlatStep::New { .. } => Ok(()),
         FlatStep::NewArray { count, .. } => add(vars, *count),
         FlatStep::PutItem {
-            array, at, value, ..
+            array,
+            at,
+            value,
+            ..
         } => {
             add(vars, *array)?;
             add(vars, *at)?;
@@ -68,7 +71,10 @@ pub fn add_set(vars: &mut Vec<u32>, step: &FlatStep) -> Result<(), NoMemory> {
         FlatStep::Resume { plan, quit, .. } => add_outcome(vars, plan, *quit),
         FlatStep::HasFrame { to } => add(vars, *to),
         FlatStep::Enter {
-            args, value, quit, ..
+            args,
+            value,
+            quit,
+            ..
         } => {
             add(vars, *quit)?;
             add_some(vars, *value)?;

@@ -17,8 +17,8 @@ use crate::spread::{GATHER, SPREAD};
 use crate::trace::{Event, Tracing};
 use std::alloc::Global;
 use wa_syntax::opcode::{
-    I32_EQ, I32_EQZ, I32_LE_U, I32_LOAD, I32_LT_U, I32_ADD, I32_NE, I32_SUB, I64_AND, I64_LOAD, I64_SHR_U,
-    RETURN,
+    I32_ADD, I32_EQ, I32_EQZ, I32_LE_U, I32_LOAD, I32_LT_U, I32_NE, I32_SUB, I64_AND, I64_LOAD,
+    I64_SHR_U, RETURN,
 };
 use wa_syntax::{Func, NoMemory};
 
@@ -65,8 +65,11 @@ const COUNT: Part = Line(&[Get(ENTRY), Memory(I32_LOAD, COUNT_AT)]);
 
 /// Reads the first argument, and those behind it.
 const FIRST: Part = Line(&[I32(0), Memory(I64_LOAD, FIRST_ARGUMENT_AT)]);
+
 const SECOND: Part = Line(&[I32(0), Memory(I64_LOAD, FIRST_ARGUMENT_AT + 8)]);
+
 const THIRD: Part = Line(&[I32(0), Memory(I64_LOAD, FIRST_ARGUMENT_AT + 16)]);
+
 const FOURTH: Part = Line(&[I32(0), Memory(I64_LOAD, FIRST_ARGUMENT_AT + 24)]);
 
 /// Calls a body through the table, with as many of its arguments as are parameters.
@@ -112,22 +115,14 @@ const CALL: Part = Block(&[
 /// Calls a routine, where that is the form.
 const CALL_ROUTINE: Part = Sequence(&[
     Line(&[Get(KIND), I32(ROUTINE), Do(I32_EQ)]),
-    If(&[
-        DEPTH_TEST,
-        DEEPER,
-        CALL,
-        Line(&[Br(1)]),
-    ]),
+    If(&[DEPTH_TEST, DEEPER, CALL, Line(&[Br(1)])]),
 ]);
 
 /// Calls a body that was made for an implementation, where that is the form. It is no activation: it tests the depth itself
 /// where it enters one, and takes and gives back the frame.
 const CALL_MADE: Part = Sequence(&[
     Line(&[Get(KIND), I32(MADE), Do(I32_EQ)]),
-    If(&[
-        CALL,
-        Line(&[Br(1)]),
-    ]),
+    If(&[CALL, Line(&[Br(1)])]),
 ]);
 
 /// Takes a frame for an iter that begins, or hands on the fault that all are taken. Where there is one, the iter goes on.

@@ -98,7 +98,9 @@ fn known_of(alloc: Global, flow: Flow) -> Result<Option<Known>, NoMemory> {
 /// Cuts the crossing edges: their ends are reached by way of the choice.
 fn cut_crossing(known: Known, again: &mut Vec<Option<u32>>) -> Result<Flow, NoMemory> {
     let Known {
-        mut flow, edges, ..
+        mut flow,
+        edges,
+        ..
     } = known;
     for edge in edges.crossing.iter() {
         flow.cut(*edge)?;
@@ -161,11 +163,7 @@ fn in_loop(alloc: Global, list: Items<Shape>, repeats: bool) -> Result<Items<Sha
 }
 
 /// What has to be known of a shape where it is written.
-fn described(
-    alloc: Global,
-    list: Items<Shape>,
-    against: Against<'_>,
-) -> Result<Shaped, NoMemory>
+fn described(alloc: Global, list: Items<Shape>, against: Against<'_>) -> Result<Shaped, NoMemory>
     ensures { IfOk result (λ shaped. (shaped.list ≡ list) × (shaped.entries ≡ against.entries.now) × (shaped.again ≡ against.again.now)) }
 {
     let mut numbers = vec![in alloc; None; against.body.blocks.len()]?;

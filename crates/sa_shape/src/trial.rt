@@ -26,11 +26,7 @@ pub(crate) struct Against<'a> {
 /// # Errors
 ///
 /// `NoMemory`.
-pub(crate) fn stands(
-    alloc: Global,
-    against: Against<'_>,
-    list: &[Shape],
-) -> Result<bool, NoMemory>
+pub(crate) fn stands(alloc: Global, against: Against<'_>, list: &[Shape]) -> Result<bool, NoMemory>
     ensures { IfOk result (λ so. so ≡ are.stands against.body.now against.entries.now against.again.now (pieces list.now)) }
 {
     if !begins(against, list) {
@@ -212,12 +208,7 @@ fn if_stands(
 }
 
 /// Whether an exit goes on in blocks that are reached.
-fn exit_stands(
-    against: Against<'_>,
-    open: &[u32],
-    behind: Option<u32>,
-    exit: &FlatExit,
-) -> bool
+fn exit_stands(against: Against<'_>, open: &[u32], behind: Option<u32>, exit: &FlatExit) -> bool
     ensures { result ≡ are.exit_stands against.body.now against.entries.now against.again.now open.now behind exit.now }
 {
     match exit {
