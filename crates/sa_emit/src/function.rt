@@ -7,7 +7,7 @@ use crate::reached::Reached;
 use crate::resuming::add_before_choice;
 use crate::steps::Writer;
 use crate::structured::add_shaped;
-use crate::sums::held_graph;
+use crate::sums::{held_graph, sum};
 use crate::targets::targets_of;
 use sa_emit_step::add_suspension;
 use sa_emit_value::{Around, Nesting, Program, Role, add_prologue, locals_of, parameters_of};
@@ -34,7 +34,7 @@ pub(crate) fn add_bodies(
         if *is_reached {
             funcs.push(function(alloc, program, body, role_of(body), first_site)?)?;
         }
-        first_site = first_site.saturating_add(body.sites);
+        first_site = sum(first_site, body.sites)?;
     }
     funcs.push(function(alloc, program, last, Role::Last, first_site)?)?;
     Ok(())

@@ -16,8 +16,8 @@ pub(crate) fn globals(
     let word = global(ValTy::I64, Init::Const64(0));
     let number = global(ValTy::I32, Init::Const32(0));
     let next_object = global(ValTy::I32, Init::Const32(base));
-    let all = [word, word, number, number, number, next_object, number];
-    let mut globals = Items::from_slice(alloc, &all)?;
+    let of_each_module = [word, word, number, number, number, next_object, number];
+    let mut globals = Items::from_slice(alloc, &of_each_module)?;
     if let Tracing::On(_) = tracing {
         globals.push(number)?;
         globals.push(word)?;

@@ -16,9 +16,6 @@ use sqlite_items::Items;
 use std::alloc::Global;
 use wa_syntax::{Module, NoMemory};
 
-/// The most sites that the bodies of a traced program have together.
-const MOST_SITES: u32 = 200_000;
-
 /// The module of a program, whose objects have so many KiB.
 ///
 /// # Errors
@@ -34,27 +31,15 @@ pub fn emit(alloc: Global, flat: &FlatProgram, rows: &Rows, room: u32) -> Result
 ///
 /// # Errors
 ///
-/// Those of [`emit`], and `NoMemory` where the bodies have more than 200,000 sites together.
+/// Those of [`emit`].
 pub fn emit_traced(
     alloc: Global,
     flat: &FlatProgram,
     rows: &Rows,
     room: u32,
 ) -> Result<Module, NoMemory> {
-    if sites_of(flat) > MOST_SITES {
-        return Err(NoMemory);
-    }
-    let tracing = Tracing::On(Tellers::from(FIRST_TELLER)?);
-    emitted(alloc, flat, rows, room, tracing)
-}
-
-/// How many sites the bodies have together, or the greatest `u32` where they are more.
-fn sites_of(flat: &FlatProgram) -> u32 {
-    let mut count = 0u32;
-    for body in flat.bodies.as_slice() {
-        count = count.saturating_add(body.sites);
-    }
-    count
+    let tellers = Tellers::from_first(FIRST_TELLER)?;
+    emitted(alloc, flat, rows, room, Tracing::On(tellers))
 }
 
 /// The module of a program, traced or not. The functions that put frames of the trace are named as those of the runtime.
@@ -94,7 +79,7 @@ fn in_module(tracing: Tracing, numbers: &[Option<u32>]) -> Result<Tracing, NoMem
         Tracing::Off => Ok(Tracing::Off),
         Tracing::On(tellers) => {
             let first = held(numbers.get(tellers.byte as usize).copied())?;
-            Ok(Tracing::On(Tellers::from(held(first)?)?))
+            Ok(Tracing::On(Tellers::from_first(held(first)?)?))
         }
     }
 }

@@ -2,14 +2,14 @@
 //! instance at a start, hands it out, and runs the iter's body on it, at the depth of its caller.
 
 use crate::frames::add_is_frame;
-use crate::outcome::{Instance, add_is_raised, add_is_suspended, add_quit, add_status};
+use crate::outcome::{Instance, add_is_raised, add_is_suspended, add_quit};
 use sa_emit_call::{add_deeper, add_too_deep};
 use sa_emit_value::{Around, Handing, add_answers, add_handed_on, add_if, add_if_else, add_passed};
 use sa_flat::FlatArg;
 use sa_runtime::fault_numbers::{TOO_DEEP, TOO_MANY_FRAMES};
 use sa_runtime::layout::{END_FRAME, FRAME_OUT, NEW_FRAME, RAISED};
 use sa_runtime::line::{Op, add_line};
-use sa_runtime::trace::{Event, add_event};
+use sa_runtime::trace::{self, Event};
 use sqlite_items::Items;
 use std::alloc::Global;
 use wa_syntax::opcode::{I32_EQZ, RETURN};
@@ -47,17 +47,18 @@ pub(crate) fn add_enter(
     let func = around.program.function_of(entering.body)?;
     add_too_deep(code, around)?;
     add_handed_on_if(alloc, code, TOO_DEEP)?;
+    let (frame, status) = (around.frame(), around.status());
     add_frame(alloc, code, around)?;
     add_passed(code, around, entering.args, Handing::AtStart)?;
     add_line(code, &[around.operand(entering.recv)])?;
-    add_deeper(code, around, Op::Get(around.frame()))?;
-    add_line(code, &[Op::Call(func)])?;
+    add_deeper(code, around, Op::Get(frame))?;
+    add_line(code, &[Op::Call(func), Op::Tee(status)])?;
+    trace::add_outcome(code, around.program.tracing, frame, status)?;
     let inner = around.further_in()?;
     let mut suspended = Items::new(alloc);
     add_suspended(&mut suspended, &inner, entering)?;
     let mut ended = Items::new(alloc);
     add_ended(alloc, &mut ended, &inner, entering.quit)?;
-    add_status(code, around, around.frame())?;
     add_is_suspended(code)?;
     add_if_else(code, suspended, ended)
 }
@@ -69,7 +70,7 @@ fn add_handed_on_if(alloc: Global, code: &mut Items<Instr>, kind: u32) -> Result
     add_if(alloc, code, fault)
 }
 
-/// Adds what takes a frame where the instance has none. Where it has one, it goes on.
+/// Adds what takes a frame where the instance has none, and else tells that it goes on.
 fn add_frame(alloc: Global, code: &mut Items<Instr>, around: &Around<'_>) -> Result<(), NoMemory> {
     let frame = around.frame();
     let tracing = around.program.tracing;
@@ -77,9 +78,9 @@ fn add_frame(alloc: Global, code: &mut Items<Instr>, around: &Around<'_>) -> Res
     let line = [around.runtime(NEW_FRAME)?, Op::Tee(frame), Op::Do(I32_EQZ)];
     add_line(&mut start, &line)?;
     add_handed_on_if(alloc, &mut start, TOO_MANY_FRAMES)?;
-    add_event(&mut start, tracing, frame, Event::Start)?;
+    trace::add_event(&mut start, tracing, frame, Event::Start)?;
     let mut resumption = Items::new(alloc);
-    add_event(&mut resumption, tracing, frame, Event::Resume)?;
+    trace::add_event(&mut resumption, tracing, frame, Event::Resume)?;
     add_line(code, &[Op::Get(frame), Op::Do(I32_EQZ)])?;
     add_if_else(code, start, resumption)
 }

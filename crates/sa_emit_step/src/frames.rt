@@ -7,7 +7,7 @@ use sa_operands::Given;
 use sa_runtime::fault_numbers::TOO_MANY_FRAMES;
 use sa_runtime::layout::{NEW_FRAME, RELEASE};
 use sa_runtime::line::{Op, add_line};
-use sa_runtime::trace::{Event, add_event};
+use sa_runtime::trace::{self, Event};
 use sqlite_items::Items;
 use std::alloc::Global;
 use wa_syntax::opcode::{I32_EQZ, I32_NE};
@@ -84,5 +84,5 @@ pub(crate) fn add_new_frame(
     ];
     add_line(code, &line)?;
     add_fail_if(alloc, code, around, Op::I32(TOO_MANY_FRAMES), fail)?;
-    add_event(code, around.program.tracing, site.frame, Event::Start)
+    trace::add_event(code, around.program.tracing, site.frame, Event::Start)
 }

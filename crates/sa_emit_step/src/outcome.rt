@@ -8,7 +8,7 @@ use sa_emit_value::{Around, Role, add_answers, add_if, add_if_else, add_jump, ad
 use sa_flat::{CallPlan, Raised};
 use sa_runtime::layout::{CALLED_AT, END_FRAME, FRAME_OUT, RAISED, SIBLING_AT, SUSPENDED};
 use sa_runtime::line::{Op, add_line};
-use sa_runtime::trace::add_outcome as add_outcome_told;
+use sa_runtime::trace;
 use sqlite_items::Items;
 use std::alloc::Global;
 use wa_syntax::opcode::{I32_EQ, I32_NE, I32_STORE, I32_WRAP_I64, I64_STORE};
@@ -106,7 +106,7 @@ fn add_outcome(
     let mut ended = Items::new(alloc);
     add_ended(alloc, &mut ended, &inner, site, called)?;
     add_quit(&mut ended, &inner, site.quit, Instance::Ended)?;
-    add_status_at(code, around, site, called)?;
+    add_status(code, around, site, called)?;
     add_is_suspended(code)?;
     add_if_else(code, suspended, ended)
 }
@@ -124,37 +124,27 @@ fn add_left(
     let mut ended = Items::new(alloc);
     add_ended(alloc, &mut ended, &inner, site, called)?;
     add_jump(&mut ended, &inner, left)?;
-    add_status_at(code, around, site, called)?;
+    add_status(code, around, site, called)?;
     add_line(code, &[Op::I32(SUSPENDED), Op::Do(I32_NE)])?;
     add_if(alloc, code, ended)
 }
 
-/// Adds what keeps the status that is the operand and leaves it there. Who keeps the frame tells in a traced module how the body was
-/// left.
-fn add_status_at(
+/// Adds what keeps the status that is the operand and leaves it there. A site that takes the frame tells how the body was left.
+fn add_status(
     code: &mut Items<Instr>,
     around: &Around<'_>,
     site: &Site<'_>,
     called: Called,
 ) -> Result<(), NoMemory> {
+    let status = around.status();
+    add_line(code, &[Op::Tee(status)])?;
     if keeps_frame(called) {
-        return add_status(code, around, site.frame);
+        trace::add_outcome(code, around.program.tracing, site.frame, status)?;
     }
-    add_line(code, &[Op::Tee(around.status())])
+    Ok(())
 }
 
-/// Adds what keeps the status that is the operand and leaves it there: the body of the instance was left by it whose frame is in this
-/// local.
-pub(crate) fn add_status(
-    code: &mut Items<Instr>,
-    around: &Around<'_>,
-    frame: u32,
-) -> Result<(), NoMemory> {
-    add_line(code, &[Op::Tee(around.status())])?;
-    add_outcome_told(code, around.program.tracing, frame, around.status())
-}
-
-/// Adds whether the status that is the operand is that of a suspension, as an operand.
+/// Adds the test whether the status that is the operand is that of a suspension, as an operand.
 pub(crate) fn add_is_suspended(code: &mut Items<Instr>) -> Result<(), NoMemory> {
     add_line(code, &[Op::I32(SUSPENDED), Op::Do(I32_EQ)])
 }

@@ -30,7 +30,7 @@ pub(crate) fn add_start(
     quit: u32,
 ) -> Result<(), NoMemory> {
     let site = site_of(around, number, plan, quit);
-    let place = around.place_of_site(number);
+    let place = around.place_of_site(number)?;
     add_starting_site(code, around.program.tracing, place)?;
     match plan.callee {
         Callee::Body(body) => add_body_start(alloc, code, around, &site, body),

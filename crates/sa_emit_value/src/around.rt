@@ -116,7 +116,7 @@ pub struct Around<'a> {
     pub left: Option<u32>,
     /// What the body keeps while it is suspended.
     pub keeping: &'a Keeping,
-    /// The place of the first site of the body among all sites of the program, or the greatest `u32` where it is more.
+    /// The place of the body's first site among all sites of the program.
     pub first_site: u32,
 }
 
@@ -137,9 +137,9 @@ impl<'a> Around<'a> {
         site_local(self.body, site)
     }
 
-    /// The place of a site among all sites of the program, or the greatest `u32` where it is more.
-    pub fn place_of_site(&self, site: u32) -> u32 {
-        self.first_site.saturating_add(site)
+    /// The place of a site among all sites of the program. The answer is `NoMemory` where 32 bits don't hold it.
+    pub fn place_of_site(&self, site: u32) -> Result<u32, NoMemory> {
+        held(self.first_site.checked_add(site))
     }
 
     /// The local with the body's own object.

@@ -28,7 +28,7 @@ const GO_INSIDE: &[Part] = &[
 
 /// What `RELEASE` does with a frame. Each frame comes behind those of the instances inside it, and these in the order of
 /// their list. The link to the instance around a frame is read before the frame is given back, since the pool's link then
-/// stands there.
+/// stands there. That the instance is abandoned is told before that too, by what its frame has.
 const RELEASE_BODY: &[Part] = &[
     Line(&[Get(FRAME), I32(0), Memory(I32_STORE, SIBLING_AT)]),
     Loop(&[

@@ -140,7 +140,7 @@ pub const FIRST_KEPT_AT: u32 = 32;
 pub const FRAME_WORDS: u32 = 4;
 
 /// How many more words a frame has in a traced module.
-pub const TRACED_WORDS: u32 = 1;
+pub(crate) const TRACED_WORDS: u32 = 1;
 
 /// The word of a bind, of 32 bits, with what its values call: the number of a form, below.
 pub(crate) const KIND_AT: u32 = 0;

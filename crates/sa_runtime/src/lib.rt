@@ -29,6 +29,7 @@ mod room;
 mod runtime;
 mod signatures;
 mod spread;
+mod telling;
 mod texts;
 pub mod trace;
 

@@ -8,7 +8,8 @@ use crate::frame::RELEASE;
 use crate::parts::{func, functions, types};
 use crate::room::allocate;
 use crate::signatures::{BUILTIN_TYPES, FRAME_TYPES, SUPPORT_TYPES, TELLER_TYPES};
-use crate::trace::{Tellers, Tracing, teller_functions};
+use crate::telling::teller_functions;
+use crate::trace::{Tellers, Tracing};
 use sqlite_items::Items;
 use std::alloc::Global;
 use wa_syntax::{Func, FuncTy, NoMemory};
@@ -54,13 +55,11 @@ pub fn frames(alloc: Global, tracing: Tracing) -> Result<RuntimeCode, NoMemory>
     Ok(RuntimeCode { types, funcs })
 }
 
-/// The functions of a traced module that put frames, in the order of `Tellers`, whose numbers they have. The slots of the pool of frames
-/// in memory have so many bytes. Fails where memory runs out.
-pub fn trace_code(
-    alloc: Global,
-    tellers: Tellers,
-    slot_bytes: u32,
-) -> Result<RuntimeCode, NoMemory> {
+/// The functions of a traced module that put frames of the trace, in the order of `Tellers`, whose numbers they have, where the slots of
+/// the pool have so many bytes. Fails where memory runs out.
+pub fn trace_code(alloc: Global, tellers: Tellers, slot_bytes: u32) -> Result<RuntimeCode, NoMemory>
+    ensures { IfOk result (λ code. length code.funcs ≡ 4) }
+{
     Ok(RuntimeCode {
         types: types(alloc, &TELLER_TYPES)?,
         funcs: teller_functions(alloc, tellers, slot_bytes)?,

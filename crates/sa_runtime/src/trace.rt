@@ -8,20 +8,13 @@
 //! A start, a resumption and an instance that is ended from outside are told where they stand in the code. How the body of an instance
 //! was left is told by its status.
 
-use crate::layout::{PUT, RAISED, STARTED, STARTING_SITE, TRACED_SITE_AT, TRACED_WORDS};
-use crate::line::Op::{Call, Do, Get, GetGlobal, I32, I64, Memory, SetGlobal};
+ghost use Rattle.std.specs.Prelude.{◌≡◌, ◌+◌, IfOk};
+
+use crate::layout::{PUT, STARTING_SITE, TRACED_WORDS};
+use crate::line::Op::{Call, Get, I32, SetGlobal};
 use crate::line::add_line;
-use crate::signatures::{TELLS, TELLS_BY_NUMBER};
 use sqlite_items::Items;
-use std::alloc::Global;
-use wa_syntax::opcode::{I32_EQ, I32_LOAD8_U, I32_STORE, I64_ADD, I64_STORE, SELECT};
-use wa_syntax::{Func, Instr, Locals, NoMemory};
-
-/// The first parameter of a function that tells of an instance: the frame in memory.
-const FRAME: u32 = 0;
-
-/// The second parameter: the number of the event, or the status.
-const WHAT: u32 = 1;
+use wa_syntax::{Instr, NoMemory};
 
 /// Whether a module is traced.
 #[derive(Clone, Copy, Debug, PartialEq, Eq)]
@@ -51,7 +44,12 @@ impl Tellers {
     /// # Errors
     ///
     /// `NoMemory` where 32 bits don't hold their numbers.
-    pub fn from(first: u32) -> Result<Tellers, NoMemory> {
+    pub fn from_first(first: u32) -> Result<Tellers, NoMemory>
+        ensures byte { IfOk result (λ tellers. tellers.byte ≡ first) }
+        ensures start { IfOk result (λ tellers. tellers.start ≡ first + 1) }
+        ensures event { IfOk result (λ tellers. tellers.event ≡ first + 2) }
+        ensures outcome { IfOk result (λ tellers. tellers.outcome ≡ first + 3) }
+    {
         let last = first.checked_add(3).ok_or(NoMemory)?;
         Ok(Tellers {
             byte: first,
@@ -65,7 +63,9 @@ impl Tellers {
 /// An event that is told where it stands in the code.
 #[derive(Clone, Copy, Debug, PartialEq, Eq)]
 pub enum Event {
+    /// The instance has got its frame.
     Start,
+    /// The instance goes on where it was suspended.
     Resume,
     /// The instance is ended with its loop, or by a raise.
     Abandon,
@@ -73,7 +73,7 @@ pub enum Event {
 
 impl Event {
     /// The number of the event. A yield and a quit have the numbers of the statuses `SUSPENDED` and `ENDED`.
-    fn number(self) -> u32 {
+    pub(crate) fn number(self) -> u32 {
         match self {
             Event::Start => 0,
             Event::Resume => 1,
@@ -102,19 +102,11 @@ pub fn add_event(
     };
     match event {
         Event::Start => add_line(to, &[Get(frame), Call(tellers.start)]),
-        Event::Resume | Event::Abandon => add_told(to, tellers, frame, event),
+        Event::Resume | Event::Abandon => {
+            let line = [Get(frame), I32(event.number()), Call(tellers.event)];
+            add_line(to, &line)
+        }
     }
-}
-
-/// Adds what puts the frame of an event of the instance whose frame is in this local.
-fn add_told(
-    to: &mut Items<Instr>,
-    tellers: Tellers,
-    frame: u32,
-    event: Event,
-) -> Result<(), NoMemory> {
-    let line = [Get(frame), I32(event.number()), Call(tellers.event)];
-    add_line(to, &line)
 }
 
 /// Adds what tells how the body of the instance was left whose frame is in this local: by the status in the other local.
@@ -126,7 +118,10 @@ pub fn add_outcome(
 ) -> Result<(), NoMemory> {
     match tracing {
         Tracing::Off => Ok(()),
-        Tracing::On(tellers) => { add_line(to, &[Get(frame), Get(status), Call(tellers.outcome)]) }
+        Tracing::On(tellers) => {
+            let line = [Get(frame), Get(status), Call(tellers.outcome)];
+            add_line(to, &line)
+        }
     }
 }
 
@@ -148,107 +143,4 @@ pub(crate) fn add_put(to: &mut Items<Instr>, tracing: Tracing) -> Result<(), NoM
         Tracing::Off => add_line(to, &[Call(PUT)]),
         Tracing::On(tellers) => add_line(to, &[Call(tellers.byte)]),
     }
-}
-
-/// Adds what puts the site and the number of a new instance into its frame, which has so many bytes.
-fn add_identity(to: &mut Items<Instr>, slot_bytes: u32) -> Result<(), NoMemory> {
-    let line = [
-        Get(FRAME),
-        GetGlobal(STARTING_SITE),
-        Memory(I32_STORE, TRACED_SITE_AT),
-        Get(FRAME),
-        GetGlobal(STARTED),
-        Memory(I64_STORE, number_at(slot_bytes)),
-        GetGlobal(STARTED),
-        I64(1),
-        Do(I64_ADD),
-        SetGlobal(STARTED),
-    ];
-    add_line(to, &line)
-}
-
-/// The word with the number of the instance in a frame of so many bytes: the last one.
-fn number_at(slot_bytes: u32) -> u32 {
-    slot_bytes.saturating_sub(8)
-}
-
-/// The functions that put frames, in the order of `Tellers`.
-pub(crate) fn teller_functions(
-    alloc: Global,
-    tellers: Tellers,
-    slot_bytes: u32,
-) -> Result<Items<Func>, NoMemory> {
-    let mut funcs = Items::new(alloc);
-    funcs.push(tells_byte(alloc)?)?;
-    funcs.push(tells_start(alloc, tellers, slot_bytes)?)?;
-    funcs.push(tells_event(alloc, slot_bytes)?)?;
-    funcs.push(tells_outcome(alloc, tellers)?)?;
-    Ok(funcs)
-}
-
-/// The function that puts the frame of a byte of the output.
-fn tells_byte(alloc: Global) -> Result<Func, NoMemory> {
-    let mut body = Items::new(alloc);
-    add_line(&mut body, &[I32(0), Call(PUT), Get(0), Call(PUT)])?;
-    Ok(Func {
-        ty: TELLS,
-        locals: Locals::new(alloc),
-        body,
-    })
-}
-
-/// The function that makes a frame in memory that of a new instance, and puts the frame of its start.
-fn tells_start(alloc: Global, tellers: Tellers, slot_bytes: u32) -> Result<Func, NoMemory> {
-    let mut body = Items::new(alloc);
-    add_identity(&mut body, slot_bytes)?;
-    add_told(&mut body, tellers, FRAME, Event::Start)?;
-    Ok(Func {
-        ty: TELLS,
-        locals: Locals::new(alloc),
-        body,
-    })
-}
-
-/// The function that puts the frame of an event. In memory the least byte of a word stands first too.
-fn tells_event(alloc: Global, slot_bytes: u32) -> Result<Func, NoMemory> {
-    let mut body = Items::new(alloc);
-    add_line(&mut body, &[I32(1), Call(PUT), Get(WHAT), Call(PUT)])?;
-    add_bytes(&mut body, TRACED_SITE_AT, 4)?;
-    add_bytes(&mut body, number_at(slot_bytes), 8)?;
-    Ok(Func {
-        ty: TELLS_BY_NUMBER,
-        locals: Locals::new(alloc),
-        body,
-    })
-}
-
-/// Adds what puts so many bytes of the frame in memory.
-fn add_bytes(to: &mut Items<Instr>, first: u32, count: u32) -> Result<(), NoMemory> {
-    for place in 0..count {
-        let at = first.saturating_add(place);
-        add_line(to, &[Get(FRAME), Memory(I32_LOAD8_U, at), Call(PUT)])?;
-    }
-    Ok(())
-}
-
-/// The function that puts the frame of the event by which a body was left: a raise has abandoned the instance, and the other statuses
-/// of an iter's body, `SUSPENDED` and `ENDED`, are the numbers of their events.
-fn tells_outcome(alloc: Global, tellers: Tellers) -> Result<Func, NoMemory> {
-    let mut body = Items::new(alloc);
-    let line = [
-        Get(FRAME),
-        I32(Event::Abandon.number()),
-        Get(WHAT),
-        Get(WHAT),
-        I32(RAISED),
-        Do(I32_EQ),
-        Do(SELECT),
-        Call(tellers.event),
-    ];
-    add_line(&mut body, &line)?;
-    Ok(Func {
-        ty: TELLS_BY_NUMBER,
-        locals: Locals::new(alloc),
-        body,
-    })
 }
