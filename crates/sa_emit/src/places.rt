@@ -29,16 +29,8 @@ pub(crate) fn places_of(
     reached: &Reached,
 ) -> Result<Places, NoMemory> {
     let mut places = no_places(alloc, flat, rows)?;
-    for (bind, is_reached) in flat.binds.as_slice().iter().zip(reached.binds.iter()) {
-        if *is_reached {
-            places.add_bind(bind)?;
-        }
-    }
-    for sig in 0..rows.signatures() {
-        if reached.signatures.get(sig as usize) == Some(&true) {
-            places.add_signature(flat, rows, sig)?;
-        }
-    }
+    places.add_binds(flat, reached)?;
+    places.add_signatures(flat, rows, reached)?;
     Ok(places)
 }
 
@@ -56,6 +48,31 @@ fn no_places(alloc: Global, flat: &FlatProgram, rows: &Rows) -> Result<Places, N
 }
 
 impl Places {
+    /// Adds the bodies that the values of reached binds call.
+    fn add_binds(&mut self, flat: &FlatProgram, reached: &Reached) -> Result<(), NoMemory> {
+        for (bind, is_reached) in flat.binds.as_slice().iter().zip(reached.binds.iter()) {
+            if *is_reached {
+                self.add_bind(bind)?;
+            }
+        }
+        Ok(())
+    }
+
+    /// Adds the implementations of reached signatures that have no part of the table.
+    fn add_signatures(
+        &mut self,
+        flat: &FlatProgram,
+        rows: &Rows,
+        reached: &Reached,
+    ) -> Result<(), NoMemory> {
+        for sig in 0..rows.signatures() {
+            if reached.signatures.get(sig as usize) == Some(&true) {
+                self.add_signature(flat, rows, sig)?;
+            }
+        }
+        Ok(())
+    }
+
     /// Adds the body that the values of a bind call.
     fn add_bind(&mut self, bind: &BindEntry) -> Result<(), NoMemory> {
         match bind.callee {

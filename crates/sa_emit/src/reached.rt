@@ -55,9 +55,7 @@ pub(crate) fn reached_of(
         let Some(body) = reached.waiting.pop() else {
             break;
         };
-        for block in held(flat.bodies.get(body as usize))?.blocks.as_slice() {
-            reached.go_through(flat, rows, block)?;
-        }
+        reached.go_through_body(flat, rows, body)?;
     }
     Ok(reached)
 }
@@ -113,6 +111,18 @@ impl Reached {
 
     fn reach_runtime(&mut self, function: u32) -> Result<(), NoMemory> {
         mark(&mut self.runtime, function)?;
+        Ok(())
+    }
+
+    fn go_through_body(
+        &mut self,
+        flat: &FlatProgram,
+        rows: &Rows,
+        body: u32,
+    ) -> Result<(), NoMemory> {
+        for block in held(flat.bodies.get(body as usize))?.blocks.as_slice() {
+            self.go_through(flat, rows, block)?;
+        }
         Ok(())
     }
 

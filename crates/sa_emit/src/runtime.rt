@@ -38,9 +38,9 @@ pub(crate) fn runtime_of(
     called: &[bool],
 ) -> Result<Runtime, NoMemory> {
     let all = all_functions(alloc, memory, room, tracing)?;
-    let needed = needed(alloc, all.funcs.as_slice(), called)?;
-    let numbers = numbers_of(alloc, &needed)?;
-    let funcs = kept(alloc, types, all, &needed, numbers.as_slice())?;
+    let Needed { marks, .. } = Needed::of(alloc, all.funcs.as_slice(), called)?;
+    let numbers = numbers_of(alloc, &marks)?;
+    let funcs = kept(alloc, types, all, &marks, numbers.as_slice())?;
     Ok(Runtime { funcs, numbers })
 }
 
@@ -163,73 +163,91 @@ fn typed(func: Func, ty: u32) -> Func {
     Func { ty, locals, body }
 }
 
-/// For each function of the runtime behind the imported ones whether it is called, or a needed one calls it.
-fn needed(alloc: Global, funcs: &[Func], called: &[bool]) -> Result<Vec<bool>, NoMemory> {
-    let mut needed = vec![in alloc; false; funcs.len()]?;
-    let mut waiting = Vec::new(alloc);
-    for (function, called) in called.iter().enumerate() {
-        if *called {
-            need(&mut needed, &mut waiting, number(function)?)?;
-        }
-    }
-    for _ in 0..funcs.len() {
-        let Some(place) = waiting.pop() else {
-            break;
+/// The functions of the runtime behind the imported ones that are needed.
+#[derive(Drop)]
+struct Needed {
+    /// For each whether it is.
+    marks: Vec<bool>,
+    /// Those that are needed and whose calls haven't been looked at.
+    waiting: Vec<u32>,
+}
+
+impl Needed {
+    /// The functions that are called, and those that needed ones call.
+    fn of(alloc: Global, funcs: &[Func], called: &[bool]) -> Result<Needed, NoMemory> {
+        let mut needed = Needed {
+            marks: vec![in alloc; false; funcs.len()]?,
+            waiting: Vec::new(alloc),
         };
-        let func = held(funcs.get(place as usize))?;
-        need_called(&mut needed, &mut waiting, func.body.as_slice())?;
+        needed.need_each(called)?;
+        needed.follow(funcs)?;
+        Ok(needed)
     }
-    Ok(needed)
-}
 
-/// A function is needed. Those that are imported are there anyway.
-fn need(needed: &mut Vec<bool>, waiting: &mut Vec<u32>, function: u32) -> Result<(), NoMemory> {
-    let Some(place) = function.checked_sub(FIRST_BUILTIN) else {
-        return Ok(());
-    };
-    match needed.get_mut(place as usize) {
-        Some(marked) => {
-            if !*marked {
-                *marked = true;
-                waiting.push(place)?;
+    /// The functions that are called are needed.
+    fn need_each(&mut self, called: &[bool]) -> Result<(), NoMemory> {
+        for (function, is_called) in called.iter().enumerate() {
+            if *is_called {
+                self.need(number(function)?)?;
             }
-            Ok(())
         }
-        None => Err(NoMemory),
+        Ok(())
     }
-}
 
-/// The functions that instructions call are needed.
-#[cycle(needed)]
-fn need_called(
-    needed: &mut Vec<bool>,
-    waiting: &mut Vec<u32>,
-    code: &[Instr],
-) -> Result<(), NoMemory> {
-    for instr in code {
-        match instr {
-            Instr::Call(function) => need(needed, waiting, *function)?,
-            Instr::Block(_, body) => need_called(needed, waiting, body.as_slice())?,
-            Instr::Loop(_, body) => need_called(needed, waiting, body.as_slice())?,
-            Instr::If(_, then, other) => {
-                need_called(needed, waiting, then.as_slice())?;
-                need_called(needed, waiting, other.as_slice())?;
+    /// What needed functions call is needed.
+    fn follow(&mut self, funcs: &[Func]) -> Result<(), NoMemory> {
+        for _ in 0..funcs.len() {
+            let Some(place) = self.waiting.pop() else {
+                break;
+            };
+            let func = held(funcs.get(place as usize))?;
+            self.need_called(func.body.as_slice())?;
+        }
+        Ok(())
+    }
+
+    /// The functions that instructions call are needed.
+    #[cycle(needed)]
+    fn need_called(&mut self, code: &[Instr]) -> Result<(), NoMemory> {
+        for instr in code {
+            match instr {
+                Instr::Call(function) => self.need(*function)?,
+                Instr::Block(_, body) => self.need_called(body.as_slice())?,
+                Instr::Loop(_, body) => self.need_called(body.as_slice())?,
+                Instr::If(_, then, other) => {
+                    self.need_called(then.as_slice())?;
+                    self.need_called(other.as_slice())?;
+                }
+                _ => {}
             }
-            _ => {}
+        }
+        Ok(())
+    }
+
+    /// A function is needed. Those that are imported are there anyway.
+    fn need(&mut self, function: u32) -> Result<(), NoMemory> {
+        let Some(place) = function.checked_sub(FIRST_BUILTIN) else {
+            return Ok(());
+        };
+        match self.marks.get_mut(place as usize) {
+            Some(marked) => {
+                if !*marked {
+                    *marked = true;
+                    self.waiting.push(place)?;
+                }
+                Ok(())
+            }
+            None => Err(NoMemory),
         }
     }
-    Ok(())
 }
 
-/// The numbers of the imported functions, and of those that are needed behind them.
+/// The numbers in the module of the imported functions, and of those that are needed behind them.
 fn numbers_of(alloc: Global, needed: &[bool]) -> Result<Items<Option<u32>>, NoMemory> {
     let mut numbers = Items::new(alloc);
-    for imported in 0..FIRST_BUILTIN {
-        numbers.push(Some(imported))?;
-    }
-    let mut next = FIRST_BUILTIN;
-    for place in 0..FUNCTIONS.saturating_sub(FIRST_BUILTIN) {
-        if needed.get(place as usize) == Some(&true) {
+    let mut next = 0;
+    for function in 0..FUNCTIONS {
+        if is_there(needed, function) {
             numbers.push(Some(next))?;
             next = sum(next, 1)?;
         } else {
@@ -237,6 +255,14 @@ fn numbers_of(alloc: Global, needed: &[bool]) -> Result<Items<Option<u32>>, NoMe
         }
     }
     Ok(numbers)
+}
+
+/// Whether the module has a function of the runtime: an imported one, or one that is needed.
+fn is_there(needed: &[bool], function: u32) -> bool {
+    match function.checked_sub(FIRST_BUILTIN) {
+        Some(place) => needed.get(place as usize) == Some(&true),
+        None => true,
+    }
 }
 
 /// The instructions with the numbers that functions have in the module.

@@ -138,8 +138,8 @@ fn add_kept_read(
     add_line(code, &line)
 }
 
-/// Adds what takes the next frame of the list in the local for an address where it belongs to this site. At the end of the list, which is 0,
-/// the site 0 gets 0, since the memory there stays 0.
+/// Adds what takes the next frame of the list in the local for an address where it belongs to this site. At the end of the list, which is
+/// 0, the site 0 gets 0, since the memory there stays 0.
 fn add_site_read(
     alloc: Global,
     code: &mut Items<Instr>,

@@ -29,17 +29,12 @@ impl Keeping {
         let mut keeping = Keeping {
             changed: Vec::new(alloc),
             reads_self: reads_self(alloc, body)?,
-            suspensions: 0,
+            suspensions: suspensions_of(body),
         };
         let set = set_in(alloc, body)?;
         for var in body.kept.as_slice() {
             let changed = !is_once(body, *var) || set.get(*var as usize) != Some(&false);
             keeping.changed.push(changed)?;
-        }
-        for block in body.blocks.as_slice() {
-            if is_suspension(block) {
-                keeping.suspensions = keeping.suspensions.saturating_add(1);
-            }
         }
         Ok(keeping)
     }
@@ -50,8 +45,15 @@ impl Keeping {
     }
 }
 
-fn is_suspension(block: &FlatBlock) -> bool {
-    matches!(block.exit, FlatExit::Suspend { .. })
+/// How many suspensions a body has.
+fn suspensions_of(body: &FlatBody) -> u32 {
+    let mut count = 0u32;
+    for block in body.blocks.as_slice() {
+        if let FlatExit::Suspend { .. } = block.exit {
+            count = count.saturating_add(1);
+        }
+    }
+    count
 }
 
 /// Whether a variable is an argument that a start alone hands over.
@@ -67,15 +69,22 @@ fn set_in(alloc: Global, body: &FlatBody) -> Result<Vec<bool>, NoMemory> {
     let mut set = vec![in alloc; false; body.formals.len()]?;
     let mut vars = Vec::new(alloc);
     for block in body.blocks.as_slice() {
-        for step in block.steps.as_slice() {
-            vars.clear();
-            add_set(&mut vars, step)?;
-            mark(&mut set, &vars)?;
-        }
+        mark_set(&mut set, &mut vars, block)?;
     }
     Ok(set)
 }
 
+/// Marks the arguments that steps of a block set. `vars` has room for the variables of a step.
+fn mark_set(set: &mut Vec<bool>, vars: &mut Vec<u32>, block: &FlatBlock) -> Result<(), NoMemory> {
+    for step in block.steps.as_slice() {
+        vars.clear();
+        add_set(vars, step)?;
+        mark(set, vars)?;
+    }
+    Ok(())
+}
+
+/// Marks those of the variables that are arguments.
 fn mark(set: &mut Vec<bool>, vars: &[u32]) -> Result<(), NoMemory> {
     for var in vars {
         if (*var as usize) < set.len() {
@@ -87,6 +96,22 @@ fn mark(set: &mut Vec<bool>, vars: &[u32]) -> Result<(), NoMemory> {
 
 /// Whether the body's own object is read in a block that a resumption leads to.
 fn reads_self(alloc: Global, body: &FlatBody) -> Result<bool, NoMemory> {
+    let mut reached = resumed_in(alloc, body)?;
+    for _ in 0..body.blocks.len() {
+        let Some(number) = reached.waiting.pop() else {
+            break;
+        };
+        let block = body.blocks.get(number as usize).ok_or(NoMemory)?;
+        if block.steps.as_slice().iter().any(is_me) {
+            return Ok(true);
+        }
+        reached.go_on(block)?;
+    }
+    Ok(false)
+}
+
+/// The blocks in which suspensions go on.
+fn resumed_in(alloc: Global, body: &FlatBody) -> Result<Reached, NoMemory> {
     let mut reached = Reached {
         seen: vec![in alloc; false; body.blocks.len()]?,
         waiting: Vec::new(alloc),
@@ -100,17 +125,7 @@ fn reads_self(alloc: Global, body: &FlatBody) -> Result<bool, NoMemory> {
             reached.reach(to)?;
         }
     }
-    for _ in 0..body.blocks.len() {
-        let Some(number) = reached.waiting.pop() else {
-            break;
-        };
-        let block = body.blocks.get(number as usize).ok_or(NoMemory)?;
-        if block.steps.as_slice().iter().any(is_me) {
-            return Ok(true);
-        }
-        reached.go_on(block)?;
-    }
-    Ok(false)
+    Ok(reached)
 }
 
 fn is_me(step: &FlatStep) -> bool {
