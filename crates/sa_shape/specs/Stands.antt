@@ -24,22 +24,22 @@ each p (a ∷ rest) = p a && each p rest
 abbrev pub begins : Option ℕ → ℕ → Bool
 begins there block = option_map_or (λ other. other == block) there false
 
--- ---- ways to a block; `again` has for each block its number in the choice, if it is reached again by that, and `open` the blocks
+-- ---- ways to a block; `again` has for each block its number in the choice, if it is reached again by that, and `seen` the blocks
 -- whose labels can be seen
 
 abbrev pub is_again : List (Option ℕ) → ℕ → Bool
 is_again again block = is_some (option_flatten (slice_get again block))
 
 abbrev pub is_jumped_to : List (Option ℕ) → List ℕ → ℕ → Bool
-is_jumped_to again open block = is_again again block || is_in open block
+is_jumped_to again seen block = is_again again block || is_in seen block
 
 -- it begins behind, or is jumped to
 abbrev pub is_reached : List (Option ℕ) → List ℕ → Option ℕ → ℕ → Bool
-is_reached again open behind block = begins behind block || is_jumped_to again open block
+is_reached again seen behind block = begins behind block || is_jumped_to again seen block
 
 -- the choice comes to it
 abbrev pub is_come_to : List ℕ → Option ℕ → ℕ → Bool
-is_come_to open behind block = begins behind block || is_in open block
+is_come_to seen behind block = begins behind block || is_in seen block
 
 -- ---- raises of steps
 
@@ -52,10 +52,10 @@ abbrev pub leaves : FlatBody → Raised → Bool
 leaves b raised = option_map_or (λ at. length at.steps == 0 && is_raise_of raised at.exit) (slice_get b.blocks raised.block) false
 
 abbrev pub raise_stands : FlatBody → List (Option ℕ) → List ℕ → Raised → Bool
-raise_stands b again open raised = leaves b raised || is_jumped_to again open raised.block
+raise_stands b again seen raised = leaves b raised || is_jumped_to again seen raised.block
 
 abbrev pub step_stands : FlatBody → List (Option ℕ) → List ℕ → FlatStep → Bool
-step_stands b again open step = option_map_or (raise_stands b again open) (raised_by step) true
+step_stands b again seen step = option_map_or (raise_stands b again seen) (raised_by step) true
 
 -- ---- exits
 
@@ -64,44 +64,44 @@ abbrev pub suspension_stands : List ℕ → Option ℕ → Bool
 suspension_stands entries resume = option_map_or (is_in entries) resume true
 
 abbrev pub exit_stands : FlatBody → List ℕ → List (Option ℕ) → List ℕ → Option ℕ → FlatExit → Bool
-exit_stands b entries again open behind (Jump block) = is_reached again open behind block
-exit_stands b entries again open behind (Branch test yes no) = is_reached again open behind yes && is_reached again open behind no
-exit_stands b entries again open behind (Suspend value resume) = suspension_stands entries resume
-exit_stands b entries again open behind (Stop kind fail) = raise_stands b again open fail.raised
-exit_stands b entries again open behind _ = true
+exit_stands b entries again seen behind (Jump block) = is_reached again seen behind block
+exit_stands b entries again seen behind (Branch test yes no) = is_reached again seen behind yes && is_reached again seen behind no
+exit_stands b entries again seen behind (Suspend value resume) = suspension_stands entries resume
+exit_stands b entries again seen behind (Stop kind fail) = raise_stands b again seen fail.raised
+exit_stands b entries again seen behind _ = true
 
 -- a branch, where what begins with this block is where it goes if its test holds
 abbrev pub side_stands : List (Option ℕ) → List ℕ → Option ℕ → Option ℕ → FlatExit → Bool
-side_stands again open side behind (Branch test yes no) = begins side yes && is_reached again open behind no
-side_stands again open side behind _ = false
+side_stands again seen side behind (Branch test yes no) = begins side yes && is_reached again seen behind no
+side_stands again seen side behind _ = false
 
 -- ---- blocks and pieces
 
 abbrev pub block_stands : FlatBody → List (Option ℕ) → (FlatExit → Bool) → List ℕ → ℕ → Bool
-block_stands b again exit open number =
-    option_map_or (λ at. each (step_stands b again open) at.steps && exit at.exit) (slice_get b.blocks number) false
+block_stands b again exit seen number =
+    option_map_or (λ at. each (step_stands b again seen) at.steps && exit at.exit) (slice_get b.blocks number) false
 
 -- inside something whose label is that of a block, which has none yet
 abbrev pub labelled : Option ℕ → List ℕ → (List ℕ → Bool) → Bool
-labelled None open inside = false
-labelled (Some block) open inside = not (is_in open block) && inside (open ++ block ∷ [])
+labelled None seen inside = false
+labelled (Some block) seen inside = not (is_in seen block) && inside (seen ++ block ∷ [])
 
 -- A body, the blocks in which it begins and goes on, and those that are reached again by way of the choice.
 module _ (b : FlatBody) (entries : List ℕ) (again : List (Option ℕ)) where
   abbrev mutual
     pub piece_stands : List ℕ → Option ℕ → Piece → Bool
-    piece_stands open behind (Block block) = block_stands b again (exit_stands b entries again open behind) open block
-    piece_stands open behind (If block side) =
-        block_stands b again (side_stands again open (first side) behind) open block && pieces_stand open None side
-    piece_stands open behind (Part inside) = labelled behind open (λ more. pieces_stand more behind inside)
-    piece_stands open behind (Loop inside) =
-        if is_some (first inside) then labelled (first inside) open (λ more. pieces_stand more None inside)
-        else pieces_stand open None inside
-    piece_stands open behind Choice = each (is_come_to open behind) entries
+    piece_stands seen behind (Block block) = block_stands b again (exit_stands b entries again seen behind) seen block
+    piece_stands seen behind (If block side) =
+        block_stands b again (side_stands again seen (first side) behind) seen block && pieces_stand seen None side
+    piece_stands seen behind (Part inside) = labelled behind seen (λ more. pieces_stand more behind inside)
+    piece_stands seen behind (Loop inside) =
+        if is_some (first inside) then labelled (first inside) seen (λ more. pieces_stand more None inside)
+        else pieces_stand seen None inside
+    piece_stands seen behind Choice = each (is_come_to seen behind) entries
 
     pub pieces_stand : List ℕ → Option ℕ → Pieces → Bool
-    pieces_stand open behind nothing = true
-    pieces_stand open behind (q then rest) = piece_stands open (behind_piece rest behind) q && pieces_stand open behind rest
+    pieces_stand seen behind nothing = true
+    pieces_stand seen behind (q then rest) = piece_stands seen (behind_piece rest behind) q && pieces_stand seen behind rest
 
 -- ---- whole shapes
 
