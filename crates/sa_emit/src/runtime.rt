@@ -229,16 +229,12 @@ impl Needed {
         let Some(place) = function.checked_sub(FIRST_BUILTIN) else {
             return Ok(());
         };
-        match self.marks.get_mut(place as usize) {
-            Some(marked) => {
-                if !*marked {
-                    *marked = true;
-                    self.waiting.push(place)?;
-                }
-                Ok(())
-            }
-            None => Err(NoMemory),
+        let marked = held(self.marks.get_mut(place as usize))?;
+        if !*marked {
+            *marked = true;
+            self.waiting.push(place)?;
         }
+        Ok(())
     }
 }
 

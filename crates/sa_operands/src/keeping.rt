@@ -79,7 +79,7 @@ fn mark_set(set: &mut Vec<bool>, vars: &mut Vec<u32>, block: &FlatBlock) -> Resu
     for step in block.steps.as_slice() {
         vars.clear();
         add_set(vars, step)?;
-        mark(set, vars)?;
+        mark(set, vars.as_slice())?;
     }
     Ok(())
 }
