@@ -7,9 +7,7 @@ mod numeric;
 mod operands;
 mod words;
 
-pub use memory::{load, load_from, store};
-pub use numeric::{
-    binary32, binary32_of, binary32_with, binary64, binary64_of, binary64_with, unary32, unary64,
-};
+pub use memory::{load, store};
+pub use numeric::{binary32, binary32_with, binary64, binary64_with, unary32, unary64};
 pub use operands::{keep_top, pop_into, select};
 pub use words::{low, push, read, write};
