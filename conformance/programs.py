@@ -2,7 +2,7 @@
 """programs.py PROGRAM [--only WORD]
 
 Runs the programs of the cases in other engines. Each case with the words `run ..`, with no failing device and whose program is
-compiled is run by `PROGRAM run --stats`. Its files are made into a module by `PROGRAM build`, and then
+compiled is run by `PROGRAM run --stats`, without a trace. Its files are made into a module by `PROGRAM build`, and then
 
 - `PROGRAM exec --stats` of the module leaves the same output, the same end and the same statistics;
 - V8 (node) finds the module valid, and runs it to the same output and the same end: the status, or the two numbers of
@@ -27,14 +27,15 @@ FAULT = re.compile(rb'[^\n]+:\d+: fault: ([a-z ]+)\n')
 STACK = 900 * 1024 * 1024   # bytes of V8's stack: 10,000 calls, each with the variables of its routine
 TASKS = 40                  # modules that one process of V8 judges
 REFUSED = 'refused'         # what is given for a program that isn't compiled
+ON_ERR = ('--stats', '--trace')   # what only tells more on err
 
 
 class Program:
-    """A program of a case: its name, its files, the words behind `run` without `--stats`, and its input."""
+    """A program of a case: its name, its files, the words behind `run` but for those that only tell more, and its input."""
 
     def __init__(self, case):
         self.name = report.label(case)
-        self.words = [word for word in case.words[1:] if word != '--stats']
+        self.words = [word for word in case.words[1:] if word not in ON_ERR]
         self.files, self.input = case.files, case.input
 
     def fuel(self):
