@@ -6,7 +6,6 @@ use crate::globals::globals;
 use crate::memory::Memory;
 use crate::places::Places;
 use crate::reached::Reached;
-use crate::runtime::Runtime;
 use crate::sums::{number, sum};
 use crate::table::{elements, tables};
 use crate::texts::segments;
@@ -15,19 +14,20 @@ use sa_emit_value::Program;
 use sa_runtime::layout::FIRST_BUILTIN;
 use sqlite_items::Items;
 use std::alloc::Global;
-use wa_syntax::{Export, ExportKind, FuncTy, Import, ImportKind, Limits, Module, Name, NoMemory};
+use wa_syntax::{
+    Export, ExportKind, Func, FuncTy, Import, ImportKind, Limits, Module, Name, NoMemory,
+};
 
-/// The module of a program, with the functions of the runtime that it needs, and their types.
+/// The module of a program, with the functions of the runtime that it needs, and the types so far.
 pub(crate) fn module(
     alloc: Global,
     program: Program<'_>,
     reached: &Reached,
     memory: &Memory,
     places: &Places,
-    runtime: Runtime,
+    mut funcs: Items<Func>,
     types: Items<FuncTy>,
 ) -> Result<Module, NoMemory> {
-    let Runtime { mut funcs, .. } = runtime;
     add_bodies(alloc, &mut funcs, program, reached)?;
     let main = sum(FIRST_BUILTIN, number(funcs.len())?)?;
     funcs.push(main_function(alloc, last_function(program)?)?)?;

@@ -10,7 +10,7 @@ use sa_runtime::trace::Tracing;
 use sa_runtime::{RuntimeCode, code, frames, support, trace_code};
 use sqlite_items::Items;
 use std::alloc::Global;
-use wa_syntax::{Func, FuncTy, Instr, NoMemory};
+use wa_syntax::{Func, FuncTy, Instr, Locals, NoMemory};
 
 /// All functions of the runtime, with the types that they name. The first two are those of `put` and of `get`, which the module has at
 /// the same numbers.
@@ -40,38 +40,44 @@ pub(crate) fn runtime_of(
     let all = all_functions(alloc, memory, room, tracing)?;
     let Needed { marks, .. } = Needed::of(alloc, all.funcs.as_slice(), called)?;
     let numbers = numbers_of(alloc, &marks)?;
-    let funcs = kept(alloc, types, all, &marks, numbers.as_slice())?;
+    let funcs = kept(alloc, types, &all, &marks, numbers.as_slice())?;
     Ok(Runtime { funcs, numbers })
 }
 
-/// Those of the functions that are needed, with the numbers of the module. They are few, so each is taken from the front.
+/// Those of the functions that are needed, with the numbers of the module.
 fn kept(
     alloc: Global,
     types: &mut Items<FuncTy>,
-    all: All,
+    all: &All,
     needed: &[bool],
     numbers: &[Option<u32>],
 ) -> Result<Items<Func>, NoMemory> {
-    let All {
-        types: own,
-        funcs: mut waiting,
-    } = all;
     let mut kept = TypeNumbers {
-        types: vec![in alloc; None; own.len()]?,
+        types: vec![in alloc; None; all.types.len()]?,
     };
     let mut funcs = Items::new(alloc);
-    for needed in needed {
-        if waiting.is_empty() {
-            break;
-        }
-        let Func { ty, locals, body } = waiting.remove(0);
-        if *needed {
-            let ty = kept.type_of(alloc, types, own.as_slice(), ty)?;
-            let body = renumbered(alloc, numbers, body.as_slice())?;
-            funcs.push(Func { ty, locals, body })?;
+    for (func, is_needed) in all.funcs.as_slice().iter().zip(needed.iter()) {
+        if *is_needed {
+            let ty = kept.type_of(alloc, types, all.types.as_slice(), func.ty)?;
+            funcs.push(copied(alloc, numbers, func, ty)?)?;
         }
     }
     Ok(funcs)
+}
+
+/// The function once more, with another type, and with the numbers that functions have in the module.
+fn copied(alloc: Global, numbers: &[Option<u32>], func: &Func, ty: u32) -> Result<Func, NoMemory> {
+    let locals = copied_locals(alloc, &func.locals)?;
+    let body = renumbered(alloc, numbers, func.body.as_slice())?;
+    Ok(Func { ty, locals, body })
+}
+
+fn copied_locals(alloc: Global, locals: &Locals) -> Result<Locals, NoMemory> {
+    let mut copy = Locals::new(alloc);
+    for run in locals.runs() {
+        copy.push(run.count, run.ty)?;
+    }
+    Ok(copy)
 }
 
 /// For each type of the runtime its number in the module, if a kept function has it.
