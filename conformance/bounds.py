@@ -22,7 +22,7 @@ import report
 from reader import Reader
 
 IMPORTS = 3
-FIRST_BODY = 48
+BODY_TYPES = range(3, 8)        # the types of the functions of bodies, by the number of their parameters that are arguments
 MOST = {'functions of no body': 50, 'their instructions': 10_000, 'nested blocks': 1000, 'locals of a function': 1_000_000,
         'table entries of no body': 0}
 
@@ -32,7 +32,7 @@ class Counter(Reader):
 
     def __init__(self, spelled):
         super().__init__(spelled)
-        self.functions_read = self.own_instructions = self.nested = self.locals = self.foreign = 0
+        self.functions_read = self.own_functions = self.own_instructions = self.nested = self.locals = self.foreign = 0
         self.count = self.declared = 0
 
     def simple(self, opcode, labels):
@@ -53,20 +53,19 @@ class Counter(Reader):
         self.declared, self.count = 0, 0
         super().code(ty)
         self.locals = max(self.locals, self.declared)
-        number = IMPORTS + self.functions_read
         self.functions_read += 1
-        if number < FIRST_BODY or self.functions_read == len(self.funcs):
+        if ty not in BODY_TYPES:
+            self.own_functions += 1
             self.own_instructions += self.count
 
     def elem(self):
         self.segment_number()
         self.offset()
-        last = IMPORTS + len(self.funcs) - 1
-        self.foreign += sum(not FIRST_BODY <= func < last for func in self.vector(self.unsigned))
+        self.foreign += sum(self.funcs[func - IMPORTS] not in BODY_TYPES for func in self.vector(self.unsigned))
 
     def counts(self):
         """The counts of the bounds, by their names."""
-        return {'functions of no body': FIRST_BODY - IMPORTS + 1, 'their instructions': self.own_instructions,
+        return {'functions of no body': self.own_functions, 'their instructions': self.own_instructions,
                 'nested blocks': self.nested, 'locals of a function': self.locals, 'table entries of no body': self.foreign}
 
 

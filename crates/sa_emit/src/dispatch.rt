@@ -1,9 +1,10 @@
 //! The superblocks of a body behind one another, and the choice between them by the number of the dispatch target in the local
-//! `BLOCK`: a `br_table` between up to eight, and above such tables `if`s that halve their number.
+//! for it: a `br_table` between up to eight, and above such tables `if`s that halve their number.
 
+use crate::steps::Writer;
 use crate::sums::{number, sum};
 use crate::superblock::{add_repeated_target, add_target};
-use sa_emit_value::{Around, BLOCK, held};
+use sa_emit_value::{Around, held};
 use sqlite_items::Items;
 use std::alloc::Global;
 use wa_syntax::{Instr, NoMemory, opcode};
@@ -40,11 +41,12 @@ impl<'a> Dispatch<'a> {
 pub(crate) fn add_loop(
     alloc: Global,
     code: &mut Items<Instr>,
+    writer: &mut Writer<'_>,
     dispatch: &Dispatch<'_>,
 ) -> Result<(), NoMemory> {
     let mut body = Items::new(alloc);
     let level = level_of(dispatch.targets.len());
-    add_choice(alloc, &mut body, dispatch, 0, level)?;
+    add_choice(alloc, &mut body, writer, &dispatch.further_in(1)?, 0, level)?;
     code.push(Instr::Loop(None, body))?;
     code.push(Instr::Plain(opcode::UNREACHABLE))?;
     Ok(())
@@ -64,23 +66,24 @@ fn level_of(targets: usize) -> u32 {
 fn add_choice(
     alloc: Global,
     code: &mut Items<Instr>,
+    writer: &mut Writer<'_>,
     dispatch: &Dispatch<'_>,
     first: u32,
     level: u32,
 ) -> Result<(), NoMemory> {
     if level == 0 {
-        return add_table(alloc, code, dispatch, first);
+        return add_table(alloc, code, writer, dispatch, first);
     }
     let middle = sum(first, half_of(level)?)?;
     if middle as usize >= dispatch.targets.len() {
-        return add_choice(alloc, code, dispatch, first, level - 1);
+        return add_choice(alloc, code, writer, dispatch, first, level - 1);
     }
     let inner = dispatch.further_in(1)?;
     let mut low = Items::new(alloc);
-    add_choice(alloc, &mut low, &inner, first, level - 1)?;
+    add_choice(alloc, &mut low, writer, &inner, first, level - 1)?;
     let mut high = Items::new(alloc);
-    add_choice(alloc, &mut high, &inner, middle, level - 1)?;
-    add_is_below(code, middle)?;
+    add_choice(alloc, &mut high, writer, &inner, middle, level - 1)?;
+    add_is_below(code, &dispatch.around, middle)?;
     code.push(Instr::If(None, low, high))?;
     Ok(())
 }
@@ -91,9 +94,9 @@ fn half_of(level: u32) -> Result<u32, NoMemory> {
     held(FAN_OUT.checked_mul(tables))
 }
 
-/// Adds whether the dispatch target in `BLOCK` is before this one.
-fn add_is_below(code: &mut Items<Instr>, target: u32) -> Result<(), NoMemory> {
-    code.push(Instr::LocalGet(BLOCK))?;
+/// Adds whether the dispatch target in the local for it is before this one.
+fn add_is_below(code: &mut Items<Instr>, around: &Around<'_>, target: u32) -> Result<(), NoMemory> {
+    code.push(Instr::LocalGet(around.block()))?;
     code.push(Instr::I32Const(target))?;
     code.push(Instr::Plain(opcode::I32_LT_U))?;
     Ok(())
@@ -103,37 +106,39 @@ fn add_is_below(code: &mut Items<Instr>, target: u32) -> Result<(), NoMemory> {
 fn add_table(
     alloc: Global,
     code: &mut Items<Instr>,
+    writer: &mut Writer<'_>,
     dispatch: &Dispatch<'_>,
     first: u32,
 ) -> Result<(), NoMemory> {
     let last = last_behind(dispatch.targets.len(), first)?;
     if last == 0 {
-        return add_superblock(alloc, code, dispatch, first);
+        return add_superblock(alloc, code, writer, dispatch, first);
     }
-    let mut before = choosing(alloc, first, last)?;
+    let mut before = choosing(alloc, &dispatch.around, first, last)?;
     for place in 0..last {
         let inner = dispatch.further_in(last - place)?;
         let mut behind = Items::new(alloc);
         behind.push(Instr::Block(None, before))?;
-        add_superblock(alloc, &mut behind, &inner, sum(first, place)?)?;
+        add_superblock(alloc, &mut behind, writer, &inner, sum(first, place)?)?;
         before = behind;
     }
     code.push(Instr::Block(None, before))?;
-    add_superblock(alloc, code, dispatch, sum(first, last)?)
+    add_superblock(alloc, code, writer, dispatch, sum(first, last)?)
 }
 
 /// Adds the superblock of a dispatch target.
 fn add_superblock(
     alloc: Global,
     code: &mut Items<Instr>,
+    writer: &mut Writer<'_>,
     dispatch: &Dispatch<'_>,
     target: u32,
 ) -> Result<(), NoMemory> {
     let block = *held(dispatch.targets.get(target as usize))?;
     if *held(dispatch.repeats.get(target as usize))? {
-        return add_repeated_target(alloc, code, dispatch.around, block);
+        return add_repeated_target(alloc, code, writer, dispatch.around, block);
     }
-    add_target(alloc, code, dispatch.around, block)
+    add_target(alloc, code, writer, dispatch.around, block)
 }
 
 /// How many dispatch targets behind `first` stand in the table that begins with it.
@@ -142,10 +147,15 @@ fn last_behind(targets: usize, first: u32) -> Result<u32, NoMemory> {
     Ok(behind.min(FAN_OUT - 1))
 }
 
-/// The code that goes to the end of the block that the dispatch target in `BLOCK` stands behind, one of those from `first` on.
-fn choosing(alloc: Global, first: u32, last: u32) -> Result<Items<Instr>, NoMemory> {
+/// The code that goes to the end of the block that the dispatch target in the local for it stands behind, one of those from `first` on.
+fn choosing(
+    alloc: Global,
+    around: &Around<'_>,
+    first: u32,
+    last: u32,
+) -> Result<Items<Instr>, NoMemory> {
     let mut code = Items::new(alloc);
-    code.push(Instr::LocalGet(BLOCK))?;
+    code.push(Instr::LocalGet(around.block()))?;
     if first > 0 {
         code.push(Instr::I32Const(first))?;
         code.push(Instr::Plain(opcode::I32_SUB))?;

@@ -1,7 +1,7 @@
 //! The exported function `main`: it runs the last body of the program, and stops the machine where a raise leaves it.
 
 use crate::types::MAIN_TYPE;
-use sa_runtime::layout::{EXCEPTION_KIND, EXCEPTION_PLACE, RESULT, STOP};
+use sa_runtime::layout::{EXCEPTION_KIND, EXCEPTION_PLACE, GREATEST_DEPTH, RESULT, STOP};
 use sqlite_items::Items;
 use std::alloc::Global;
 use wa_syntax::{Func, Instr, Locals, NoMemory, opcode};
@@ -9,7 +9,8 @@ use wa_syntax::{Func, Instr, Locals, NoMemory, opcode};
 /// The function that runs the body whose function has this number. It answers the low half of the body's result.
 pub(crate) fn main_function(alloc: Global, body: u32) -> Result<Func, NoMemory> {
     let mut code = Items::new(alloc);
-    code.push(Instr::I32Const(0))?;
+    code.push(Instr::I64Const(0))?;
+    code.push(Instr::I32Const(GREATEST_DEPTH))?;
     code.push(Instr::I32Const(0))?;
     code.push(Instr::Call(body))?;
     code.push(Instr::If(None, stopping(alloc)?, Items::new(alloc)))?;

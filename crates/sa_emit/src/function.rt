@@ -2,30 +2,38 @@
 
 use crate::dispatch::{Dispatch, add_loop};
 use crate::pool::has_frames;
-use crate::predecessors::{Predecessors, predecessors_of};
-use crate::sums::sum;
-use crate::superblock::add_target;
-use crate::targets::{DispatchTargets, targets_of};
-use sa_emit_step::{add_iter_prologue, add_suspension};
-use sa_emit_value::{Around, Nesting, Program, Role, add_prologue, locals_of};
+use crate::predecessors::predecessors_of;
+use crate::reached::Reached;
+use crate::resuming::add_before_choice;
+use crate::steps::Writer;
+use crate::structured::add_shaped;
+use crate::sums::{held_graph, sum};
+use crate::targets::targets_of;
+use sa_emit_step::add_suspension;
+use sa_emit_value::{Around, Nesting, Program, Role, add_prologue, locals_of, parameters_of};
 use sa_flat::FlatBody;
+use sa_operands::{Given, Keeping};
 use sa_runtime::layout::BODY_TYPE;
+use sa_shape::{Shaped, shape_of};
 use sqlite_items::Items;
 use std::alloc::Global;
 use wa_syntax::{Func, Instr, NoMemory};
 
-/// The function of each body, in order.
+/// The function of each body that is reached, in order.
 pub(crate) fn add_bodies(
     alloc: Global,
     funcs: &mut Items<Func>,
     program: Program<'_>,
+    reached: &Reached,
 ) -> Result<(), NoMemory> {
     let Some((last, others)) = program.flat.bodies.as_slice().split_last() else {
         return Ok(());
     };
     let mut first_site = 0u32;
-    for body in others {
-        funcs.push(function(alloc, program, body, role_of(body), first_site)?)?;
+    for (body, is_reached) in others.iter().zip(reached.bodies.iter()) {
+        if *is_reached {
+            funcs.push(function(alloc, program, body, role_of(body), first_site)?)?;
+        }
         first_site = sum(first_site, body.sites)?;
     }
     funcs.push(function(alloc, program, last, Role::Last, first_site)?)?;
@@ -40,7 +48,8 @@ fn role_of(body: &FlatBody) -> Role {
     }
 }
 
-/// The function of a body, whose first site has this place among all sites of the program.
+/// The function of a body, whose first site has this place among all sites of the program. It has the shape of the body where there is
+/// one, and else dispatches between the blocks.
 fn function(
     alloc: Global,
     program: Program<'_>,
@@ -48,78 +57,93 @@ fn function(
     role: Role,
     first_site: u32,
 ) -> Result<Func, NoMemory> {
-    let predecessors = predecessors_of(alloc, body)?;
-    let targets = targets_of(alloc, body, predecessors.as_slice())?;
+    let keeping = held_graph(Keeping::of(alloc, body))?;
     let around = Around {
         program,
         body,
         role,
-        targets: targets.numbers.as_slice(),
+        labels: &[],
+        again: &[],
+        numbers: &[],
         nesting: Nesting::outermost(),
+        readings: &[],
+        given: Given::Kept,
+        left: None,
+        keeping: &keeping,
         first_site,
     };
-    let code = if has_frames(body) {
-        resumed(alloc, &around, &targets)?
-    } else {
-        run_once(alloc, &around, predecessors.as_slice(), &targets)?
+    let code = match held_graph(shape_of(alloc, body))? {
+        Some(shaped) => shaped_code(alloc, &around, &shaped)?,
+        None => dispatched_code(alloc, &around)?,
     };
     Ok(Func {
-        ty: BODY_TYPE,
+        ty: BODY_TYPE.saturating_add(parameters_of(body)),
         locals: locals_of(alloc, body)?,
-        body: code,
+        body: suspending(alloc, &around, code)?,
     })
 }
 
-/// The code of a body whose instances are suspended and resumed. A suspension leaves the block around the dispatch, and a
-/// resumption goes through the dispatch to the target that it goes on in, so there is one also where nothing else jumps to a
-/// dispatch target.
-fn resumed(
+/// The code of a body that has a shape.
+fn shaped_code(
     alloc: Global,
     around: &Around<'_>,
-    targets: &DispatchTargets,
+    shaped: &Shaped,
 ) -> Result<Items<Instr>, NoMemory> {
+    let around = Around {
+        again: shaped.again.as_slice(),
+        numbers: shaped.numbers.as_slice(),
+        ..*around
+    };
     let mut code = Items::new(alloc);
-    add_iter_prologue(alloc, &mut code, around.body)?;
-    let mut inside = Items::new(alloc);
-    add_dispatched(alloc, &mut inside, around, targets)?;
-    code.push(Instr::Block(None, inside))?;
-    add_suspension(alloc, &mut code, around.body)?;
-    Ok(code)
-}
-
-/// The code of a body that runs from its beginning.
-fn run_once(
-    alloc: Global,
-    around: &Around<'_>,
-    predecessors: &[Predecessors],
-    targets: &DispatchTargets,
-) -> Result<Items<Instr>, NoMemory> {
-    let mut code = Items::new(alloc);
-    add_prologue(&mut code, around.body)?;
-    if is_one_superblock(predecessors, targets.blocks.as_slice()) {
-        add_target(alloc, &mut code, *around, 0)?;
-    } else {
-        add_dispatched(alloc, &mut code, around, targets)?;
+    if shaped.entries.len() == 1 {
+        add_prologue(&mut code, around.body)?;
+    } else if shaped.repeats() {
+        add_before_choice(alloc, &mut code, &around)?;
     }
+    let mut writer = Writer::new(alloc, around.body)?;
+    add_shaped(alloc, &mut code, &around, &mut writer, shaped)?;
     Ok(code)
 }
 
-/// Adds the code of dispatch targets that are jumped to.
-fn add_dispatched(
-    alloc: Global,
-    code: &mut Items<Instr>,
-    around: &Around<'_>,
-    targets: &DispatchTargets,
-) -> Result<(), NoMemory> {
+/// The code of a body that dispatches between its blocks.
+fn dispatched_code(alloc: Global, around: &Around<'_>) -> Result<Items<Instr>, NoMemory> {
+    let predecessors = predecessors_of(alloc, around.body)?;
+    let targets = targets_of(alloc, around.body, predecessors.as_slice())?;
+    let around = Around {
+        again: targets.numbers.as_slice(),
+        numbers: targets.numbers.as_slice(),
+        ..*around
+    };
+    let mut code = Items::new(alloc);
+    if has_frames(around.body) {
+        add_before_choice(alloc, &mut code, &around)?;
+    } else {
+        add_prologue(&mut code, around.body)?;
+    }
+    let mut writer = Writer::new(alloc, around.body)?;
     let dispatch = Dispatch {
-        around: *around,
+        around,
         targets: targets.blocks.as_slice(),
         repeats: targets.repeats.as_slice(),
     };
-    add_loop(alloc, code, &dispatch)
+    add_loop(alloc, &mut code, &mut writer, &dispatch)?;
+    Ok(code)
 }
 
-/// Whether nothing jumps to a dispatch target, so that the body needs no loop.
-fn is_one_superblock(predecessors: &[Predecessors], targets: &[u32]) -> bool {
-    targets.len() == 1 && predecessors.first() == Some(&Predecessors::Entry)
+/// The code of a body with what its suspensions go to, where there are several.
+fn suspending(
+    alloc: Global,
+    around: &Around<'_>,
+    code: Items<Instr>,
+) -> Result<Items<Instr>, NoMemory> {
+    let body = around.body;
+    let mut whole = Items::new(alloc);
+    if !has_frames(body) || around.keeping.suspensions < 2 {
+        whole.append(code)?;
+        whole.push(Instr::Plain(wa_syntax::opcode::UNREACHABLE))?;
+        return Ok(whole);
+    }
+    whole.push(Instr::Block(None, code))?;
+    add_suspension(alloc, &mut whole, body, around.keeping)?;
+    Ok(whole)
 }

@@ -1,6 +1,7 @@
 //! The linear memory: where the binds, the pool of frames, the literal texts and the objects lie, and how many pages there are.
 
 use crate::pool::pool_bytes;
+use crate::reached::Reached;
 use sa_emit_value::held;
 use sa_flat::{BindEntry, FlatProgram};
 use sa_runtime::layout::{OPEN_AT, SHAREDS_AT};
@@ -45,6 +46,7 @@ pub(crate) struct Memory {
 pub(crate) fn memory_of(
     alloc: Global,
     flat: &FlatProgram,
+    reached: &Reached,
     slot_bytes: u32,
     room: u32,
 ) -> Result<Memory, NoMemory> {
@@ -52,7 +54,7 @@ pub(crate) fn memory_of(
     let shareds_end = held(shareds.checked_add(u64::from(SHAREDS_AT)))?;
     let entries = laid_binds(alloc, shareds_end, flat.binds.as_slice())?;
     let texts_at = held(entries.end.checked_add(pool_bytes(slot_bytes)))?;
-    let texts = laid_texts(alloc, texts_at, flat.texts.as_slice())?;
+    let texts = laid_texts(alloc, texts_at, flat.texts.as_slice(), &reached.texts)?;
     Ok(Memory {
         pool: address(entries.end)?,
         entries: entries.addresses,
@@ -99,11 +101,12 @@ fn laid_binds(alloc: Global, at: u64, binds: &[BindEntry]) -> Result<Run, NoMemo
     Ok(run)
 }
 
-/// The texts from this address on.
-fn laid_texts(alloc: Global, at: u64, texts: &[Name]) -> Result<Run, NoMemory> {
+/// The texts that are reached from this address on. The others take no room.
+fn laid_texts(alloc: Global, at: u64, texts: &[Name], reached: &[bool]) -> Result<Run, NoMemory> {
     let mut run = run_at(alloc, at);
-    for text in texts {
-        run.add(size_of(WORD, text.as_slice().len())?)?;
+    for (text, is_reached) in texts.iter().zip(reached.iter()) {
+        let size = size_of(WORD, text.as_slice().len())?;
+        run.add(if *is_reached { size } else { 0 })?;
     }
     Ok(run)
 }

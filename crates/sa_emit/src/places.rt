@@ -1,10 +1,11 @@
-//! The bodies that bound values call, and their places in the table of functions, behind those of the implementations that have
-//! a place by their signature.
+//! The bodies that bound values call, and those of the implementations that have no place by their signature, with their places in
+//! the table of functions, behind those that have one.
 
+use crate::reached::Reached;
 use crate::sums::{number, sum};
 use sa_dispatch::Rows;
 use sa_emit_value::held;
-use sa_flat::{Callee, FlatProgram};
+use sa_flat::{BindEntry, Callee, FlatProgram};
 use sqlite_items::Items;
 use std::alloc::Global;
 use wa_syntax::NoMemory;
@@ -18,25 +19,18 @@ pub(crate) struct Places {
     pub of: Items<Option<u32>>,
     /// The bodies in the order of their places.
     pub bodies: Items<u32>,
-    /// For each signature whether its implementations have been seen to.
-    seen: Items<bool>,
 }
 
-/// The places of a program's bodies: of those that binds name, and of the implementations of signatures that binds name and that
-/// have no place by their signature.
+/// The places of a program's bodies: of those that binds name, and of the implementations that have no place by their signature.
 pub(crate) fn places_of(
     alloc: Global,
     flat: &FlatProgram,
     rows: &Rows,
+    reached: &Reached,
 ) -> Result<Places, NoMemory> {
     let mut places = no_places(alloc, flat, rows)?;
-    for bind in flat.binds.as_slice() {
-        match bind.callee {
-            Callee::Body(body) => places.add(body)?,
-            Callee::Dispatch(sig) => places.add_signature(flat, rows, sig)?,
-            _ => {}
-        }
-    }
+    places.add_binds(flat, reached)?;
+    places.add_signatures(flat, rows, reached)?;
     Ok(places)
 }
 
@@ -46,18 +40,47 @@ fn no_places(alloc: Global, flat: &FlatProgram, rows: &Rows) -> Result<Places, N
         first: rows.size(),
         of: Items::new(alloc),
         bodies: Items::new(alloc),
-        seen: Items::new(alloc),
     };
     for _ in 0..flat.bodies.len() {
         places.of.push(None)?;
-    }
-    for _ in 0..rows.signatures() {
-        places.seen.push(false)?;
     }
     Ok(places)
 }
 
 impl Places {
+    /// Adds the bodies that the values of reached binds call.
+    fn add_binds(&mut self, flat: &FlatProgram, reached: &Reached) -> Result<(), NoMemory> {
+        for (bind, is_reached) in flat.binds.as_slice().iter().zip(reached.binds.iter()) {
+            if *is_reached {
+                self.add_bind(bind)?;
+            }
+        }
+        Ok(())
+    }
+
+    /// Adds the implementations of reached signatures that have no part of the table.
+    fn add_signatures(
+        &mut self,
+        flat: &FlatProgram,
+        rows: &Rows,
+        reached: &Reached,
+    ) -> Result<(), NoMemory> {
+        for sig in 0..rows.signatures() {
+            if reached.signatures.get(sig as usize) == Some(&true) {
+                self.add_signature(flat, rows, sig)?;
+            }
+        }
+        Ok(())
+    }
+
+    /// Adds the body that the values of a bind call.
+    fn add_bind(&mut self, bind: &BindEntry) -> Result<(), NoMemory> {
+        match bind.callee {
+            Callee::Body(body) => self.add(body),
+            _ => Ok(()),
+        }
+    }
+
     /// Adds a body that isn't there yet.
     fn add(&mut self, body: u32) -> Result<(), NoMemory> {
         let at = body as usize;
@@ -75,7 +98,7 @@ impl Places {
 
     /// Adds the implementations of a signature that has no part of the table.
     fn add_signature(&mut self, flat: &FlatProgram, rows: &Rows, sig: u32) -> Result<(), NoMemory> {
-        if self.is_seen(sig)? || rows.span(sig).is_some() {
+        if rows.types(sig).is_empty() || rows.span(sig).is_some() {
             return Ok(());
         }
         let first = held(rows.first(sig))?;
@@ -84,16 +107,5 @@ impl Places {
             self.add(*held(flat.targets.get(row as usize))?)?;
         }
         Ok(())
-    }
-
-    /// Whether the implementations of a signature have been seen to. From now on they have.
-    fn is_seen(&mut self, sig: u32) -> Result<bool, NoMemory> {
-        let at = sig as usize;
-        if at >= self.seen.len() {
-            return Err(NoMemory);
-        }
-        let seen = self.seen.get(at) == Some(&true);
-        self.seen.set(at, true);
-        Ok(seen)
     }
 }

@@ -1,16 +1,11 @@
-//! The pool of frames: how large a frame and the pool are, and the two functions of the module that take frames and give them
-//! back.
+//! The pool of frames: how large a frame and the pool are.
 
 use crate::sums::{number, sum};
-use crate::types::{GET_TYPE, PUT_TYPE};
 use sa_emit_value::held;
 use sa_flat::{FlatBody, FlatProgram};
-use sa_pool::{PoolCode, code};
 use sa_runtime::layout::FRAME_WORDS;
 use sa_runtime::trace::{Tracing, traced_words};
-use sqlite_items::Items;
-use std::alloc::Global;
-use wa_syntax::{Func, NoMemory};
+use wa_syntax::NoMemory;
 
 /// How many frames the pool has.
 const FRAMES: u64 = 10_000;
@@ -53,32 +48,4 @@ pub(crate) fn slot_bytes(words: u32) -> Result<u32, NoMemory> {
 /// How many bytes the pool takes with frames of so many bytes.
 pub(crate) fn pool_bytes(slot_bytes: u32) -> u64 {
     u64::from(HEAD) + FRAMES * u64::from(slot_bytes)
-}
-
-/// The address of the first frame of the pool at this address.
-pub(crate) fn first_frame(pool: u32) -> Result<u32, NoMemory> {
-    sum(pool, HEAD)
-}
-
-/// Adds `TAKE` and `GIVE`, for the pool at this address with frames of so many bytes.
-pub(crate) fn add_pool(
-    alloc: Global,
-    funcs: &mut Items<Func>,
-    pool: u32,
-    slot_bytes: u32,
-) -> Result<(), NoMemory> {
-    let PoolCode { take, give } = code(alloc, pool, slot_bytes)?;
-    funcs.push(typed(take, GET_TYPE))?;
-    funcs.push(typed(give, PUT_TYPE))?;
-    Ok(())
-}
-
-/// The function with the number that its type has in the module.
-fn typed(func: Func, ty: u32) -> Func {
-    let Func {
-        ty: _,
-        locals,
-        body,
-    } = func;
-    Func { ty, locals, body }
 }

@@ -1,8 +1,9 @@
 //! The predecessors of each block of a body, by what leads to it: exits, raises and resumptions, of the blocks alone that can be
 //! reached from the first.
 
-use sa_emit_value::{held, leaves};
-use sa_flat::{FlatBlock, FlatBody, FlatExit, FlatStep, Raised};
+use sa_emit_value::held;
+use sa_flat::{FlatBlock, FlatBody, FlatExit, Raised};
+use sa_shape::{leaves, raised_of};
 use sqlite_items::Items;
 use std::alloc::Global;
 use wa_syntax::NoMemory;
@@ -140,21 +141,5 @@ impl Found {
         }
         self.predecessors.set(at, predecessors);
         Ok(())
-    }
-}
-
-/// Where a fault or a raise of a step goes.
-fn raised_of(step: &FlatStep) -> Option<Raised> {
-    match step {
-        FlatStep::New { fail, .. } => Some(fail.raised),
-        FlatStep::NewArray { fail, .. } => Some(fail.raised),
-        FlatStep::Widen { fail, .. } => Some(fail.raised),
-        FlatStep::WidenFor { fail, .. } => Some(fail.raised),
-        FlatStep::NotVoid { fail, .. } => Some(fail.raised),
-        FlatStep::Call { plan } => Some(plan.fail.raised),
-        FlatStep::Bind { plan, .. } => Some(plan.fail.raised),
-        FlatStep::Start { plan, .. } => Some(plan.fail.raised),
-        FlatStep::Resume { plan, .. } => Some(plan.fail.raised),
-        _ => None,
     }
 }

@@ -1,16 +1,20 @@
 //! A flat program as a module.
 
-use crate::memory::memory_of;
-use crate::module::{main_of, module};
-use crate::places::places_of;
+use crate::memory::{Memory, memory_of};
+use crate::module::{functions_of, module};
+use crate::places::{Places, places_of};
 use crate::pool::{slot_bytes, slot_words};
-use crate::sums::sum;
+use crate::reached::{Reached, reached_of};
+use crate::runtime::{Runtime, runtime_of};
+use crate::types::own_types;
 use sa_dispatch::Rows;
-use sa_emit_value::{Below, Program};
+use sa_emit_value::{Below, Program, held};
 use sa_flat::FlatProgram;
+use sa_runtime::layout::FIRST_TELLER;
 use sa_runtime::trace::{Tellers, Tracing};
+use sqlite_items::Items;
 use std::alloc::Global;
-use wa_syntax::{Module, NoMemory};
+use wa_syntax::{FuncTy, Module, NoMemory};
 
 /// The module of a program, whose objects have so many KiB.
 ///
@@ -34,12 +38,41 @@ pub fn emit_traced(
     rows: &Rows,
     room: u32,
 ) -> Result<Module, NoMemory> {
-    let behind_main = sum(main_of(flat)?, 1)?;
-    let tellers = Tellers::from_first(behind_main)?;
+    let tellers = Tellers::from_first(FIRST_TELLER)?;
     emitted(alloc, flat, rows, room, Tracing::On(tellers))
 }
 
-/// The module of a program, traced or not.
+/// What is found out about a program before its first instruction.
+#[derive(Drop)]
+struct Found {
+    reached: Reached,
+    memory: Memory,
+    below: Below,
+    places: Places,
+}
+
+/// What is found out about a program.
+fn found_of(
+    alloc: Global,
+    flat: &FlatProgram,
+    rows: &Rows,
+    room: u32,
+    tracing: Tracing,
+) -> Result<Found, NoMemory> {
+    let slot_bytes = slot_bytes(slot_words(flat, tracing)?)?;
+    let reached = reached_of(alloc, flat, rows, tracing)?;
+    let memory = memory_of(alloc, flat, &reached, slot_bytes, room)?;
+    let below = Below::of(alloc, flat)?;
+    let places = places_of(alloc, flat, rows, &reached)?;
+    Ok(Found {
+        reached,
+        memory,
+        below,
+        places,
+    })
+}
+
+/// The module of a program, traced or not. The functions that put frames of the trace are named as those of the runtime.
 fn emitted(
     alloc: Global,
     flat: &FlatProgram,
@@ -47,18 +80,54 @@ fn emitted(
     room: u32,
     tracing: Tracing,
 ) -> Result<Module, NoMemory> {
-    let slot_words = slot_words(flat, tracing)?;
-    let memory = memory_of(alloc, flat, slot_bytes(slot_words)?, room)?;
-    let below = Below::of(alloc, flat)?;
-    let places = places_of(alloc, flat, rows)?;
+    let found = found_of(alloc, flat, rows, room, tracing)?;
+    let mut types = own_types(alloc)?;
+    let called = found.reached.runtime.as_slice();
+    let runtime = runtime_of(alloc, &mut types, &found.memory, room, tracing, called)?;
+    with_runtime(alloc, flat, rows, &found, types, runtime, tracing)
+}
+
+/// The module of a program, with the functions of the runtime that it needs, and the types so far.
+fn with_runtime(
+    alloc: Global,
+    flat: &FlatProgram,
+    rows: &Rows,
+    found: &Found,
+    types: Items<FuncTy>,
+    runtime: Runtime,
+    tracing: Tracing,
+) -> Result<Module, NoMemory> {
+    let Runtime { funcs, numbers } = runtime;
+    let functions = functions_of(alloc, &found.reached, funcs.len())?;
     let program = Program {
         flat,
         rows,
-        texts: memory.texts.as_slice(),
-        below: &below,
-        entries: memory.entries.as_slice(),
-        places: places.of.as_slice(),
-        tracing,
+        texts: found.memory.texts.as_slice(),
+        below: &found.below,
+        entries: found.memory.entries.as_slice(),
+        places: found.places.of.as_slice(),
+        runtime: numbers.as_slice(),
+        functions: functions.as_slice(),
+        tracing: in_module(tracing, numbers.as_slice())?,
     };
-    module(alloc, program, &memory, &places, room)
+    module(
+        alloc,
+        program,
+        &found.reached,
+        &found.memory,
+        &found.places,
+        funcs,
+        types,
+    )
+}
+
+/// The same, with the functions named by the numbers that they have in the module.
+fn in_module(tracing: Tracing, numbers: &[Option<u32>]) -> Result<Tracing, NoMemory> {
+    match tracing {
+        Tracing::Off => Ok(Tracing::Off),
+        Tracing::On(tellers) => {
+            let first = held(numbers.get(tellers.byte as usize).copied())?;
+            Ok(Tracing::On(Tellers::from_first(held(first)?)?))
+        }
+    }
 }

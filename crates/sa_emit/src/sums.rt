@@ -12,3 +12,8 @@ pub(crate) fn sum(number: u32, more: u32) -> Result<u32, NoMemory> {
 pub(crate) fn number(length: usize) -> Result<u32, NoMemory> {
     held(u32::try_from(length).ok())
 }
+
+/// What the analyses of a body give, which stand on the crates of trees. Their want of memory is the module's.
+pub(crate) fn held_graph<T>(found: Result<T, sa_tree::NoMemory>) -> Result<T, NoMemory> {
+    found.map_err(|_| NoMemory)
+}

@@ -1,10 +1,11 @@
 //! The code of a superblock: of the block of a dispatch target, and of the blocks behind it, each of which has one predecessor, up
 //! to jumps to dispatch targets and to exits that leave the body.
 
+use crate::steps::{Turn, Writer};
 use crate::targets::DEEPEST;
-use sa_emit_step::{add_leaving, add_step};
-use sa_emit_value::{Around, Nesting, add_jump, held};
-use sa_flat::{FlatExit, FlatStep};
+use sa_emit_step::add_leaving;
+use sa_emit_value::{Around, Nesting, add_jump, add_test, held};
+use sa_flat::FlatExit;
 use sqlite_items::Items;
 use std::alloc::Global;
 use wa_syntax::{Instr, NoMemory, opcode};
@@ -39,14 +40,14 @@ impl<'a> Spot<'a> {
     fn label_of(&self, target: u32) -> Option<u32> {
         let own = self.own?;
         if own.block == target {
-            return Some(own.nesting.label());
+            return Some(own.nesting.label_around());
         }
         None
     }
 
     /// Whether a block is a dispatch target.
     fn is_target(&self, block: u32) -> Result<bool, NoMemory> {
-        Ok(held(self.around.targets.get(block as usize))?.is_some())
+        Ok(held(self.around.numbers.get(block as usize))?.is_some())
     }
 }
 
@@ -64,6 +65,7 @@ fn own_further_in(own: Option<OwnLoop>) -> Result<Option<OwnLoop>, NoMemory> {
 pub(crate) fn add_repeated_target(
     alloc: Global,
     code: &mut Items<Instr>,
+    writer: &mut Writer<'_>,
     around: Around<'_>,
     block: u32,
 ) -> Result<(), NoMemory> {
@@ -75,7 +77,7 @@ pub(crate) fn add_repeated_target(
         }),
     };
     let mut body = Items::new(alloc);
-    add_superblock(alloc, &mut body, spot, block, DEEPEST)?;
+    add_superblock(alloc, &mut body, writer, spot, block, DEEPEST)?;
     code.push(Instr::Loop(None, body))?;
     Ok(())
 }
@@ -84,11 +86,12 @@ pub(crate) fn add_repeated_target(
 pub(crate) fn add_target(
     alloc: Global,
     code: &mut Items<Instr>,
+    writer: &mut Writer<'_>,
     around: Around<'_>,
     block: u32,
 ) -> Result<(), NoMemory> {
     let spot = Spot { around, own: None };
-    add_superblock(alloc, code, spot, block, DEEPEST)
+    add_superblock(alloc, code, writer, spot, block, DEEPEST)
 }
 
 /// What stands behind the code of a block.
@@ -106,17 +109,18 @@ enum Behind {
 fn add_superblock(
     alloc: Global,
     code: &mut Items<Instr>,
+    writer: &mut Writer<'_>,
     spot: Spot<'_>,
     first: u32,
     depth: u32,
 ) -> Result<(), NoMemory> {
     let mut next = first;
     for _ in 0..spot.around.body.blocks.len() {
-        match add_block(alloc, code, spot, next)? {
+        match add_block(alloc, code, writer, spot, next)? {
             Behind::Nothing => return Ok(()),
             Behind::Block(block) => next = block,
             Behind::Sides { yes, no } => {
-                add_side(alloc, code, spot, yes, depth)?;
+                add_side(alloc, code, writer, spot, yes, depth)?;
                 next = no;
             }
         }
@@ -129,6 +133,7 @@ fn add_superblock(
 fn add_side(
     alloc: Global,
     code: &mut Items<Instr>,
+    writer: &mut Writer<'_>,
     spot: Spot<'_>,
     yes: u32,
     depth: u32,
@@ -138,7 +143,7 @@ fn add_side(
     }
     let inner = spot.further_in()?;
     let mut side = Items::new(alloc);
-    add_superblock(alloc, &mut side, inner, yes, depth - 1)?;
+    add_superblock(alloc, &mut side, writer, inner, yes, depth - 1)?;
     code.push(Instr::If(None, side, Items::new(alloc)))?;
     Ok(())
 }
@@ -158,65 +163,34 @@ fn too_deep() -> NoMemory {
 fn add_block(
     alloc: Global,
     code: &mut Items<Instr>,
+    writer: &mut Writer<'_>,
     spot: Spot<'_>,
     number: u32,
 ) -> Result<Behind, NoMemory> {
     let block = held(spot.around.body.blocks.get(number as usize))?;
     let turn = first_turn(spot, number)?;
-    add_steps(alloc, code, &spot.around, block.steps.as_slice(), turn)?;
+    let decided = writer.add_steps(alloc, code, &spot.around, number, block, turn)?;
     match &block.exit {
         FlatExit::Jump(to) => add_going_on(code, spot, *to),
+        FlatExit::Branch { no, .. } if decided => add_going_on(code, spot, *no),
         FlatExit::Branch { test, yes, no } => {
-            add_test(code, &spot.around, *test)?;
+            add_test(code, &writer.at_exit(&spot.around), *test)?;
             add_branch(alloc, code, spot, *yes, *no)
         }
         exit => {
-            add_leaving(code, &spot.around, exit)?;
+            add_leaving(alloc, code, &writer.at_exit(&spot.around), exit)?;
             Ok(Behind::Nothing)
         }
     }
-}
-
-/// What instruction a turn has, so that a run never has more turns than instructions.
-#[derive(Clone, Copy, Debug, PartialEq, Eq)]
-enum Turn {
-    /// The jump to the block.
-    Jump,
-    /// A `nop` of its own.
-    Nop,
 }
 
 /// What instruction a turn has that a block begins with: the jump where each way into the block is one, which holds of the
 /// dispatch targets but for the one that the body begins with.
 fn first_turn(spot: Spot<'_>, block: u32) -> Result<Turn, NoMemory> {
     if block > 0 && spot.is_target(block)? {
-        return Ok(Turn::Jump);
+        return Ok(Turn::Way);
     }
     Ok(Turn::Nop)
-}
-
-/// Adds the code of the steps of a block. `turn` is what instruction a turn has that is the first of them; each other one has a
-/// `nop`.
-fn add_steps(
-    alloc: Global,
-    code: &mut Items<Instr>,
-    around: &Around<'_>,
-    steps: &[FlatStep],
-    mut turn: Turn,
-) -> Result<(), NoMemory> {
-    for step in steps {
-        if is_turn(step) && turn == Turn::Nop {
-            code.push(Instr::Plain(opcode::NOP))?;
-        }
-        turn = Turn::Nop;
-        add_step(alloc, code, around, step)?;
-    }
-    Ok(())
-}
-
-/// Whether a step spends a turn and does nothing else.
-fn is_turn(step: &FlatStep) -> bool {
-    matches!(step, FlatStep::Turn)
 }
 
 /// Adds a jump to a block that is a dispatch target. The code of another one stands here.
@@ -246,13 +220,6 @@ fn add_branch(
         return Ok(Behind::Block(yes));
     }
     Ok(Behind::Sides { yes, no })
-}
-
-/// Adds the value of a variable as an operand of a test.
-fn add_test(code: &mut Items<Instr>, around: &Around<'_>, test: u32) -> Result<(), NoMemory> {
-    code.push(Instr::LocalGet(around.local(test)))?;
-    code.push(Instr::Plain(opcode::I32_WRAP_I64))?;
-    Ok(())
 }
 
 /// Adds a jump to a dispatch target, for where the test holds.

@@ -2,8 +2,9 @@
 //! a span the function that does it, and behind them the functions of the other bodies that bound values call.
 
 use crate::places::Places;
+use crate::reached::Reached;
 use crate::sums::{number, sum};
-use sa_emit_value::{Program, function_of, held};
+use sa_emit_value::{Program, held};
 use sqlite_items::Items;
 use std::alloc::Global;
 use std::mem;
@@ -31,6 +32,7 @@ struct Filled {
 pub(crate) fn elements(
     alloc: Global,
     program: Program<'_>,
+    reached: &Reached,
     places: &Places,
 ) -> Result<Items<ElemSegment>, NoMemory> {
     let mut filled = Filled {
@@ -38,13 +40,13 @@ pub(crate) fn elements(
         first: 0,
         funcs: Items::new(alloc),
     };
-    let implementations = implementations(alloc, program)?;
+    let implementations = implementations(alloc, program, reached)?;
     for (place, func) in implementations.iter().enumerate() {
         if let Some(func) = func {
             filled.add(alloc, number(place)?, *func)?;
         }
     }
-    add_placed(alloc, &mut filled, places)?;
+    add_placed(alloc, &mut filled, program, places)?;
     filled.close(alloc)?;
     let Filled {
         elems,
@@ -55,14 +57,30 @@ pub(crate) fn elements(
 }
 
 /// By place, the function of the signature's implementation that has it.
-fn implementations(alloc: Global, program: Program<'_>) -> Result<Vec<Option<u32>>, NoMemory> {
+fn implementations(
+    alloc: Global,
+    program: Program<'_>,
+    reached: &Reached,
+) -> Result<Vec<Option<u32>>, NoMemory> {
     let mut funcs = vec![in alloc; None; program.rows.size() as usize]?;
     for sig in 0..program.rows.signatures() {
-        for ty in program.rows.types(sig) {
-            add_implementation(&mut funcs, program, sig, *ty)?;
+        if reached.signatures.get(sig as usize) == Some(&true) {
+            add_signature(&mut funcs, program, sig)?;
         }
     }
     Ok(funcs)
+}
+
+/// Puts the functions of a signature's implementations at their places.
+fn add_signature(
+    funcs: &mut Vec<Option<u32>>,
+    program: Program<'_>,
+    sig: u32,
+) -> Result<(), NoMemory> {
+    for ty in program.rows.types(sig) {
+        add_implementation(funcs, program, sig, *ty)?;
+    }
+    Ok(())
 }
 
 /// Puts the function of a signature's implementation for a type at its place, if it has one.
@@ -76,16 +94,21 @@ fn add_implementation(
         return Ok(());
     };
     let row = held(program.rows.row(sig, ty))?;
-    let func = function_of(program.body_of_row(row)?)?;
+    let func = program.function_of(program.body_of_row(row)?)?;
     *held(funcs.get_mut(place as usize))? = Some(func);
     Ok(())
 }
 
 /// Adds the functions of the bodies behind those of the implementations.
-fn add_placed(alloc: Global, filled: &mut Filled, places: &Places) -> Result<(), NoMemory> {
+fn add_placed(
+    alloc: Global,
+    filled: &mut Filled,
+    program: Program<'_>,
+    places: &Places,
+) -> Result<(), NoMemory> {
     for (behind, body) in places.bodies.as_slice().iter().enumerate() {
         let place = sum(places.first, number(behind)?)?;
-        filled.add(alloc, place, function_of(*body)?)?;
+        filled.add(alloc, place, program.function_of(*body)?)?;
     }
     Ok(())
 }

@@ -1,5 +1,6 @@
 //! The literal texts as they lie in memory when a program begins: one segment, with a text object for each.
 
+use crate::reached::Reached;
 use crate::sums::number;
 use sa_flat::FlatProgram;
 use sa_runtime::layout::{STR, TEXT, header};
@@ -11,28 +12,32 @@ use wa_syntax::{DataSegment, Init, NoMemory};
 /// The bytes of a word.
 const WORD: usize = 8;
 
-/// The segment of the texts, from this address on: none where there are no texts.
+/// The segment of the texts that are reached, from this address on: none where there are none.
 pub(crate) fn segments(
     alloc: Global,
     flat: &FlatProgram,
+    reached: &Reached,
     texts_at: u32,
 ) -> Result<Items<DataSegment>, NoMemory> {
     let mut segments = Items::new(alloc);
-    if !flat.texts.is_empty() {
+    let bytes = texts(alloc, flat.texts.as_slice(), &reached.texts)?;
+    if !bytes.is_empty() {
         segments.push(DataSegment {
             memory: 0,
             offset: Init::Const32(texts_at),
-            bytes: texts(alloc, flat.texts.as_slice())?,
+            bytes,
         })?;
     }
     Ok(segments)
 }
 
-/// The text objects, one after the other.
-fn texts(alloc: Global, list: &[Name]) -> Result<Items<u8>, NoMemory> {
+/// The objects of the texts that are reached, one after the other.
+fn texts(alloc: Global, list: &[Name], reached: &[bool]) -> Result<Items<u8>, NoMemory> {
     let mut bytes = Vec::new(alloc);
-    for text in list {
-        add_text(&mut bytes, text.as_slice())?;
+    for (text, is_reached) in list.iter().zip(reached.iter()) {
+        if *is_reached {
+            add_text(&mut bytes, text.as_slice())?;
+        }
     }
     Ok(Items::from_vec(bytes))
 }

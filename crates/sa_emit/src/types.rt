@@ -1,5 +1,6 @@
 //! The types of the module's functions: of the imports, of bodies, of `main`, and behind them those of the runtime.
 
+use sa_runtime::layout::{BODY_TYPE, PARAMETERS};
 use sqlite_items::Items;
 use std::alloc::Global;
 use wa_syntax::{FuncTy, NoMemory, ValTy};
@@ -13,18 +14,41 @@ pub(crate) const GET_TYPE: u32 = 1;
 /// The type of `stop`.
 pub(crate) const STOP_TYPE: u32 = 2;
 
-/// The type of `main`. That of a body's function stands before it.
-pub(crate) const MAIN_TYPE: u32 = 4;
+/// The type of `main`. Those of the functions of bodies stand before it.
+pub(crate) const MAIN_TYPE: u32 = BODY_TYPE + PARAMETERS as u32 + 1;
 
 /// The types up to that of `main`.
 pub(crate) fn own_types(alloc: Global) -> Result<Items<FuncTy>, NoMemory> {
+    let mut types = host_types(alloc)?;
+    types.push(func_type(alloc, &[ValTy::I32, ValTy::I32], &[])?)?;
+    for arguments in 0..=PARAMETERS {
+        types.push(body_type(alloc, arguments)?)?;
+    }
+    types.push(func_type(alloc, &[], &[ValTy::I32])?)?;
+    Ok(types)
+}
+
+/// The types of `put` and of `get`.
+pub(crate) fn host_types(alloc: Global) -> Result<Items<FuncTy>, NoMemory> {
     let mut types = Items::new(alloc);
     types.push(func_type(alloc, &[ValTy::I32], &[])?)?;
     types.push(func_type(alloc, &[], &[ValTy::I32])?)?;
-    types.push(func_type(alloc, &[ValTy::I32, ValTy::I32], &[])?)?;
-    types.push(func_type(alloc, &[ValTy::I32, ValTy::I32], &[ValTy::I32])?)?;
-    types.push(func_type(alloc, &[], &[ValTy::I32])?)?;
     Ok(types)
+}
+
+/// The type of the function of a body, of whose arguments so many are parameters: these, its own object, how much deeper activations
+/// may nest, and its frame.
+fn body_type(alloc: Global, arguments: usize) -> Result<FuncTy, NoMemory> {
+    let mut params = Items::new(alloc);
+    for _ in 0..=arguments {
+        params.push(ValTy::I64)?;
+    }
+    params.push(ValTy::I32)?;
+    params.push(ValTy::I32)?;
+    Ok(FuncTy {
+        params,
+        results: Items::from_slice(alloc, &[ValTy::I32])?,
+    })
 }
 
 fn func_type(alloc: Global, params: &[ValTy], results: &[ValTy]) -> Result<FuncTy, NoMemory> {

@@ -2,13 +2,11 @@
 //! receiver follows, and then the arguments that are kept. Where the receiver's class chooses what is called, its place in the
 //! table stands in the high half of the receiver's word, since the receiver is an address then.
 
-use crate::dispatch::{add_unreturned, chosen_body};
-use crate::entry::{entry_words, given, placed};
-use sa_dispatch::Span;
+use crate::dispatch::{Class, add_place, add_unreturned};
+use crate::entry::{entry_words, given};
 use sa_emit_value::{
-    ADDRESS, ARGUMENTS, Around, DEPTH, Handing, STATUS, TypeSpan, Widening, add_answers,
-    add_fail_if, add_handed, add_if, add_if_else, add_move, add_span_test, add_type_of,
-    add_void_test, add_widened, held, spans_of,
+    ARGUMENTS, Around, Handing, Widening, add_answers, add_any_span, add_fail_if, add_handed,
+    add_if, add_if_else, add_move, add_type_of, add_void_test, add_widened, held, spans_of,
 };
 use sa_flat::{BindEntry, CallPlan, Callee, Fail, FlatArg};
 use sa_runtime::fault_numbers::NO_ROOM;
@@ -19,10 +17,9 @@ use sa_runtime::line::{Op, add_line};
 use sqlite_items::Items;
 use std::alloc::Global;
 use wa_syntax::opcode::{
-    I32_ADD, I32_EQ, I32_EQZ, I32_OR, I32_WRAP_I64, I64_EXTEND_I32_U, I64_OR, I64_SHL, I64_STORE,
-    UNREACHABLE,
+    I32_EQZ, I32_WRAP_I64, I64_EXTEND_I32_U, I64_OR, I64_SHL, I64_STORE, UNREACHABLE,
 };
-use wa_syntax::{Instr, NoMemory, ValTy};
+use wa_syntax::{Instr, NoMemory};
 
 /// A bound value of an entry.
 pub fn add_bind(
@@ -46,9 +43,9 @@ pub fn add_bind(
     add_kept(code, around, plan.args.as_slice())?;
     add_entry(alloc, code, around, entry, at)?;
     let line = [
-        Op::Get(ADDRESS),
+        Op::Get(around.address()),
         Op::Do(I64_EXTEND_I32_U),
-        Op::Set(around.receiving(plan.value)),
+        around.put(plan.value),
     ];
     add_line(code, &line)
 }
@@ -61,51 +58,8 @@ fn add_choice(
     recv: u32,
     sig: u32,
 ) -> Result<(), NoMemory> {
-    add_type_of(code, around, recv)?;
-    add_line(code, &[Op::Set(ADDRESS)])?;
-    match around.program.rows.span(sig) {
-        Some(span) => add_place_by_span(code, &span)?,
-        None => add_place_by_tests(alloc, code, around, sig)?,
-    }
-    add_line(code, &[Op::Set(STATUS)])
-}
-
-/// Adds the place of the class in the signature's part of the table, as an operand.
-fn add_place_by_span(code: &mut Items<Instr>, span: &Span) -> Result<(), NoMemory> {
-    let before = span.first.wrapping_sub(span.least);
-    add_line(code, &[Op::Get(ADDRESS), Op::I32(before), Op::Do(I32_ADD)])
-}
-
-/// Adds one test after the other of the class, which leave the place as an operand.
-fn add_place_by_tests(
-    alloc: Global,
-    code: &mut Items<Instr>,
-    around: &Around<'_>,
-    sig: u32,
-) -> Result<(), NoMemory> {
-    let inner = around.further_in()?;
-    let mut tests = Items::new(alloc);
-    for ty in around.program.rows.types(sig) {
-        add_place_test(alloc, &mut tests, &inner, sig, *ty)?;
-    }
-    add_line(&mut tests, &[Op::Do(UNREACHABLE)])?;
-    code.push(Instr::Block(Some(ValTy::I32), tests))?;
-    Ok(())
-}
-
-/// Adds the test of the class, behind which the place leaves the block of the tests.
-fn add_place_test(
-    alloc: Global,
-    code: &mut Items<Instr>,
-    around: &Around<'_>,
-    sig: u32,
-    ty: u32,
-) -> Result<(), NoMemory> {
-    let place = placed(around, chosen_body(around, sig, ty)?)?;
-    let mut found = Items::new(alloc);
-    add_line(&mut found, &[Op::I32(place), Op::Br(1)])?;
-    add_line(code, &[Op::Get(ADDRESS), Op::I32(ty), Op::Do(I32_EQ)])?;
-    add_if(alloc, code, found)
+    add_place(alloc, code, around, Class::Of(recv), sig)?;
+    add_line(code, &[Op::Set(around.status())])
 }
 
 /// Adds what takes the room of the object, whose header names the words of the bind.
@@ -121,8 +75,8 @@ fn add_object(
     let line = [
         Op::I64(header(entry.ty, BOUND, at)),
         Op::I64(u64::from(size)),
-        Op::Call(ALLOCATE),
-        Op::Tee(ADDRESS),
+        around.runtime(ALLOCATE)?,
+        Op::Tee(around.address()),
         Op::Do(I32_EQZ),
     ];
     add_line(code, &line)?;
@@ -136,10 +90,10 @@ fn add_receiver(
     recv: u32,
     entry: &BindEntry,
 ) -> Result<(), NoMemory> {
-    add_line(code, &[Op::Get(ADDRESS), Op::Get(around.local(recv))])?;
+    add_line(code, &[Op::Get(around.address()), around.operand(recv)])?;
     if let Callee::Dispatch(_) = entry.callee {
         let line = [
-            Op::Get(STATUS),
+            Op::Get(around.status()),
             Op::Do(I64_EXTEND_I32_U),
             Op::I64(HALF_BITS),
             Op::Do(I64_SHL),
@@ -159,18 +113,23 @@ fn add_kept(
     let mut place = 1u32;
     for arg in args {
         if let Some(var) = arg.var {
-            add_attribute(code, around.local(var), place)?;
+            add_attribute(code, around, var, place)?;
             place = place.saturating_add(1);
         }
     }
     Ok(())
 }
 
-/// Adds what puts a local into the object at the address.
-fn add_attribute(code: &mut Items<Instr>, local: u32, place: u32) -> Result<(), NoMemory> {
+/// Adds what puts a variable into the object at the address.
+fn add_attribute(
+    code: &mut Items<Instr>,
+    around: &Around<'_>,
+    var: u32,
+    place: u32,
+) -> Result<(), NoMemory> {
     let line = [
-        Op::Get(ADDRESS),
-        Op::Get(local),
+        Op::Get(around.address()),
+        around.operand(var),
         Op::Memory(I64_STORE, attribute_at(place)),
     ];
     add_line(code, &line)
@@ -205,21 +164,21 @@ pub(crate) fn add_bound_call(
     if plan.args.len() > ARGUMENTS {
         return add_line(code, &[Op::Do(UNREACHABLE)]);
     }
-    add_handed(code, around.body, plan.args.as_slice(), Handing::AtStart)?;
+    add_handed(code, around, plan.args.as_slice(), Handing::AtStart)?;
     let line = [
-        Op::Get(DEPTH),
+        Op::Get(around.depth()),
         Op::I32(0),
-        Op::Get(around.local(plan.recv)),
+        around.operand(plan.recv),
         Op::Do(I32_WRAP_I64),
-        Op::Call(BOUND_CALL),
-        Op::Tee(STATUS),
+        around.runtime(BOUND_CALL)?,
+        Op::Tee(around.status()),
     ];
     add_line(code, &line)?;
     let inner = around.further_in()?;
     let mut unreturned = Items::new(alloc);
     add_unreturned(alloc, &mut unreturned, &inner, &plan.fail)?;
     add_if(alloc, code, unreturned)?;
-    add_answers(code, around.body, plan.value, plan.args.as_slice())
+    add_answers(code, around, plan.value, plan.args.as_slice())
 }
 
 /// The receiver of a bind, and the types of its class, rising, with which a given value is widened.
@@ -239,23 +198,14 @@ pub fn add_widen_for(
     fail: &Fail,
 ) -> Result<(), NoMemory> {
     add_type_of(code, around, takers.recv)?;
-    add_line(code, &[Op::Set(ADDRESS), Op::I32(0)])?;
-    add_any_span(code, spans_of(alloc, takers.types)?.as_slice())?;
+    add_line(code, &[Op::Set(around.address())])?;
+    add_any_span(code, around, spans_of(alloc, takers.types)?.as_slice())?;
     let inner = around.further_in()?;
     let mut widened = Items::new(alloc);
     add_marked(alloc, &mut widened, &inner, widening, fail)?;
     let mut same = Items::new(alloc);
     add_move(&mut same, &inner, widening.to, widening.from)?;
     add_if_else(code, widened, same)
-}
-
-/// Adds the tests of the type against spans, each joined with the operand before it.
-fn add_any_span(code: &mut Items<Instr>, spans: &[TypeSpan]) -> Result<(), NoMemory> {
-    for span in spans {
-        add_span_test(code, span)?;
-        add_line(code, &[Op::Do(I32_OR)])?;
-    }
-    Ok(())
 }
 
 /// Adds what widens a value and marks it.
@@ -267,7 +217,7 @@ fn add_marked(
     fail: &Fail,
 ) -> Result<(), NoMemory> {
     add_widened(code, around, widening.from, widening.ty)?;
-    add_fail_if(alloc, code, around, Op::Get(STATUS), fail)?;
+    add_fail_if(alloc, code, around, Op::Get(around.status()), fail)?;
     let line = [
         Op::GetGlobal(RESULT),
         Op::I64(WIDENED_MARK),

@@ -3,16 +3,16 @@
 use crate::binding::add_bound_call;
 use crate::dispatch::add_dispatch;
 use sa_emit_value::{
-    Around, DEPTH, add_answers, add_arguments, add_builtin, add_fail_if, add_get, add_get_shared,
-    add_if, add_raise, add_set, add_set_shared, function_of,
+    Around, Handing, add_answers, add_builtin, add_fail_if, add_get, add_get_shared, add_if,
+    add_passed, add_raise, add_set, add_set_shared,
 };
 use sa_flat::{CallPlan, Callee, Fail};
 use sa_runtime::fault_numbers::TOO_DEEP;
-use sa_runtime::layout::{BODY_TYPE, GREATEST_DEPTH};
+use sa_runtime::layout::BODY_TYPE;
 use sa_runtime::line::{Op, add_line};
 use sqlite_items::Items;
 use std::alloc::Global;
-use wa_syntax::opcode::{I32_ADD, I32_GE_U};
+use wa_syntax::opcode::{I32_EQZ, I32_SUB};
 use wa_syntax::{Instr, NoMemory};
 
 /// A call.
@@ -42,16 +42,17 @@ fn add_body_call(
     plan: &CallPlan,
     body: u32,
 ) -> Result<(), NoMemory> {
-    let func = function_of(body)?;
+    let func = around.program.function_of(body)?;
     add_depth_test(alloc, code, around, &plan.fail)?;
-    add_arguments(code, around.body, plan)?;
-    add_deeper(code, Op::I32(0))?;
+    add_passed(code, around, plan.args.as_slice(), Handing::AtStart)?;
+    add_line(code, &[around.operand(plan.recv)])?;
+    add_deeper(code, around, Op::I32(0))?;
     add_line(code, &[Op::Call(func)])?;
     let inner = around.further_in()?;
     let mut raised = Items::new(alloc);
     add_raise(&mut raised, &inner, &plan.fail.raised)?;
     add_if(alloc, code, raised)?;
-    add_answers(code, around.body, plan.value, plan.args.as_slice())
+    add_answers(code, around, plan.value, plan.args.as_slice())
 }
 
 /// Adds the fault of an activation that would nest too deep.
@@ -61,29 +62,35 @@ pub fn add_depth_test(
     around: &Around<'_>,
     fail: &Fail,
 ) -> Result<(), NoMemory> {
-    add_too_deep(code)?;
+    add_too_deep(code, around)?;
     add_fail_if(alloc, code, around, Op::I32(TOO_DEEP), fail)
 }
 
 /// Adds the test whether an activation would nest too deep, as an operand.
-pub fn add_too_deep(code: &mut Items<Instr>) -> Result<(), NoMemory> {
-    let line = [Op::Get(DEPTH), Op::I32(GREATEST_DEPTH), Op::Do(I32_GE_U)];
+pub fn add_too_deep(code: &mut Items<Instr>, around: &Around<'_>) -> Result<(), NoMemory> {
+    add_line(code, &[Op::Get(around.depth()), Op::Do(I32_EQZ)])
+}
+
+/// Adds how much deeper activations may nest in a new activation, and its frame, as operands. `frame` reads the frame.
+pub fn add_deeper(code: &mut Items<Instr>, around: &Around<'_>, frame: Op) -> Result<(), NoMemory> {
+    let line = [Op::Get(around.depth()), Op::I32(1), Op::Do(I32_SUB), frame];
     add_line(code, &line)
 }
 
-/// Adds the depth of a new activation and its frame, as operands. `frame` reads the frame.
-pub fn add_deeper(code: &mut Items<Instr>, frame: Op) -> Result<(), NoMemory> {
-    let line = [Op::Get(DEPTH), Op::I32(1), Op::Do(I32_ADD), frame];
-    add_line(code, &line)
+/// Adds how much deeper activations may nest and a frame, as operands of a body that was made for an implementation alone, which
+/// is no activation. `frame` reads the frame.
+pub(crate) fn add_as_deep(
+    code: &mut Items<Instr>,
+    around: &Around<'_>,
+    frame: Op,
+) -> Result<(), NoMemory> {
+    add_line(code, &[Op::Get(around.depth()), frame])
 }
 
-/// Adds the depth of this activation and a frame, as operands of a body that was made for an implementation alone, which is
-/// no activation. `frame` reads the frame.
-pub(crate) fn add_as_deep(code: &mut Items<Instr>, frame: Op) -> Result<(), NoMemory> {
-    add_line(code, &[Op::Get(DEPTH), frame])
-}
-
-/// Adds a call through the table of the function whose place is the operand.
-pub(crate) fn add_indirect_call(code: &mut Items<Instr>) -> Result<(), NoMemory> {
-    add_line(code, &[Op::CallIndirect(BODY_TYPE)])
+/// Adds a call through the table of the function whose place is the operand, and which has so many parameters that are arguments.
+pub(crate) fn add_indirect_call(code: &mut Items<Instr>, parameters: u32) -> Result<(), NoMemory> {
+    add_line(
+        code,
+        &[Op::CallIndirect(BODY_TYPE.saturating_add(parameters))],
+    )
 }

@@ -4,10 +4,11 @@
 //! activation, so no depth is tested before it, and it hands its faults on.
 
 use crate::calls::{add_as_deep, add_deeper, add_depth_test, add_indirect_call};
+use crate::entry::placed;
 use sa_dispatch::Span;
 use sa_emit_value::{
-    ADDRESS, Around, STATUS, add_answers, add_arguments, add_fail_if, add_if, add_raise,
-    add_type_of, add_void_test, function_of, held,
+    Around, Handing, add_answers, add_fail_if, add_if, add_passed, add_raise, add_type_of,
+    add_void_test, held, parameters,
 };
 use sa_flat::{CallPlan, Fail};
 use sa_runtime::layout::{FAULT_KIND, HANDED_ON};
@@ -41,6 +42,8 @@ pub struct Choice {
     pub class: Class,
     pub sig: u32,
     pub implementations: Implementations,
+    /// How many arguments are parameters.
+    pub parameters: u32,
 }
 
 /// A dispatched call.
@@ -59,6 +62,7 @@ pub(crate) fn add_dispatch(
         class: Class::Of(plan.recv),
         sig,
         implementations: implementations_of(around, sig)?,
+        parameters: parameters(plan.args.as_slice()),
     };
     match choice.implementations {
         Implementations::Features => add_of_feature(alloc, code, around, plan, choice),
@@ -86,13 +90,13 @@ fn add_of_feature(
     choice: Choice,
 ) -> Result<(), NoMemory> {
     add_depth_test(alloc, code, around, &plan.fail)?;
-    add_arguments(code, around.body, plan)?;
+    add_dispatched_arguments(code, around, plan)?;
     add_chosen(alloc, code, around, choice, Op::I32(0))?;
     let inner = around.further_in()?;
     let mut raised = Items::new(alloc);
     add_raise(&mut raised, &inner, &plan.fail.raised)?;
     add_if(alloc, code, raised)?;
-    add_answers(code, around.body, plan.value, plan.args.as_slice())
+    add_answers(code, around, plan.value, plan.args.as_slice())
 }
 
 /// A call of one of the bodies that were made for the implementations alone.
@@ -103,14 +107,24 @@ fn add_of_made(
     plan: &CallPlan,
     choice: Choice,
 ) -> Result<(), NoMemory> {
-    add_arguments(code, around.body, plan)?;
+    add_dispatched_arguments(code, around, plan)?;
     add_chosen(alloc, code, around, choice, Op::I32(0))?;
-    add_line(code, &[Op::Tee(STATUS)])?;
+    add_line(code, &[Op::Tee(around.status())])?;
     let inner = around.further_in()?;
     let mut unreturned = Items::new(alloc);
     add_unreturned(alloc, &mut unreturned, &inner, &plan.fail)?;
     add_if(alloc, code, unreturned)?;
-    add_answers(code, around.body, plan.value, plan.args.as_slice())
+    add_answers(code, around, plan.value, plan.args.as_slice())
+}
+
+/// Adds the arguments and the receiver.
+fn add_dispatched_arguments(
+    code: &mut Items<Instr>,
+    around: &Around<'_>,
+    plan: &CallPlan,
+) -> Result<(), NoMemory> {
+    add_passed(code, around, plan.args.as_slice(), Handing::AtStart)?;
+    add_line(code, &[around.operand(plan.recv)])
 }
 
 /// Adds what follows a body that didn't return, by the status in the local: a fault that it hands on, or a raise.
@@ -131,13 +145,13 @@ pub fn add_handed_on_fault(
     around: &Around<'_>,
     fail: &Fail,
 ) -> Result<(), NoMemory> {
-    let line = [Op::Get(STATUS), Op::I32(HANDED_ON), Op::Do(I32_EQ)];
+    let line = [Op::Get(around.status()), Op::I32(HANDED_ON), Op::Do(I32_EQ)];
     add_line(code, &line)?;
     add_fail_if(alloc, code, around, Op::GetGlobal(FAULT_KIND), fail)
 }
 
-/// Adds the call of the implementation that is chosen, which leaves its status as an operand. `frame` reads the frame that it is
-/// handed.
+/// Adds the call of the implementation that is chosen, behind its arguments and its receiver. It leaves its status as an operand.
+/// `frame` reads the frame that it is handed.
 pub fn add_chosen(
     alloc: Global,
     code: &mut Items<Instr>,
@@ -145,65 +159,78 @@ pub fn add_chosen(
     choice: Choice,
     frame: Op,
 ) -> Result<(), NoMemory> {
-    match around.program.rows.span(choice.sig) {
-        Some(span) => add_by_table(code, around, choice, &span, frame),
-        None => add_by_tests(alloc, code, around, choice, frame),
-    }
+    add_depth_and_frame(code, around, choice.implementations, frame)?;
+    add_place(alloc, code, around, choice.class, choice.sig)?;
+    add_indirect_call(code, choice.parameters)
 }
 
-/// Adds the call through the table, in which the types of the signature have a part.
-fn add_by_table(
-    code: &mut Items<Instr>,
-    around: &Around<'_>,
-    choice: Choice,
-    span: &Span,
-    frame: Op,
-) -> Result<(), NoMemory> {
-    add_depth_and_frame(code, choice.implementations, frame)?;
-    add_class(code, around, choice.class)?;
-    let before = span.first.wrapping_sub(span.least);
-    add_line(code, &[Op::I32(before), Op::Do(I32_ADD)])?;
-    add_indirect_call(code)
-}
-
-/// Adds one test after the other of the class, each with its call.
-fn add_by_tests(
+/// Adds the place in the table of the body that a class chooses, as an operand.
+pub(crate) fn add_place(
     alloc: Global,
     code: &mut Items<Instr>,
     around: &Around<'_>,
-    choice: Choice,
-    frame: Op,
+    class: Class,
+    sig: u32,
 ) -> Result<(), NoMemory> {
-    add_class_in_address(code, around, choice.class)?;
+    match around.program.rows.span(sig) {
+        Some(span) => add_place_by_span(code, around, class, &span),
+        None => add_place_by_tests(alloc, code, around, class, sig),
+    }
+}
+
+/// Adds the place of the class in the signature's part of the table.
+fn add_place_by_span(
+    code: &mut Items<Instr>,
+    around: &Around<'_>,
+    class: Class,
+    span: &Span,
+) -> Result<(), NoMemory> {
+    add_class(code, around, class)?;
+    match span.first.wrapping_sub(span.least) {
+        0 => Ok(()),
+        before => add_line(code, &[Op::I32(before), Op::Do(I32_ADD)]),
+    }
+}
+
+/// Adds one test after the other of the class, which leave the place.
+fn add_place_by_tests(
+    alloc: Global,
+    code: &mut Items<Instr>,
+    around: &Around<'_>,
+    class: Class,
+    sig: u32,
+) -> Result<(), NoMemory> {
+    add_class_in_address(code, around, class)?;
     let inner = around.further_in()?;
     let mut tests = Items::new(alloc);
-    for ty in around.program.rows.types(choice.sig) {
-        add_test(alloc, &mut tests, &inner, choice, *ty, frame)?;
+    for ty in around.program.rows.types(sig) {
+        add_place_test(alloc, &mut tests, &inner, sig, *ty)?;
     }
     add_line(&mut tests, &[Op::Do(UNREACHABLE)])?;
     code.push(Instr::Block(Some(ValTy::I32), tests))?;
     Ok(())
 }
 
-/// Adds the test of the class, and the call for it, behind which the status leaves the block of the tests.
-fn add_test(
+/// Adds the test of the class, behind which the place leaves the block of the tests.
+fn add_place_test(
     alloc: Global,
     code: &mut Items<Instr>,
     around: &Around<'_>,
-    choice: Choice,
+    sig: u32,
     ty: u32,
-    frame: Op,
 ) -> Result<(), NoMemory> {
-    let func = function_of(chosen_body(around, choice.sig, ty)?)?;
-    let mut call = Items::new(alloc);
-    add_depth_and_frame(&mut call, choice.implementations, frame)?;
-    add_line(&mut call, &[Op::Call(func), Op::Br(1)])?;
-    add_line(code, &[Op::Get(ADDRESS), Op::I32(ty), Op::Do(I32_EQ)])?;
-    add_if(alloc, code, call)
+    let place = placed(around, chosen_body(around, sig, ty)?)?;
+    let mut found = Items::new(alloc);
+    add_line(&mut found, &[Op::I32(place), Op::Br(1)])?;
+    add_line(
+        code,
+        &[Op::Get(around.address()), Op::I32(ty), Op::Do(I32_EQ)],
+    )?;
+    add_if(alloc, code, found)
 }
 
 /// The body that does a signature's implementation for a class.
-pub(crate) fn chosen_body(around: &Around<'_>, sig: u32, ty: u32) -> Result<u32, NoMemory> {
+fn chosen_body(around: &Around<'_>, sig: u32, ty: u32) -> Result<u32, NoMemory> {
     let row = held(around.program.rows.row(sig, ty))?;
     around.program.body_of_row(row)
 }
@@ -212,7 +239,7 @@ pub(crate) fn chosen_body(around: &Around<'_>, sig: u32, ty: u32) -> Result<u32,
 fn add_class(code: &mut Items<Instr>, around: &Around<'_>, class: Class) -> Result<(), NoMemory> {
     match class {
         Class::Of(var) => add_type_of(code, around, var),
-        Class::InAddress => add_line(code, &[Op::Get(ADDRESS)]),
+        Class::InAddress => add_line(code, &[Op::Get(around.address())]),
     }
 }
 
@@ -225,7 +252,7 @@ fn add_class_in_address(
     match class {
         Class::Of(var) => {
             add_type_of(code, around, var)?;
-            add_line(code, &[Op::Set(ADDRESS)])
+            add_line(code, &[Op::Set(around.address())])
         }
         Class::InAddress => Ok(()),
     }
@@ -234,11 +261,12 @@ fn add_class_in_address(
 /// Adds the depth and the frame that an implementation gets, as operands.
 fn add_depth_and_frame(
     code: &mut Items<Instr>,
+    around: &Around<'_>,
     implementations: Implementations,
     frame: Op,
 ) -> Result<(), NoMemory> {
     match implementations {
-        Implementations::Features => add_deeper(code, frame),
-        Implementations::Made => add_as_deep(code, frame),
+        Implementations::Features => add_deeper(code, around, frame),
+        Implementations::Made => add_as_deep(code, around, frame),
     }
 }

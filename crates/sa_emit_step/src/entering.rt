@@ -1,13 +1,10 @@
 //! Steps of bodies that were made for an implementation by an iter. Such a body is no activation: it takes the frame of the
 //! instance at a start, hands it out, and runs the iter's body on it, at the depth of its caller.
 
-use crate::frames::{add_frame_self, add_is_frame};
+use crate::frames::add_is_frame;
 use crate::outcome::{Instance, add_is_raised, add_is_suspended, add_quit};
 use sa_emit_call::{add_deeper, add_too_deep};
-use sa_emit_value::{
-    Around, FRAME, Handing, STATUS, add_answers, add_handed, add_handed_on, add_if, add_if_else,
-    function_of,
-};
+use sa_emit_value::{Around, Handing, add_answers, add_handed_on, add_if, add_if_else, add_passed};
 use sa_flat::FlatArg;
 use sa_runtime::fault_numbers::{TOO_DEEP, TOO_MANY_FRAMES};
 use sa_runtime::layout::{END_FRAME, FRAME_OUT, NEW_FRAME, RAISED};
@@ -24,7 +21,7 @@ pub(crate) fn add_has_frame(
     around: &Around<'_>,
     to: u32,
 ) -> Result<(), NoMemory> {
-    add_is_frame(code, around, to, FRAME)
+    add_is_frame(code, around, to, around.frame())
 }
 
 /// The step that takes the frame of the instance at a start, and runs the iter's body on it.
@@ -47,14 +44,16 @@ pub(crate) fn add_enter(
     around: &Around<'_>,
     entering: &Entering<'_>,
 ) -> Result<(), NoMemory> {
-    let func = function_of(entering.body)?;
-    add_too_deep(code)?;
+    let func = around.program.function_of(entering.body)?;
+    add_too_deep(code, around)?;
     add_handed_on_if(alloc, code, TOO_DEEP)?;
-    add_frame(alloc, code, around, entering.recv)?;
-    add_handed(code, around.body, entering.args, Handing::AtStart)?;
-    add_deeper(code, Op::Get(FRAME))?;
-    add_line(code, &[Op::Call(func), Op::Tee(STATUS)])?;
-    trace::add_outcome(code, around.program.tracing, FRAME, STATUS)?;
+    let (frame, status) = (around.frame(), around.status());
+    add_frame(alloc, code, around)?;
+    add_passed(code, around, entering.args, Handing::AtStart)?;
+    add_line(code, &[around.operand(entering.recv)])?;
+    add_deeper(code, around, Op::Get(frame))?;
+    add_line(code, &[Op::Call(func), Op::Tee(status)])?;
+    trace::add_outcome(code, around.program.tracing, frame, status)?;
     let inner = around.further_in()?;
     let mut suspended = Items::new(alloc);
     add_suspended(&mut suspended, &inner, entering)?;
@@ -72,21 +71,17 @@ fn add_handed_on_if(alloc: Global, code: &mut Items<Instr>, kind: u32) -> Result
 }
 
 /// Adds what takes a frame where the instance has none, and else tells that it goes on.
-fn add_frame(
-    alloc: Global,
-    code: &mut Items<Instr>,
-    around: &Around<'_>,
-    recv: u32,
-) -> Result<(), NoMemory> {
-    let inner = around.further_in()?;
+fn add_frame(alloc: Global, code: &mut Items<Instr>, around: &Around<'_>) -> Result<(), NoMemory> {
+    let frame = around.frame();
+    let tracing = around.program.tracing;
     let mut start = Items::new(alloc);
-    let line = [Op::Call(NEW_FRAME), Op::Tee(FRAME), Op::Do(I32_EQZ)];
+    let line = [around.runtime(NEW_FRAME)?, Op::Tee(frame), Op::Do(I32_EQZ)];
     add_line(&mut start, &line)?;
     add_handed_on_if(alloc, &mut start, TOO_MANY_FRAMES)?;
-    add_frame_self(&mut start, &inner, FRAME, recv)?;
+    trace::add_event(&mut start, tracing, frame, Event::Start)?;
     let mut resumption = Items::new(alloc);
-    trace::add_event(&mut resumption, inner.program.tracing, FRAME, Event::Resume)?;
-    add_line(code, &[Op::Get(FRAME), Op::Do(I32_EQZ)])?;
+    trace::add_event(&mut resumption, tracing, frame, Event::Resume)?;
+    add_line(code, &[Op::Get(frame), Op::Do(I32_EQZ)])?;
     add_if_else(code, start, resumption)
 }
 
@@ -96,8 +91,8 @@ fn add_suspended(
     around: &Around<'_>,
     entering: &Entering<'_>,
 ) -> Result<(), NoMemory> {
-    add_line(code, &[Op::Get(FRAME), Op::SetGlobal(FRAME_OUT)])?;
-    add_answers(code, around.body, entering.value, entering.args)?;
+    add_line(code, &[Op::Get(around.frame()), Op::SetGlobal(FRAME_OUT)])?;
+    add_answers(code, around, entering.value, entering.args)?;
     add_quit(code, around, entering.quit, Instance::Suspended)
 }
 
@@ -108,10 +103,10 @@ fn add_ended(
     around: &Around<'_>,
     quit: u32,
 ) -> Result<(), NoMemory> {
-    add_line(code, &[Op::Get(FRAME), Op::Call(END_FRAME)])?;
+    add_line(code, &[Op::Get(around.frame()), around.runtime(END_FRAME)?])?;
     let mut raise = Items::new(alloc);
     add_line(&mut raise, &[Op::I32(RAISED), Op::Do(RETURN)])?;
-    add_is_raised(code)?;
+    add_is_raised(code, around)?;
     add_if(alloc, code, raise)?;
     add_quit(code, around, quit, Instance::Ended)
 }

@@ -2,13 +2,15 @@
 
 use crate::outcome::Site;
 use sa_emit_call::add_depth_test;
-use sa_emit_value::{Around, add_fail_if, add_if};
+use sa_emit_value::{Around, add_fail_if, add_if, add_truth};
+use sa_operands::Given;
 use sa_runtime::fault_numbers::TOO_MANY_FRAMES;
-use sa_runtime::layout::{FRAME_SELF_AT, NEW_FRAME, RELEASE};
+use sa_runtime::layout::{NEW_FRAME, RELEASE};
 use sa_runtime::line::{Op, add_line};
+use sa_runtime::trace::{self, Event};
 use sqlite_items::Items;
 use std::alloc::Global;
-use wa_syntax::opcode::{I32_EQZ, I32_NE, I64_EXTEND_I32_U, I64_STORE};
+use wa_syntax::opcode::{I32_EQZ, I32_NE};
 use wa_syntax::{Instr, NoMemory};
 
 /// Whether a site has an instance.
@@ -28,14 +30,11 @@ pub(crate) fn add_is_frame(
     to: u32,
     frame: u32,
 ) -> Result<(), NoMemory> {
-    let line = [
-        Op::Get(frame),
-        Op::I32(0),
-        Op::Do(I32_NE),
-        Op::Do(I64_EXTEND_I32_U),
-        Op::Set(around.local(to)),
-    ];
-    add_line(code, &line)
+    if around.given == Given::Truth {
+        return add_line(code, &[Op::Get(frame)]);
+    }
+    add_line(code, &[Op::Get(frame), Op::I32(0), Op::Do(I32_NE)])?;
+    add_truth(code, around, Some(to))
 }
 
 /// Ends the instances of sites in this order, with those inside them.
@@ -46,16 +45,21 @@ pub(crate) fn add_release(
     sites: &[u32],
 ) -> Result<(), NoMemory> {
     for site in sites {
-        add_release_of(alloc, code, around.site(*site))?;
+        add_release_of(alloc, code, around, around.site(*site))?;
     }
     Ok(())
 }
 
-fn add_release_of(alloc: Global, code: &mut Items<Instr>, frame: u32) -> Result<(), NoMemory> {
+fn add_release_of(
+    alloc: Global,
+    code: &mut Items<Instr>,
+    around: &Around<'_>,
+    frame: u32,
+) -> Result<(), NoMemory> {
     let mut release = Items::new(alloc);
     let line = [
         Op::Get(frame),
-        Op::Call(RELEASE),
+        around.runtime(RELEASE)?,
         Op::I32(0),
         Op::Set(frame),
     ];
@@ -64,7 +68,7 @@ fn add_release_of(alloc: Global, code: &mut Items<Instr>, frame: u32) -> Result<
     add_if(alloc, code, release)
 }
 
-/// Adds the faults of a start of the body of a feature, and what takes the frame of the instance and puts its own object there.
+/// Adds the faults of a start of the body of a feature, and what takes the frame of the instance.
 pub(crate) fn add_new_frame(
     alloc: Global,
     code: &mut Items<Instr>,
@@ -73,23 +77,12 @@ pub(crate) fn add_new_frame(
 ) -> Result<(), NoMemory> {
     let fail = &site.plan.fail;
     add_depth_test(alloc, code, around, fail)?;
-    let line = [Op::Call(NEW_FRAME), Op::Tee(site.frame), Op::Do(I32_EQZ)];
+    let line = [
+        around.runtime(NEW_FRAME)?,
+        Op::Tee(site.frame),
+        Op::Do(I32_EQZ),
+    ];
     add_line(code, &line)?;
     add_fail_if(alloc, code, around, Op::I32(TOO_MANY_FRAMES), fail)?;
-    add_frame_self(code, around, site.frame, site.plan.recv)
-}
-
-/// Adds what puts the own object of an instance into its frame.
-pub(crate) fn add_frame_self(
-    code: &mut Items<Instr>,
-    around: &Around<'_>,
-    frame: u32,
-    recv: u32,
-) -> Result<(), NoMemory> {
-    let line = [
-        Op::Get(frame),
-        Op::Get(around.local(recv)),
-        Op::Memory(I64_STORE, FRAME_SELF_AT),
-    ];
-    add_line(code, &line)
+    trace::add_event(code, around.program.tracing, site.frame, Event::Start)
 }

@@ -8,6 +8,7 @@ use sa_runtime::layout::{
 };
 use sa_runtime::line::{Op, add_line};
 use sqlite_items::Items;
+use std::alloc::Global;
 use wa_syntax::opcode::{I32_WRAP_I64, RETURN};
 use wa_syntax::{Instr, NoMemory};
 
@@ -17,6 +18,7 @@ use wa_syntax::{Instr, NoMemory};
 ///
 /// `NoMemory`, also for exits that stay in the body.
 pub fn add_leaving(
+    alloc: Global,
     code: &mut Items<Instr>,
     around: &Around<'_>,
     exit: &FlatExit,
@@ -30,7 +32,7 @@ pub fn add_leaving(
         FlatExit::Stop { kind, fail } => {
             add_fail(code, around, Op::I32(u32::from(kind.number())), fail)
         }
-        FlatExit::Suspend { value, resume } => add_suspend(code, around, *value, *resume),
+        FlatExit::Suspend { value, resume } => add_suspend(alloc, code, around, *value, *resume),
         FlatExit::Jump(_) => Err(stays()),
         FlatExit::Branch { .. } => Err(stays()),
     }
@@ -59,7 +61,7 @@ fn add_returned(
     value: Option<u32>,
 ) -> Result<(), NoMemory> {
     if let Some(var) = value {
-        let line = [Op::Get(around.local(var)), Op::SetGlobal(RESULT)];
+        let line = [around.operand(var), Op::SetGlobal(RESULT)];
         return add_line(code, &line);
     }
     match around.role {
@@ -78,12 +80,12 @@ fn add_raise_out(
     kind: u32,
 ) -> Result<(), NoMemory> {
     let line = [
-        Op::Get(around.local(value)),
+        around.operand(value),
         Op::SetGlobal(EXCEPTION),
-        Op::Get(around.local(place)),
+        around.operand(place),
         Op::Do(I32_WRAP_I64),
         Op::SetGlobal(EXCEPTION_PLACE),
-        Op::Get(around.local(kind)),
+        around.operand(kind),
         Op::Do(I32_WRAP_I64),
         Op::SetGlobal(EXCEPTION_KIND),
         Op::I32(RAISED),

@@ -11,4 +11,4 @@ mod suspension;
 
 pub use leaving::add_leaving;
 pub use step::add_step;
-pub use suspension::{add_iter_prologue, add_suspension};
+pub use suspension::{add_begun, add_entered, add_suspension, add_taken_up};

@@ -1,7 +1,7 @@
 //! Iter calls: a start of an instance at a site, and its resumptions.
 //!
 //! The order at a start is: the fault of a void receiver, then that of the depth, then that of too many instances, then the
-//! arguments go into the area. A resumption reads neither the receiver nor the arguments that are `once`.
+//! arguments are handed down. A resumption reads neither the receiver nor the arguments that are `once`.
 
 use crate::frames::add_new_frame;
 use crate::outcome::{Called, Site, add_resumed, add_started};
@@ -9,8 +9,7 @@ use sa_emit_call::{
     Choice, Class, Implementations, add_chosen, add_deeper, add_depth_test, implementations_of,
 };
 use sa_emit_value::{
-    ADDRESS, ARGUMENTS, Around, DEPTH, Handing, add_handed, add_self, add_type_of, add_void_test,
-    function_of,
+    ARGUMENTS, Around, Handing, add_handed, add_passed, add_type_of, add_void_test, parameters,
 };
 use sa_flat::{CallPlan, Callee};
 use sa_runtime::layout::{BOUND_CALL, CALLED_AT};
@@ -81,10 +80,10 @@ fn add_body_start(
     site: &Site<'_>,
     body: u32,
 ) -> Result<(), NoMemory> {
-    let func = function_of(body)?;
+    let func = around.program.function_of(body)?;
     add_new_frame(alloc, code, around, site)?;
     add_all(code, around, site)?;
-    add_deeper(code, Op::Get(site.frame))?;
+    add_deeper(code, around, Op::Get(site.frame))?;
     add_line(code, &[Op::Call(func)])?;
     add_started(alloc, code, around, site, Called::Body)
 }
@@ -97,11 +96,11 @@ fn add_body_resume(
     site: &Site<'_>,
     body: u32,
 ) -> Result<(), NoMemory> {
-    let func = function_of(body)?;
+    let func = around.program.function_of(body)?;
     add_depth_test(alloc, code, around, &site.plan.fail)?;
     add_event(code, around.program.tracing, site.frame, Event::Resume)?;
     add_all_but_once(code, around, site)?;
-    add_deeper(code, Op::Get(site.frame))?;
+    add_deeper(code, around, Op::Get(site.frame))?;
     add_line(code, &[Op::Call(func)])?;
     add_resumed(alloc, code, around, site, Called::Body)
 }
@@ -119,7 +118,7 @@ fn add_dispatched_start(
     if around.program.rows.types(sig).is_empty() {
         return add_line(code, &[Op::Do(UNREACHABLE)]);
     }
-    let choice = choice_of(around, sig)?;
+    let choice = choice_of(around, site, sig)?;
     match choice.implementations {
         Implementations::Features => add_feature_start(alloc, code, around, site, choice),
         Implementations::Made => add_made_start(alloc, code, around, site, choice),
@@ -127,11 +126,12 @@ fn add_dispatched_start(
 }
 
 /// The choice among the implementations of a signature by the class in `ADDRESS`.
-fn choice_of(around: &Around<'_>, sig: u32) -> Result<Choice, NoMemory> {
+fn choice_of(around: &Around<'_>, site: &Site<'_>, sig: u32) -> Result<Choice, NoMemory> {
     Ok(Choice {
         class: Class::InAddress,
         sig,
         implementations: implementations_of(around, sig)?,
+        parameters: parameters(site.plan.args.as_slice()),
     })
 }
 
@@ -160,7 +160,6 @@ fn add_made_start(
     choice: Choice,
 ) -> Result<(), NoMemory> {
     let frame = Op::I32(0);
-    add_self(code, around.body, site.plan.recv)?;
     add_all(code, around, site)?;
     add_class_of(code, around, site)?;
     add_chosen(alloc, code, around, choice, frame)?;
@@ -178,7 +177,7 @@ fn add_dispatched_resume(
     if around.program.rows.types(sig).is_empty() {
         return add_line(code, &[Op::Do(UNREACHABLE)]);
     }
-    let choice = choice_of(around, sig)?;
+    let choice = choice_of(around, site, sig)?;
     match choice.implementations {
         Implementations::Features => add_feature_resume(alloc, code, around, site, choice),
         Implementations::Made => add_made_resume(alloc, code, around, site, choice),
@@ -198,7 +197,7 @@ fn add_feature_resume(
     add_event(code, around.program.tracing, site.frame, Event::Resume)?;
     add_all_but_once(code, around, site)?;
     add_called(code, site)?;
-    add_line(code, &[Op::Set(ADDRESS)])?;
+    add_line(code, &[Op::Set(around.address())])?;
     add_chosen(alloc, code, around, choice, frame)?;
     add_resumed(alloc, code, around, site, Called::Feature)
 }
@@ -214,7 +213,7 @@ fn add_made_resume(
     let frame = Op::Get(site.frame);
     add_all_but_once(code, around, site)?;
     add_called(code, site)?;
-    add_line(code, &[Op::Set(ADDRESS)])?;
+    add_line(code, &[Op::Set(around.address())])?;
     add_chosen(alloc, code, around, choice, frame)?;
     add_resumed(alloc, code, around, site, Called::Made)
 }
@@ -231,13 +230,13 @@ fn add_bound_start(
     if plan.args.len() > ARGUMENTS {
         return add_line(code, &[Op::Do(UNREACHABLE)]);
     }
-    add_all(code, around, site)?;
+    add_handed(code, around, plan.args.as_slice(), Handing::AtStart)?;
     let line = [
-        Op::Get(DEPTH),
+        Op::Get(around.depth()),
         Op::I32(0),
-        Op::Get(around.local(plan.recv)),
+        around.operand(plan.recv),
         Op::Do(I32_WRAP_I64),
-        Op::Call(BOUND_CALL),
+        around.runtime(BOUND_CALL)?,
     ];
     add_line(code, &line)?;
     add_started(alloc, code, around, site, Called::Bound)
@@ -253,35 +252,30 @@ fn add_bound_resume(
     if site.plan.args.len() > ARGUMENTS {
         return add_line(code, &[Op::Do(UNREACHABLE)]);
     }
-    add_all_but_once(code, around, site)?;
-    add_line(code, &[Op::Get(DEPTH), Op::Get(site.frame)])?;
+    let args = site.plan.args.as_slice();
+    add_handed(code, around, args, Handing::AtResumption)?;
+    add_line(code, &[Op::Get(around.depth()), Op::Get(site.frame)])?;
     add_called(code, site)?;
-    add_line(code, &[Op::Call(BOUND_CALL)])?;
+    add_line(code, &[around.runtime(BOUND_CALL)?])?;
     add_resumed(alloc, code, around, site, Called::Bound)
 }
 
-/// Adds what stores the arguments of a start.
+/// Adds the arguments and the receiver of a start.
 fn add_all(code: &mut Items<Instr>, around: &Around<'_>, site: &Site<'_>) -> Result<(), NoMemory> {
-    add_handed(
-        code,
-        around.body,
-        site.plan.args.as_slice(),
-        Handing::AtStart,
-    )
+    let plan = site.plan;
+    add_passed(code, around, plan.args.as_slice(), Handing::AtStart)?;
+    add_line(code, &[around.operand(plan.recv)])
 }
 
-/// Adds what stores the arguments of a resumption.
+/// Adds the arguments of a resumption, and 0 for the receiver, which isn't read.
 fn add_all_but_once(
     code: &mut Items<Instr>,
     around: &Around<'_>,
     site: &Site<'_>,
 ) -> Result<(), NoMemory> {
-    add_handed(
-        code,
-        around.body,
-        site.plan.args.as_slice(),
-        Handing::AtResumption,
-    )
+    let args = site.plan.args.as_slice();
+    add_passed(code, around, args, Handing::AtResumption)?;
+    add_line(code, &[Op::I64(0)])
 }
 
 /// Adds what puts the number of the receiver's class into `ADDRESS`, where it stays over the call.
@@ -291,7 +285,7 @@ fn add_class_of(
     site: &Site<'_>,
 ) -> Result<(), NoMemory> {
     add_type_of(code, around, site.plan.recv)?;
-    add_line(code, &[Op::Set(ADDRESS)])
+    add_line(code, &[Op::Set(around.address())])
 }
 
 /// Adds what the frame tells of the start: the number of the receiver's class, or the address of the bound value.

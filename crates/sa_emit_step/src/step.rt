@@ -118,7 +118,7 @@ fn add_raising(
     to: &Raised,
 ) -> Result<(), NoMemory> {
     let line = [
-        Op::Get(around.local(value)),
+        around.operand(value),
         Op::Set(around.local(to.value)),
         Op::I64(u64::from(place)),
         Op::Set(around.local(to.place)),

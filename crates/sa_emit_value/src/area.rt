@@ -1,8 +1,9 @@
-//! The area of memory through which a call hands its receiver and arguments to a body, and the body hands them back.
+//! How a call hands its receiver and arguments to a body, and the body hands them back: the first arguments and the receiver are
+//! operands, the other arguments lie in an area of memory, and so does what is handed back.
 
-use crate::around::{ME, held, local_of};
-use sa_flat::{CallPlan, FlatArg, FlatBody, FlatFormal};
-use sa_runtime::layout::{FIRST_ARGUMENT_AT, RESULT, SELF_AT};
+use crate::around::{Around, held, local_of};
+use sa_flat::{FlatArg, FlatBody, FlatFormal};
+use sa_runtime::layout::{FIRST_ARGUMENT_AT, PARAMETERS, RESULT};
 use sa_runtime::line::{Op, add_line};
 use sa_tree::Mode;
 use sqlite_items::Items;
@@ -21,37 +22,52 @@ pub enum Handing {
     AtResumption,
 }
 
-/// Adds what stores the receiver and the arguments that a call hands down.
-pub fn add_arguments(
-    code: &mut Items<Instr>,
-    body: &FlatBody,
-    plan: &CallPlan,
-) -> Result<(), NoMemory> {
-    add_self(code, body, plan.recv)?;
-    add_handed(code, body, plan.args.as_slice(), Handing::AtStart)
+/// How many of the arguments of a call are operands.
+pub fn parameters(args: &[FlatArg]) -> u32 {
+    args.len().min(PARAMETERS) as u32
 }
 
-/// Adds what stores the receiver that a call hands down.
-pub fn add_self(code: &mut Items<Instr>, body: &FlatBody, recv: u32) -> Result<(), NoMemory> {
-    add_store(code, SELF_AT, local_of(body, recv))
-}
-
-/// Adds what stores the arguments that a call hands down.
-pub fn add_handed(
+/// Adds the arguments that a call hands down: operands, and stores of those that lie in the area.
+pub fn add_passed(
     code: &mut Items<Instr>,
-    body: &FlatBody,
+    around: &Around<'_>,
     args: &[FlatArg],
     handing: Handing,
 ) -> Result<(), NoMemory> {
     for (place, arg) in args.iter().enumerate() {
-        add_argument(code, body, place, arg, handing)?;
+        if place < PARAMETERS {
+            add_line(code, &[passed(around, arg, handing)?])?;
+        } else {
+            add_argument(code, around, place, arg, handing)?;
+        }
+    }
+    Ok(())
+}
+
+/// An argument as an operand: 0 where it isn't handed down.
+fn passed(around: &Around<'_>, arg: &FlatArg, handing: Handing) -> Result<Op, NoMemory> {
+    if !is_handed(arg.mode, handing) {
+        return Ok(Op::I64(0));
+    }
+    Ok(around.operand(held(arg.var)?))
+}
+
+/// Adds what stores the arguments that the call of a bound value hands down.
+pub fn add_handed(
+    code: &mut Items<Instr>,
+    around: &Around<'_>,
+    args: &[FlatArg],
+    handing: Handing,
+) -> Result<(), NoMemory> {
+    for (place, arg) in args.iter().enumerate() {
+        add_argument(code, around, place, arg, handing)?;
     }
     Ok(())
 }
 
 fn add_argument(
     code: &mut Items<Instr>,
-    body: &FlatBody,
+    around: &Around<'_>,
     place: usize,
     arg: &FlatArg,
     handing: Handing,
@@ -60,26 +76,26 @@ fn add_argument(
         return Ok(());
     }
     let var = held(arg.var)?;
-    add_store(code, argument_at(place)?, local_of(body, var))
+    add_store(code, argument_at(place)?, around.operand(var))
 }
 
 /// Adds what takes the result of a call and then what is copied back, in order.
 pub fn add_answers(
     code: &mut Items<Instr>,
-    body: &FlatBody,
+    around: &Around<'_>,
     value: Option<u32>,
     args: &[FlatArg],
 ) -> Result<(), NoMemory> {
-    add_result(code, body, value)?;
+    add_result(code, around, value)?;
     for (place, arg) in args.iter().enumerate() {
-        add_answer(code, body, place, arg)?;
+        add_answer(code, around, place, arg)?;
     }
     Ok(())
 }
 
 fn add_answer(
     code: &mut Items<Instr>,
-    body: &FlatBody,
+    around: &Around<'_>,
     place: usize,
     arg: &FlatArg,
 ) -> Result<(), NoMemory> {
@@ -87,46 +103,45 @@ fn add_answer(
         return Ok(());
     }
     let var = held(arg.var)?;
-    add_load(code, argument_at(place)?, local_of(body, var))
+    add_load(code, argument_at(place)?, around.local(var))
 }
 
 /// Adds what takes the result of a call, where it is wanted.
 pub(crate) fn add_result(
     code: &mut Items<Instr>,
-    body: &FlatBody,
+    around: &Around<'_>,
     value: Option<u32>,
 ) -> Result<(), NoMemory> {
     match value {
-        Some(var) => add_line(code, &[Op::GetGlobal(RESULT), Op::Set(local_of(body, var))]),
+        Some(_) => add_line(code, &[Op::GetGlobal(RESULT), around.put(value)]),
         None => Ok(()),
     }
 }
 
-/// Adds what a body begins with: its own object and its arguments, out of the area.
+/// Adds what a body begins with: the arguments that lie in the area.
 ///
 /// # Errors
 ///
 /// `NoMemory`, also where the body has more arguments than the area has room for.
 pub fn add_prologue(code: &mut Items<Instr>, body: &FlatBody) -> Result<(), NoMemory> {
-    add_load(code, SELF_AT, ME)?;
     add_formals(code, body)?;
     add_once_formals(code, body)
 }
 
-/// Adds what takes the arguments that each call hands down, also the one that resumes an instance.
+/// Adds what takes the arguments in the area that each call hands down, also the one that resumes an instance.
 pub fn add_formals(code: &mut Items<Instr>, body: &FlatBody) -> Result<(), NoMemory> {
     for (place, formal) in body.formals.as_slice().iter().enumerate() {
-        if is_handed(formal.mode, Handing::AtResumption) {
+        if place >= PARAMETERS && is_handed(formal.mode, Handing::AtResumption) {
             add_formal(code, body, place)?;
         }
     }
     Ok(())
 }
 
-/// Adds what takes the arguments that a start alone hands down.
+/// Adds what takes the arguments in the area that a start alone hands down.
 pub fn add_once_formals(code: &mut Items<Instr>, body: &FlatBody) -> Result<(), NoMemory> {
     for (place, formal) in body.formals.as_slice().iter().enumerate() {
-        if is_once(formal.mode) {
+        if place >= PARAMETERS && is_once(formal.mode) {
             add_formal(code, body, place)?;
         }
     }
@@ -156,15 +171,12 @@ fn add_copy_back(
         return Ok(());
     }
     let at = argument_at(place)?;
-    add_store(code, at, formal_local(body, place)?)
+    add_store(code, at, Op::Get(formal_local(body, place)?))
 }
 
-/// Adds what stores a local at an address.
-pub(crate) fn add_store(code: &mut Items<Instr>, at: u32, local: u32) -> Result<(), NoMemory> {
-    add_line(
-        code,
-        &[Op::I32(0), Op::Get(local), Op::Memory(I64_STORE, at)],
-    )
+/// Adds what stores a value at an address. `value` reads it.
+pub(crate) fn add_store(code: &mut Items<Instr>, at: u32, value: Op) -> Result<(), NoMemory> {
+    add_line(code, &[Op::I32(0), value, Op::Memory(I64_STORE, at)])
 }
 
 /// Adds what loads a local from an address.
@@ -205,11 +217,11 @@ fn is_handed(mode: Mode, handing: Handing) -> bool {
 }
 
 /// Whether an iter takes the argument's value at its start alone.
-fn is_once(mode: Mode) -> bool {
+pub fn is_once(mode: Mode) -> bool {
     matches!(mode, Mode::Once)
 }
 
 /// Whether the argument's value goes back to the variable of the call.
-fn is_copied_back(mode: Mode) -> bool {
+pub fn is_copied_back(mode: Mode) -> bool {
     matches!(mode, Mode::Out | Mode::Inout)
 }

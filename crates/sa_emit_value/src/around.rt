@@ -1,48 +1,44 @@
 //! What stands around a step: the program, the body, how deep the step stands in the dispatch, and the locals of the body's
 //! function.
 //!
-//! A body's function takes the depth of its activation and its frame, and answers a status. Its other locals are three of 32
-//! bits, its own object, a word for values that are not kept, the variables of the body, and for each site of the body the
-//! frame of its instance.
+//! A body's function takes its first arguments, its own object, how much deeper activations may nest and its frame, and answers a
+//! status. Its other locals are three of 32 bits, a word for values that nothing reads, the other variables of the body, and for each
+//! site of the body the frame of its instance.
 
 use crate::below::Below;
 use crate::nesting::Nesting;
+use crate::reading::Reading;
 use sa_dispatch::Rows;
 use sa_flat::{FIRST_TEMPORARY, FlatBody, FlatProgram};
-use sa_runtime::layout::FIRST_BODY;
+use sa_operands::{Given, Keeping};
+use sa_runtime::layout::PARAMETERS;
+use sa_runtime::line::Op;
 use sa_runtime::trace::Tracing;
 use std::alloc::Global;
 use wa_syntax::{Locals, NoMemory, ValTy};
 
-/// The parameter with the depth of the activation.
-pub const DEPTH: u32 = 0;
+/// The locals of a body's function that are no variables, behind the parameters that are: its own object, how much deeper activations
+/// may nest, the frame, the number of the block to go on in, a status, an address or the number of a type, and a word that nothing
+/// reads.
+const ME: u32 = 0;
 
-/// The parameter with the address of the instance's frame, which is 0 where it has none.
-pub const FRAME: u32 = 1;
+const DEPTH: u32 = 1;
 
-/// The local with the number of the dispatch target that comes next.
-pub const BLOCK: u32 = 2;
+const FRAME: u32 = 2;
 
-/// The local with the status that a call answered.
-pub const STATUS: u32 = 3;
+const BLOCK: u32 = 3;
 
-/// The local for an address or the number of a type.
-pub const ADDRESS: u32 = 4;
+const STATUS: u32 = 4;
 
-/// The local with the body's own object.
-pub const ME: u32 = 5;
+const ADDRESS: u32 = 5;
 
-/// The local for a value that nothing reads.
 const WORD: u32 = 6;
 
-/// The local with the variable 0. The other variables follow, then the temporaries.
-const FIRST_VARIABLE: u32 = 7;
+/// How many locals stand between the variables that are parameters and the others.
+const BETWEEN: u32 = 7;
 
-/// How many of the locals are of 32 bits and no parameters.
+/// How many of these are of 32 bits and no parameters.
 const ADDRESSES: u32 = 3;
-
-/// How many of the locals are words and no variables.
-const WORDS: u32 = 2;
 
 /// What a body was made for.
 #[derive(Clone, Copy)]
@@ -68,8 +64,12 @@ pub struct Program<'a> {
     pub below: &'a Below,
     /// The address of each bind's entry.
     pub entries: &'a [u32],
-    /// For each body its place in the table behind those of the rows, if a bind calls it through the table.
+    /// For each body its place in the table behind those of the rows, if it has one.
     pub places: &'a [Option<u32>],
+    /// For each function of the runtime its number in the module, if the program can reach it.
+    pub runtime: &'a [Option<u32>],
+    /// For each body the number of its function in the module, if the program can reach it.
+    pub functions: &'a [Option<u32>],
     /// Whether the module tells what becomes of the instances of iters.
     pub tracing: Tracing,
 }
@@ -78,6 +78,12 @@ impl<'a> Program<'a> {
     /// A body by its number. The answer is `NoMemory` where there is none.
     pub fn body(&self, number: u32) -> Result<&'a FlatBody, NoMemory> {
         held(self.flat.bodies.get(number as usize))
+    }
+
+    /// The function of a body, by the body's number. The answer is `NoMemory` where the module has none.
+    pub fn function_of(&self, body: u32) -> Result<u32, NoMemory> {
+        let number = held(self.functions.get(body as usize).copied())?;
+        held(number)
     }
 
     /// The number of the body that does the implementation in this row. The answer is `NoMemory` where there is no such row.
@@ -94,10 +100,22 @@ pub struct Around<'a> {
     pub body: &'a FlatBody,
     /// What this body was made for.
     pub role: Role,
-    /// For each block of the body its number among the dispatch targets, if it is one.
-    pub targets: &'a [Option<u32>],
-    /// How deep the step stands inside the dispatch.
+    /// For each block of the body whose label can be seen how much stands around what the label is of.
+    pub labels: &'a [Option<u32>],
+    /// For each block of the body its number, if jumps to it go by way of the choice.
+    pub again: &'a [Option<u32>],
+    /// For each block of the body the number by which it is gone on in, if it is.
+    pub numbers: &'a [Option<u32>],
+    /// How deep the step stands in the code of the body.
     pub nesting: Nesting,
+    /// How each temporary is read.
+    pub readings: &'a [Reading],
+    /// What becomes of what the step gives.
+    pub given: Given,
+    /// Where the step goes on if its instance has ended and it decides the branch behind it at once.
+    pub left: Option<u32>,
+    /// What the body keeps while it is suspended.
+    pub keeping: &'a Keeping,
     /// The place of the body's first site among all sites of the program.
     pub first_site: u32,
 }
@@ -124,12 +142,98 @@ impl<'a> Around<'a> {
         held(self.first_site.checked_add(site))
     }
 
-    /// The local that gets a value: that of the variable, or one that nothing reads.
-    pub fn receiving(&self, var: Option<u32>) -> u32 {
-        match var {
-            Some(var) => local_of(self.body, var),
-            None => WORD,
+    /// The local with the body's own object.
+    pub fn me(&self) -> u32 {
+        me_local(self.body)
+    }
+
+    /// The local with how much deeper activations may nest.
+    pub fn depth(&self) -> u32 {
+        depth_local(self.body)
+    }
+
+    /// The local with the address of the instance's frame, which is 0 where it has none.
+    pub fn frame(&self) -> u32 {
+        frame_local(self.body)
+    }
+
+    /// The local with the number of the block to go on in.
+    pub fn block(&self) -> u32 {
+        block_local(self.body)
+    }
+
+    /// The local with the status that a call answered.
+    pub fn status(&self) -> u32 {
+        behind_parameters(self.body, STATUS)
+    }
+
+    /// The local for an address or the number of a type.
+    pub fn address(&self) -> u32 {
+        address_local(self.body)
+    }
+
+    /// How a variable is read.
+    pub fn reading(&self, var: u32) -> Reading {
+        let Some(place) = var.checked_sub(FIRST_TEMPORARY) else {
+            return Reading::Local;
+        };
+        let reading = self.readings.get(place as usize).copied();
+        reading.unwrap_or(Reading::Local)
+    }
+
+    /// Whether the value of a variable is an operand already.
+    pub fn is_operand(&self, var: u32) -> bool {
+        matches!(self.reading(var), Reading::Operand | Reading::Truth)
+    }
+
+    /// Reads a variable.
+    pub fn operand(&self, var: u32) -> Op {
+        match self.reading(var) {
+            Reading::Local => Op::Get(self.local(var)),
+            Reading::Word(word) => Op::I64(word),
+            Reading::Me => Op::Get(self.me()),
+            Reading::Operand => Op::Here,
+            Reading::Truth => Op::Here,
         }
+    }
+
+    /// Reads a variable that is read again.
+    pub fn first_operand(&self, var: u32) -> Op {
+        match self.reading(var) {
+            Reading::Operand => Op::Tee(self.local(var)),
+            _ => self.operand(var),
+        }
+    }
+
+    /// Reads a variable again.
+    pub fn same_operand(&self, var: u32) -> Op {
+        match self.reading(var) {
+            Reading::Operand => Op::Get(self.local(var)),
+            _ => self.operand(var),
+        }
+    }
+
+    /// The local that gets a value: that of the variable, or of the one that it is moved to, or one that nothing reads.
+    pub fn receiving(&self, var: Option<u32>) -> u32 {
+        match (self.given, var) {
+            (Given::Into(var), _) => local_of(self.body, var),
+            (_, Some(var)) => local_of(self.body, var),
+            (_, None) => behind_parameters(self.body, WORD),
+        }
+    }
+
+    /// Takes the operand for what the step gives.
+    pub fn put(&self, var: Option<u32>) -> Op {
+        match self.given {
+            Given::Operand => Op::Here,
+            _ => Op::Set(self.receiving(var)),
+        }
+    }
+
+    /// Calls a function of the runtime. The answer is `NoMemory` where the module has none.
+    pub fn runtime(&self, function: u32) -> Result<Op, NoMemory> {
+        let number = held(self.program.runtime.get(function as usize).copied())?;
+        Ok(Op::Call(held(number)?))
     }
 
     /// The number of attributes of a type.
@@ -138,25 +242,58 @@ impl<'a> Around<'a> {
     }
 }
 
+/// How many arguments of a body are parameters of its function: its first variables.
+pub fn parameters_of(body: &FlatBody) -> u32 {
+    body.formals.len().min(PARAMETERS) as u32
+}
+
+/// A local behind the variables that are parameters.
+fn behind_parameters(body: &FlatBody, place: u32) -> u32 {
+    parameters_of(body).saturating_add(place)
+}
+
+/// The local with the body's own object.
+pub fn me_local(body: &FlatBody) -> u32 {
+    behind_parameters(body, ME)
+}
+
+/// The local with how much deeper activations may nest.
+fn depth_local(body: &FlatBody) -> u32 {
+    behind_parameters(body, DEPTH)
+}
+
+/// The local with the frame.
+pub fn frame_local(body: &FlatBody) -> u32 {
+    behind_parameters(body, FRAME)
+}
+
+/// The local with the number of the block to go on in.
+pub fn block_local(body: &FlatBody) -> u32 {
+    behind_parameters(body, BLOCK)
+}
+
+/// The local for an address or the number of a type.
+pub fn address_local(body: &FlatBody) -> u32 {
+    behind_parameters(body, ADDRESS)
+}
+
 /// The local with a variable of the body.
 pub fn local_of(body: &FlatBody, var: u32) -> u32 {
+    if var < parameters_of(body) {
+        return var;
+    }
     if var < FIRST_TEMPORARY {
-        return FIRST_VARIABLE + var;
+        return var + BETWEEN;
     }
     (var - FIRST_TEMPORARY)
         .saturating_add(body.own)
-        .saturating_add(FIRST_VARIABLE)
+        .saturating_add(BETWEEN)
 }
 
 /// The local with the frame of a site's instance, which is 0 where the site has none. They stand behind the words.
 pub fn site_local(body: &FlatBody, site: u32) -> u32 {
     let behind = body.temporaries.max(FIRST_TEMPORARY);
     local_of(body, behind).saturating_add(site)
-}
-
-/// The function of a body, by the body's number. The answer is `NoMemory` where 32 bits don't hold it.
-pub fn function_of(body: u32) -> Result<u32, NoMemory> {
-    held(body.checked_add(FIRST_BODY))
 }
 
 /// The locals of the function of the body.
@@ -166,8 +303,9 @@ pub fn function_of(body: u32) -> Result<u32, NoMemory> {
 /// `NoMemory`, also where 32 bits don't hold their number.
 pub fn locals_of(alloc: Global, body: &FlatBody) -> Result<Locals, NoMemory> {
     let temporaries = body.temporaries.saturating_sub(FIRST_TEMPORARY);
-    let variables = held(body.own.checked_add(temporaries))?;
-    let words = held(variables.checked_add(WORDS))?;
+    let others = body.own.saturating_sub(parameters_of(body));
+    let words = held(others.checked_add(temporaries))?;
+    let words = held(words.checked_add(1))?;
     let mut locals = Locals::new(alloc);
     locals.push(ADDRESSES, ValTy::I32)?;
     locals.push(words, ValTy::I64)?;

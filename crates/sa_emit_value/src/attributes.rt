@@ -1,7 +1,7 @@
 //! Attributes and shareds.
 
-use crate::area::{add_load, add_result, add_store};
-use crate::around::{Around, STATUS, held};
+use crate::area::{add_result, add_store};
+use crate::around::{Around, held};
 use crate::builtins::argument;
 use crate::failing::{add_fail_if, add_void_test};
 use sa_flat::CallPlan;
@@ -26,7 +26,7 @@ pub fn add_get(
     }
     add_void_test(alloc, code, around, plan.recv, &plan.fail)?;
     add_read(code, around, plan, place)?;
-    add_line(code, &[Op::Set(around.receiving(plan.value))])
+    add_line(code, &[around.put(plan.value)])
 }
 
 /// The attribute of an immutable value: void where all its attributes are.
@@ -42,9 +42,9 @@ fn add_get_of_value(
     add_line(&mut void, &[Op::I64(0)])?;
     let mut read = Items::new(alloc);
     add_read(&mut read, &inner, plan, place)?;
-    add_line(code, &[Op::Get(around.local(plan.recv)), Op::Do(I64_EQZ)])?;
+    add_line(code, &[around.first_operand(plan.recv), Op::Do(I64_EQZ)])?;
     code.push(Instr::If(Some(ValTy::I64), void, read))?;
-    add_line(code, &[Op::Set(around.receiving(plan.value))])
+    add_line(code, &[around.put(plan.value)])
 }
 
 /// Adds what reads the attribute of an object, as an operand.
@@ -55,7 +55,7 @@ fn add_read(
     place: u32,
 ) -> Result<(), NoMemory> {
     let line = [
-        Op::Get(around.local(plan.recv)),
+        around.same_operand(plan.recv),
         Op::Do(I32_WRAP_I64),
         Op::Memory(I64_LOAD, attribute_at(place)),
     ];
@@ -76,9 +76,9 @@ pub fn add_set(
     let value = argument(around, plan, 0)?;
     add_void_test(alloc, code, around, plan.recv, &plan.fail)?;
     let line = [
-        Op::Get(around.local(plan.recv)),
+        around.operand(plan.recv),
         Op::Do(I32_WRAP_I64),
-        Op::Get(value),
+        value,
         Op::Memory(I64_STORE, attribute_at(place)),
     ];
     add_line(code, &line)
@@ -95,17 +95,17 @@ fn add_set_of_value(
     let attributes = around.attributes(plan.class)?;
     let value = argument(around, plan, 0)?;
     let line = [
-        Op::Get(around.local(plan.recv)),
-        Op::Get(value),
+        around.operand(plan.recv),
+        value,
         Op::I32(plan.class),
         Op::I32(attributes),
         Op::I32(attribute_at(place)),
-        Op::Call(CHANGED),
-        Op::Tee(STATUS),
+        around.runtime(CHANGED)?,
+        Op::Tee(around.status()),
     ];
     add_line(code, &line)?;
-    add_fail_if(alloc, code, around, Op::Get(STATUS), &plan.fail)?;
-    add_result(code, around.body, plan.value)
+    add_fail_if(alloc, code, around, Op::Get(around.status()), &plan.fail)?;
+    add_result(code, around, plan.value)
 }
 
 /// The value of a shared.
@@ -115,7 +115,12 @@ pub fn add_get_shared(
     plan: &CallPlan,
     shared: u32,
 ) -> Result<(), NoMemory> {
-    add_load(code, shared_at(shared)?, around.receiving(plan.value))
+    let line = [
+        Op::I32(0),
+        Op::Memory(I64_LOAD, shared_at(shared)?),
+        around.put(plan.value),
+    ];
+    add_line(code, &line)
 }
 
 /// Writes a shared.
@@ -135,7 +140,7 @@ pub fn add_init_shared(
     shared: u32,
     from: u32,
 ) -> Result<(), NoMemory> {
-    add_store(code, shared_at(shared)?, around.local(from))
+    add_store(code, shared_at(shared)?, around.operand(from))
 }
 
 /// The address of a shared.

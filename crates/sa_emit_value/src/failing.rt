@@ -1,13 +1,14 @@
 //! Faults and raises of steps, and jumps to blocks.
 
-use crate::around::{Around, BLOCK, Role, held};
+use crate::around::{Around, Role, held};
 use crate::choice::add_if;
-use sa_flat::{Fail, FlatBody, FlatExit, Raised};
+use sa_flat::{Fail, Raised};
 use sa_runtime::fault_numbers::VOID;
 use sa_runtime::layout::{
     EXCEPTION, EXCEPTION_KIND, EXCEPTION_PLACE, FAULT, FAULT_KIND, HANDED_ON, RAISED,
 };
 use sa_runtime::line::{Op, add_line};
+use sa_shape::leaves;
 use sqlite_items::Items;
 use std::alloc::Global;
 use wa_syntax::opcode::{I64_EQZ, I64_EXTEND_I32_U, RETURN};
@@ -35,7 +36,7 @@ pub fn add_void_test(
     var: u32,
     fail: &Fail,
 ) -> Result<(), NoMemory> {
-    add_line(code, &[Op::Get(around.local(var)), Op::Do(I64_EQZ)])?;
+    add_line(code, &[around.first_operand(var), Op::Do(I64_EQZ)])?;
     add_fail_if(alloc, code, around, Op::I32(VOID), fail)
 }
 
@@ -74,7 +75,7 @@ fn add_fault(
         kind,
         Op::I32(fail.place),
         Op::I32(fail.line),
-        Op::Call(FAULT),
+        around.runtime(FAULT)?,
     ];
     add_line(code, &line)?;
     add_raise(code, around, &fail.raised)
@@ -104,43 +105,49 @@ pub fn add_raise(
     add_jump(code, around, raised.block)
 }
 
-/// Adds a jump to a dispatch target.
+/// Adds a jump to a block: out of the part before it, to the beginning of its loop, or by way of the choice.
 ///
 /// # Errors
 ///
-/// `NoMemory`, also where the block is no dispatch target.
+/// `NoMemory`, also where the block isn't jumped to.
 pub fn add_jump(code: &mut Items<Instr>, around: &Around<'_>, block: u32) -> Result<(), NoMemory> {
-    let line = [
-        Op::I32(target_number(around, block)?),
-        Op::Set(BLOCK),
-        Op::Br(around.nesting.label()),
-    ];
-    add_line(code, &line)
+    match held(jump_to(around, block))? {
+        Jump::Label(depth) => add_line(code, &[Op::Br(around.nesting.label(depth)?)]),
+        Jump::Choice(number) => {
+            let line = [
+                Op::I32(number),
+                Op::Set(around.block()),
+                Op::Br(around.nesting.label(0)?),
+            ];
+            add_line(code, &line)
+        }
+    }
 }
 
-/// The number of a block among the dispatch targets.
+/// How a block is jumped to.
+#[derive(Clone, Copy, Debug, PartialEq, Eq)]
+pub enum Jump {
+    /// To its label, around which so much stands.
+    Label(u32),
+    /// By way of the choice, by its number there.
+    Choice(u32),
+}
+
+/// How a block is jumped to, if it is.
+pub fn jump_to(around: &Around<'_>, block: u32) -> Option<Jump> {
+    let place = block as usize;
+    if let Some(number) = around.again.get(place).copied().flatten() {
+        return Some(Jump::Choice(number));
+    }
+    around.labels.get(place).copied().flatten().map(Jump::Label)
+}
+
+/// The number by which a block is gone on in.
 ///
 /// # Errors
 ///
-/// `NoMemory` where the block is no dispatch target.
+/// `NoMemory` where it has none.
 pub fn target_number(around: &Around<'_>, block: u32) -> Result<u32, NoMemory> {
-    let number = held(around.targets.get(block as usize).copied())?;
+    let number = held(around.numbers.get(block as usize).copied())?;
     held(number)
-}
-
-/// Whether the block that a raise goes to does nothing but leave the body with this raise. Steps don't jump to such a block.
-pub fn leaves(body: &FlatBody, raised: Raised) -> bool {
-    match body.blocks.get(raised.block as usize) {
-        Some(block) => block.steps.is_empty() && is_its_exit(&block.exit, &raised),
-        None => false,
-    }
-}
-
-fn is_its_exit(exit: &FlatExit, raised: &Raised) -> bool {
-    match exit {
-        FlatExit::Raise { value, place, kind } => {
-            *value == raised.value && *place == raised.place && *kind == raised.kind
-        }
-        _ => false,
-    }
 }

@@ -11,18 +11,18 @@ mod below;
 mod builtins;
 mod choice;
 mod failing;
-mod inline;
 mod nesting;
 mod objects;
+mod reading;
 mod values;
 
 pub use area::{
-    ARGUMENTS, Handing, add_answers, add_arguments, add_copies_back, add_formals, add_handed,
-    add_once_formals, add_prologue, add_self,
+    ARGUMENTS, Handing, add_answers, add_copies_back, add_formals, add_handed, add_once_formals,
+    add_passed, add_prologue, is_copied_back, is_once, parameters,
 };
 pub use around::{
-    ADDRESS, Around, BLOCK, DEPTH, FRAME, ME, Program, Role, STATUS, function_of, held, local_of,
-    locals_of, site_local,
+    Around, Program, Role, address_local, block_local, frame_local, held, local_of, locals_of,
+    me_local, parameters_of, site_local,
 };
 pub use attributes::{
     add_get, add_get_shared, add_init_shared, add_set, add_set_shared, is_immutable, shared_at,
@@ -31,12 +31,15 @@ pub use below::{Below, TypeSpan, spans_of};
 pub use builtins::add_builtin;
 pub use choice::{add_if, add_if_else};
 pub use failing::{
-    add_fail, add_fail_if, add_handed_on, add_jump, add_raise, add_void_test, leaves, target_number,
+    Jump, add_fail, add_fail_if, add_handed_on, add_jump, add_raise, add_void_test, jump_to,
+    target_number,
 };
 pub use nesting::Nesting;
 pub use objects::{
     NewArray, Widening, add_new, add_new_array, add_put_item, add_unwrap, add_widen, add_widened,
 };
+pub use reading::Reading;
 pub use values::{
-    add_const, add_is_void, add_me, add_move, add_span_test, add_type_is, add_type_of,
+    add_any_span, add_const, add_is_void, add_me, add_move, add_test, add_truth, add_type_is,
+    add_type_of, word_of,
 };

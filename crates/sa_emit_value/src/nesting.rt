@@ -1,32 +1,36 @@
-//! How deep a place of the code stands inside the dispatch of its body.
+//! How deep a place stands in the code of a body.
 
 use crate::around::held;
 use wa_syntax::NoMemory;
 
-/// How many blocks, loops and conditions stand around a place inside the one that a jump to the dispatch names: the label of that
-/// one at the place. It is handed down, and is one more in each block that stands further in.
+/// How many blocks, loops and conditions stand around a place in the code of a body. It is handed down, and is one more in each
+/// block that stands further in.
 #[derive(Clone, Copy, Debug, PartialEq, Eq)]
 pub struct Nesting(u32);
 
 impl Nesting {
-    /// Directly in what a jump to the dispatch names.
+    /// Directly in the code of the body.
     pub fn outermost() -> Nesting {
         Nesting(0)
     }
 
-    /// The label of what a jump to the dispatch names.
-    pub fn label(self) -> u32 {
-        self.0
-    }
-
-    /// So many blocks further in. The answer is `NoMemory` where 32 bits don't hold the label there.
+    /// So many blocks further in. The answer is `NoMemory` where 32 bits don't hold how deep that is.
     pub fn further_in(self, blocks: u32) -> Result<Nesting, NoMemory> {
         Ok(Nesting(held(self.0.checked_add(blocks))?))
     }
 
-    /// The label of what stands directly around what a jump to the dispatch names. The answer is `NoMemory` where 32 bits don't
-    /// hold it.
-    pub fn label_around(self) -> Result<u32, NoMemory> {
-        held(self.0.checked_add(1))
+    /// How much stands around the place.
+    pub fn depth(self) -> u32 {
+        self.0
+    }
+
+    /// The label at this place of what so many others stand around. The answer is `NoMemory` where the place isn't inside that.
+    pub fn label(self, around: u32) -> Result<u32, NoMemory> {
+        held(held(self.0.checked_sub(around))?.checked_sub(1))
+    }
+
+    /// The label of what stands around the code of the body.
+    pub fn label_around(self) -> u32 {
+        self.0
     }
 }

@@ -1,10 +1,11 @@
 //! Steps that make objects, and those that widen immutable values and give them back.
 
 use crate::area::add_result;
-use crate::around::{ADDRESS, Around, Role, STATUS};
+use crate::around::{Around, Role};
 use crate::builtins::CREATE;
 use crate::choice::add_if_else;
 use crate::failing::add_fail_if;
+use crate::reading::Reading;
 use sa_flat::Fail;
 use sa_runtime::fault_numbers::NO_ROOM;
 use sa_runtime::layout::{
@@ -15,7 +16,7 @@ use sa_runtime::line::{Op, add_line};
 use sqlite_items::Items;
 use std::alloc::Global;
 use wa_syntax::opcode::{
-    I32_EQZ, I32_WRAP_I64, I64_ADD, I64_AND, I64_EQ, I64_EXTEND_I32_U, I64_LOAD, I64_SHL,
+    DROP, I32_EQZ, I32_WRAP_I64, I64_ADD, I64_AND, I64_EQ, I64_EXTEND_I32_U, I64_LOAD, I64_SHL,
     I64_SHR_U, I64_STORE,
 };
 use wa_syntax::{Instr, NoMemory};
@@ -49,16 +50,16 @@ pub fn add_new(
     let line = [
         Op::I64(header(ty, OBJECT, 0)),
         Op::I64(u64::from(size)),
-        Op::Call(ALLOCATE),
-        Op::Tee(ADDRESS),
+        around.runtime(ALLOCATE)?,
+        Op::Tee(around.address()),
         Op::Do(I32_EQZ),
     ];
     add_line(code, &line)?;
     add_fail_if(alloc, code, around, Op::I32(NO_ROOM), fail)?;
     let line = [
-        Op::Get(ADDRESS),
+        Op::Get(around.address()),
         Op::Do(I64_EXTEND_I32_U),
-        Op::Set(around.local(to)),
+        around.put(Some(to)),
     ];
     add_line(code, &line)
 }
@@ -74,15 +75,15 @@ pub fn add_new_array(
     let first = first_element_at(around.attributes(array.ty)?);
     let line = [
         Op::I64(0),
-        Op::Get(around.local(array.count)),
+        around.operand(array.count),
         Op::I32(array.ty),
         Op::I32(first),
-        Op::Call(CREATE),
-        Op::Tee(STATUS),
+        around.runtime(CREATE)?,
+        Op::Tee(around.status()),
     ];
     add_line(code, &line)?;
-    add_fail_if(alloc, code, around, Op::Get(STATUS), fail)?;
-    add_result(code, around.body, Some(array.to))
+    add_fail_if(alloc, code, around, Op::Get(around.status()), fail)?;
+    add_result(code, around, Some(array.to))
 }
 
 /// An element of an array literal, whose place is in range.
@@ -95,20 +96,33 @@ pub fn add_put_item(
     value: u32,
 ) -> Result<(), NoMemory> {
     let first = first_element_at(around.attributes(ty)?);
-    add_element(code, around.local(array), around.local(at))?;
-    let line = [Op::Get(around.local(value)), Op::Memory(I64_STORE, first)];
-    add_line(code, &line)
+    let offset = match around.reading(at) {
+        Reading::Word(place) => constant_offset(first, place),
+        _ => None,
+    };
+    match offset {
+        Some(_) => add_line(code, &[around.operand(array), Op::Do(I32_WRAP_I64)])?,
+        None => add_element(code, around.operand(array), around.operand(at))?,
+    }
+    let offset = offset.unwrap_or(first);
+    add_line(
+        code,
+        &[around.operand(value), Op::Memory(I64_STORE, offset)],
+    )
+}
+
+/// Where an element lies in its object, by its place and where the first one lies, if 32 bits hold that.
+fn constant_offset(first: u32, place: u64) -> Option<u32> {
+    let bytes = place.checked_mul(8)?.checked_add(u64::from(first))?;
+    u32::try_from(bytes).ok()
 }
 
 /// Adds what gives the address of an element of an object less the offset of the first one, as an operand.
-pub(crate) fn add_element(
-    code: &mut Items<Instr>,
-    object: u32,
-    place: u32,
-) -> Result<(), NoMemory> {
+/// `object` and `place` read the two.
+pub(crate) fn add_element(code: &mut Items<Instr>, object: Op, place: Op) -> Result<(), NoMemory> {
     let line = [
-        Op::Get(object),
-        Op::Get(place),
+        object,
+        place,
         Op::I64(3),
         Op::Do(I64_SHL),
         Op::Do(I64_ADD),
@@ -141,7 +155,7 @@ pub fn add_widen(
 /// Adds the test whether a value is one that a bind has widened, as an operand.
 fn add_is_marked(code: &mut Items<Instr>, around: &Around<'_>, from: u32) -> Result<(), NoMemory> {
     let line = [
-        Op::Get(around.local(from)),
+        around.operand(from),
         Op::I64(HALF_BITS),
         Op::Do(I64_SHR_U),
         Op::I64(WIDENED_HALF),
@@ -157,7 +171,7 @@ fn add_unmarked(
     widening: Widening,
 ) -> Result<(), NoMemory> {
     let line = [
-        Op::Get(around.local(widening.from)),
+        around.operand(widening.from),
         Op::I64(LOW_HALF),
         Op::Do(I64_AND),
         Op::Set(around.local(widening.to)),
@@ -183,8 +197,8 @@ fn add_widening(
     fail: &Fail,
 ) -> Result<(), NoMemory> {
     add_widened(code, around, widening.from, widening.ty)?;
-    add_fail_if(alloc, code, around, Op::Get(STATUS), fail)?;
-    add_result(code, around.body, Some(widening.to))
+    add_fail_if(alloc, code, around, Op::Get(around.status()), fail)?;
+    add_result(code, around, Some(widening.to))
 }
 
 /// Adds the call that widens, which leaves its status in the local and as an operand.
@@ -196,20 +210,20 @@ pub fn add_widened(
 ) -> Result<(), NoMemory> {
     if is_one_word(ty) {
         let line = [
-            Op::Get(around.local(from)),
+            around.operand(from),
             Op::I32(ty),
-            Op::Call(BOXED),
-            Op::Tee(STATUS),
+            around.runtime(BOXED)?,
+            Op::Tee(around.status()),
         ];
         return add_line(code, &line);
     }
     let attributes = around.attributes(ty)?;
     let line = [
-        Op::Get(around.local(from)),
+        around.operand(from),
         Op::I32(ty),
         Op::I32(attributes),
-        Op::Call(WIDENED),
-        Op::Tee(STATUS),
+        around.runtime(WIDENED)?,
+        Op::Tee(around.status()),
     ];
     add_line(code, &line)
 }
@@ -227,15 +241,28 @@ pub fn add_unwrap(
     }
     let attributes = around.attributes(ty)?;
     if attributes == 0 {
-        return add_line(code, &[Op::I64(0), Op::Set(around.local(to))]);
+        return add_void(code, around, to, from);
     }
     let line = [
-        Op::Get(around.local(from)),
+        around.operand(from),
         Op::I32(attributes),
-        Op::Call(UNWRAPPED),
-        Op::Set(around.local(to)),
+        around.runtime(UNWRAPPED)?,
+        around.put(Some(to)),
     ];
     add_line(code, &line)
+}
+
+/// Adds the void value of a class without attributes in place of the widened one.
+fn add_void(
+    code: &mut Items<Instr>,
+    around: &Around<'_>,
+    to: u32,
+    from: u32,
+) -> Result<(), NoMemory> {
+    if around.is_operand(from) {
+        add_line(code, &[Op::Do(DROP)])?;
+    }
+    add_line(code, &[Op::I64(0), around.put(Some(to))])
 }
 
 /// Adds what reads the word of a widened `INT`, `BOOL` or `CHAR`.
@@ -246,10 +273,10 @@ fn add_unboxed(
     from: u32,
 ) -> Result<(), NoMemory> {
     let line = [
-        Op::Get(around.local(from)),
+        around.operand(from),
         Op::Do(I32_WRAP_I64),
         Op::Memory(I64_LOAD, attribute_at(0)),
-        Op::Set(around.local(to)),
+        around.put(Some(to)),
     ];
     add_line(code, &line)
 }

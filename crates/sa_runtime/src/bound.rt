@@ -5,9 +5,8 @@ use crate::bound_features::add_features;
 use crate::bound_locals::{BEHIND_BOUND, DEPTH, ENTRY, FRAME, INDEX, KIND, OBJECT, SELF, STATUS};
 use crate::fault_numbers::{TOO_DEEP, TOO_MANY_FRAMES};
 use crate::layout::{
-    BODY_TYPE, END_FRAME, FAULT_KIND, FRAME_OUT, FRAME_SELF_AT, GREATEST_DEPTH, HALF_BITS,
-    HANDED_ON, KIND_AT, LOW_HALF, MADE, NEW_FRAME, NUMBER_AT, RETURNED, ROUTINE, SELF_AT,
-    SUSPENDED,
+    BODY_TYPE, COUNT_AT, END_FRAME, FAULT_KIND, FIRST_ARGUMENT_AT, FRAME_OUT, HALF_BITS, HANDED_ON,
+    KIND_AT, LOW_HALF, MADE, NEW_FRAME, NUMBER_AT, RETURNED, ROUTINE, SUSPENDED,
 };
 use crate::line::Op::{Br, Call, CallIndirect, Do, Get, I32, I64, Memory, Set, SetGlobal, Tee};
 use crate::operations::{LOAD_COUNT, TO_ADDRESS};
@@ -18,8 +17,8 @@ use crate::spread::{GATHER, SPREAD};
 use crate::trace::{Event, Tracing};
 use std::alloc::Global;
 use wa_syntax::opcode::{
-    I32_ADD, I32_EQ, I32_EQZ, I32_GE_U, I32_LE_U, I32_LOAD, I32_LT_U, I32_NE, I64_AND, I64_LOAD,
-    I64_SHR_U, I64_STORE, RETURN,
+    I32_ADD, I32_EQ, I32_EQZ, I32_LE_U, I32_LOAD, I32_LT_U, I32_NE, I32_SUB, I64_AND, I64_LOAD,
+    I64_SHR_U, RETURN,
 };
 use wa_syntax::{Func, NoMemory};
 
@@ -48,41 +47,82 @@ const READ_CHOSEN: Part = Sequence(&[
 
 /// Hands on the fault of an activation that would nest too deep.
 const DEPTH_TEST: Part = Sequence(&[
-    Line(&[Get(DEPTH), I32(GREATEST_DEPTH), Do(I32_GE_U)]),
+    Line(&[Get(DEPTH), Do(I32_EQZ)]),
     If(&[
         Line(&[I32(TOO_DEEP), SetGlobal(FAULT_KIND)]),
         Line(&[I32(HANDED_ON), Do(RETURN)]),
     ]),
 ]);
 
-/// Hands the own object to a body.
-const HAND_SELF: Part = Line(&[I32(0), Get(SELF), Memory(I64_STORE, SELF_AT)]);
+/// One activation more.
+const DEEPER: Part = Line(&[Get(DEPTH), I32(1), Do(I32_SUB), Set(DEPTH)]);
 
-/// The depth of a new activation.
-const DEEPER: Part = Line(&[Get(DEPTH), I32(1), Do(I32_ADD)]);
+/// The own object, how much deeper activations may nest, the frame, and the place in the table: what stands behind the arguments.
+const BEHIND_ARGUMENTS: Part = Line(&[Get(SELF), Get(DEPTH), Get(FRAME), Get(INDEX)]);
+
+/// The number of arguments of what is called.
+const COUNT: Part = Line(&[Get(ENTRY), Memory(I32_LOAD, COUNT_AT)]);
+
+/// Reads the first argument, and those behind it.
+const FIRST: Part = Line(&[I32(0), Memory(I64_LOAD, FIRST_ARGUMENT_AT)]);
+
+const SECOND: Part = Line(&[I32(0), Memory(I64_LOAD, FIRST_ARGUMENT_AT + 8)]);
+
+const THIRD: Part = Line(&[I32(0), Memory(I64_LOAD, FIRST_ARGUMENT_AT + 16)]);
+
+const FOURTH: Part = Line(&[I32(0), Memory(I64_LOAD, FIRST_ARGUMENT_AT + 24)]);
+
+/// Calls a body through the table, with as many of its arguments as are parameters.
+const CALL: Part = Block(&[
+    COUNT,
+    Line(&[Do(I32_EQZ)]),
+    If(&[
+        BEHIND_ARGUMENTS,
+        Line(&[CallIndirect(BODY_TYPE), Set(STATUS), Br(1)]),
+    ]),
+    COUNT,
+    Line(&[I32(1), Do(I32_EQ)]),
+    If(&[
+        FIRST,
+        BEHIND_ARGUMENTS,
+        Line(&[CallIndirect(BODY_TYPE + 1), Set(STATUS), Br(1)]),
+    ]),
+    COUNT,
+    Line(&[I32(2), Do(I32_EQ)]),
+    If(&[
+        FIRST,
+        SECOND,
+        BEHIND_ARGUMENTS,
+        Line(&[CallIndirect(BODY_TYPE + 2), Set(STATUS), Br(1)]),
+    ]),
+    COUNT,
+    Line(&[I32(3), Do(I32_EQ)]),
+    If(&[
+        FIRST,
+        SECOND,
+        THIRD,
+        BEHIND_ARGUMENTS,
+        Line(&[CallIndirect(BODY_TYPE + 3), Set(STATUS), Br(1)]),
+    ]),
+    FIRST,
+    SECOND,
+    THIRD,
+    FOURTH,
+    BEHIND_ARGUMENTS,
+    Line(&[CallIndirect(BODY_TYPE + 4), Set(STATUS)]),
+]);
 
 /// Calls a routine, where that is the form.
 const CALL_ROUTINE: Part = Sequence(&[
     Line(&[Get(KIND), I32(ROUTINE), Do(I32_EQ)]),
-    If(&[
-        DEPTH_TEST,
-        HAND_SELF,
-        DEEPER,
-        Line(&[I32(0), Get(INDEX), CallIndirect(BODY_TYPE)]),
-        Line(&[Set(STATUS), Br(1)]),
-    ]),
+    If(&[DEPTH_TEST, DEEPER, CALL, Line(&[Br(1)])]),
 ]);
 
 /// Calls a body that was made for an implementation, where that is the form. It is no activation: it tests the depth itself
 /// where it enters one, and takes and gives back the frame.
 const CALL_MADE: Part = Sequence(&[
     Line(&[Get(KIND), I32(MADE), Do(I32_EQ)]),
-    If(&[
-        HAND_SELF,
-        Line(&[Get(DEPTH), Get(FRAME)]),
-        Line(&[Get(INDEX), CallIndirect(BODY_TYPE)]),
-        Line(&[Set(STATUS), Br(1)]),
-    ]),
+    If(&[CALL, Line(&[Br(1)])]),
 ]);
 
 /// Takes a frame for an iter that begins, or hands on the fault that all are taken. Where there is one, the iter goes on.
@@ -95,7 +135,7 @@ const TAKE_FRAME: Part = Sequence(&[
                 Line(&[I32(TOO_MANY_FRAMES), SetGlobal(FAULT_KIND)]),
                 Line(&[I32(HANDED_ON), Do(RETURN)]),
             ]),
-            Line(&[Get(FRAME), Get(SELF), Memory(I64_STORE, FRAME_SELF_AT)]),
+            Tell(FRAME, Event::Start),
         ],
         &[Tell(FRAME, Event::Resume)],
     ),
@@ -106,10 +146,9 @@ const CALL_ITER: Part = Sequence(&[
     DEPTH_TEST,
     TAKE_FRAME,
     DEEPER,
-    Line(&[Get(FRAME), Get(INDEX), CallIndirect(BODY_TYPE)]),
-    Line(&[Tee(STATUS)]),
+    CALL,
     TellOutcome(FRAME, STATUS),
-    Line(&[I32(SUSPENDED), Do(I32_NE)]),
+    Line(&[Get(STATUS), I32(SUSPENDED), Do(I32_NE)]),
     If(&[Line(&[Get(FRAME), Call(END_FRAME), Get(STATUS), Do(RETURN)])]),
     Line(&[Get(FRAME), SetGlobal(FRAME_OUT)]),
 ]);

@@ -1,5 +1,6 @@
-//! Where the words of a running program lie: the globals and functions of its module by number, and the addresses and words of
-//! its linear memory.
+//! Where the words of a running program lie: the globals of its module by number, the functions of the runtime by the numbers by which
+//! they call one another, and the addresses and words of its linear memory. A module has those functions that its program can reach,
+//! by numbers of its own.
 //!
 //! A value is a word of 64 bits: 0 where it is void, the sign-extended number of an `INT`, 1 for `true`, the byte of a `CHAR`,
 //! and the address of an object for each other value. The first word of an object is its header. The 16 bytes at address 0
@@ -65,29 +66,30 @@ pub const BOXED: u32 = 40;
 /// The function that gives the immutable value that was widened.
 pub const UNWRAPPED: u32 = 41;
 
-/// The function that takes a slot of the pool of frames, and gives its number or -1.
-pub const TAKE: u32 = 42;
-
-/// The function that gives a slot back by its number.
-pub const GIVE: u32 = 43;
-
 /// The function that takes a frame and gives its address, or 0 where all are taken.
-pub const NEW_FRAME: u32 = 44;
+pub const NEW_FRAME: u32 = 42;
 
 /// The function that gives a frame back.
-pub const END_FRAME: u32 = 45;
+pub const END_FRAME: u32 = 43;
 
 /// The function that gives back a frame and those of the instances inside it, inner ones first.
-pub const RELEASE: u32 = 46;
+pub const RELEASE: u32 = 44;
 
 /// The function that calls a bound value on the arguments in the area.
-pub const BOUND_CALL: u32 = 47;
+pub const BOUND_CALL: u32 = 45;
 
-/// The function of the first body of the program.
-pub const FIRST_BODY: u32 = 48;
+/// The first of the functions that put frames of the trace, which follow one another.
+pub const FIRST_TELLER: u32 = 46;
 
-/// The number of the type that the function of each body has, behind those of the three imported functions: it takes the depth
-/// of its activation and its frame, or 0, and answers a status.
+/// How many functions there are, the imported ones with them.
+pub const FUNCTIONS: u32 = 50;
+
+/// How many of the arguments of a body are parameters of its function, at most. The others lie in memory.
+pub const PARAMETERS: usize = 4;
+
+/// The number of the type that the function of a body without arguments has, behind those of the three imported functions; those
+/// of bodies with arguments follow, up to `PARAMETERS` of them. A function takes its arguments, its own object, how much deeper
+/// activations may nest, and its frame, or 0, and answers a status.
 pub const BODY_TYPE: u32 = 3;
 
 /// The status of a body that has returned.
@@ -196,14 +198,12 @@ pub const SET_SHARED: u32 = 11;
 /// The built-in feature with the number 0; the others follow it in the order of their numbers.
 pub const FIRST_BOUND_BUILTIN: u32 = 12;
 
-/// The address of the word that hands `self` to a body.
-pub const SELF_AT: u32 = 16;
-
-/// The address of the word that hands a body its first argument. There is room for 200.
-pub const FIRST_ARGUMENT_AT: u32 = 24;
+/// The address of the word of a body's first argument, for arguments that are handed over or handed back in memory. There is room for
+/// 200.
+pub const FIRST_ARGUMENT_AT: u32 = 16;
 
 /// The address of the first shared, behind the arguments.
-pub const SHAREDS_AT: u32 = 1624;
+pub const SHAREDS_AT: u32 = 1616;
 
 /// The tag of an object of a reference class, and of an immutable value at its own type.
 pub const OBJECT: u8 = 0;

@@ -6,6 +6,8 @@ use wa_syntax::{Instr, NoMemory};
 /// An instruction that holds no others.
 #[derive(Clone, Copy)]
 pub enum Op {
+    /// None: what it would give is an operand already.
+    Here,
     /// An instruction that is its opcode alone.
     Do(u8),
     /// Reads a local.
@@ -37,14 +39,17 @@ pub enum Op {
 /// Adds these instructions.
 pub fn add_line(to: &mut Items<Instr>, ops: &[Op]) -> Result<(), NoMemory> {
     for op in ops {
-        to.push(instruction(*op))?;
+        if let Some(instruction) = instruction(*op) {
+            to.push(instruction)?;
+        }
     }
     Ok(())
 }
 
-/// The instruction.
-fn instruction(op: Op) -> Instr {
-    match op {
+/// The instruction, if it is one.
+fn instruction(op: Op) -> Option<Instr> {
+    Some(match op {
+        Op::Here => return None,
         Op::Do(opcode) => Instr::Plain(opcode),
         Op::Get(local) => Instr::LocalGet(local),
         Op::Set(local) => Instr::LocalSet(local),
@@ -58,5 +63,5 @@ fn instruction(op: Op) -> Instr {
         Op::CallIndirect(ty) => Instr::CallIndirect(ty),
         Op::Br(label) => Instr::Br(label),
         Op::BrIf(label) => Instr::BrIf(label),
-    }
+    })
 }

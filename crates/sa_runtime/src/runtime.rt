@@ -4,7 +4,7 @@ ghost use Rattle.std.specs.Prelude.{◌≡◌, length, IfOk};
 
 use crate::bound::bound_call;
 use crate::builtins::{BUILTINS, SUPPORT};
-use crate::frame::{RELEASE, end_frame, new_frame};
+use crate::frame::RELEASE;
 use crate::parts::{func, functions, types};
 use crate::room::allocate;
 use crate::signatures::{BUILTIN_TYPES, FRAME_TYPES, SUPPORT_TYPES, TELLER_TYPES};
@@ -44,21 +44,12 @@ pub fn support(alloc: Global, tracing: Tracing) -> Result<RuntimeCode, NoMemory>
     })
 }
 
-/// The functions `NEW_FRAME`, `END_FRAME`, `RELEASE` and `BOUND_CALL`, in this order, where the slots of the pool have so many
-/// bytes and the first one lies at the address `first`. The first two types are those of `TAKE` and `GIVE` too, in this order.
-/// Fails where memory runs out.
-pub fn frames(
-    alloc: Global,
-    first: u32,
-    slot_bytes: u32,
-    tracing: Tracing,
-) -> Result<RuntimeCode, NoMemory>
-    ensures { IfOk result (λ code. length code.funcs ≡ 4) }
+/// The functions `RELEASE` and `BOUND_CALL`, in this order. Fails where memory runs out.
+pub fn frames(alloc: Global, tracing: Tracing) -> Result<RuntimeCode, NoMemory>
+    ensures { IfOk result (λ code. length code.funcs ≡ 2) }
 {
     let types = types(alloc, &FRAME_TYPES)?;
     let mut funcs = Items::new(alloc);
-    funcs.push(new_frame(alloc, first, slot_bytes, tracing)?)?;
-    funcs.push(end_frame(alloc, first, slot_bytes)?)?;
     funcs.push(func(alloc, &RELEASE, tracing)?)?;
     funcs.push(bound_call(alloc, tracing)?)?;
     Ok(RuntimeCode { types, funcs })
@@ -67,7 +58,7 @@ pub fn frames(
 /// The functions of a traced module that put frames of the trace, in the order of `Tellers`, whose numbers they have, where the slots of
 /// the pool have so many bytes. Fails where memory runs out.
 pub fn trace_code(alloc: Global, tellers: Tellers, slot_bytes: u32) -> Result<RuntimeCode, NoMemory>
-    ensures { IfOk result (λ code. length code.funcs ≡ 3) }
+    ensures { IfOk result (λ code. length code.funcs ≡ 4) }
 {
     Ok(RuntimeCode {
         types: types(alloc, &TELLER_TYPES)?,

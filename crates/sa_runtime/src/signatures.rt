@@ -79,12 +79,8 @@ pub(crate) const SUPPORT_TYPES: [Signature; 5] = [
     },
 ];
 
-/// The types of `NEW_FRAME` and `TAKE`, of `END_FRAME`, `RELEASE` and `GIVE`, and of `BOUND_CALL`.
-pub(crate) const FRAME_TYPES: [Signature; 3] = [
-    Signature {
-        params: &[],
-        results: &[I32],
-    },
+/// The types of `RELEASE` and of `BOUND_CALL`.
+pub(crate) const FRAME_TYPES: [Signature; 2] = [
     Signature {
         params: &[I32],
         results: &[],
@@ -95,14 +91,11 @@ pub(crate) const FRAME_TYPES: [Signature; 3] = [
     },
 ];
 
-/// The type of a function that takes a frame out of the pool.
-pub(crate) const TAKES_FRAME: u32 = 0;
-
 /// The type of a function that gives frames back.
-pub(crate) const GIVES_FRAME: u32 = 1;
+pub(crate) const GIVES_FRAME: u32 = 0;
 
 /// The type of `BOUND_CALL`.
-pub(crate) const CALLS_BOUND: u32 = 2;
+pub(crate) const CALLS_BOUND: u32 = 1;
 
 /// The types of the functions of a traced module that put frames.
 pub(crate) const TELLER_TYPES: [Signature; 2] = [
@@ -116,8 +109,8 @@ pub(crate) const TELLER_TYPES: [Signature; 2] = [
     },
 ];
 
-/// The type of the function that puts the frame of a byte.
-pub(crate) const TELLS_BYTE: u32 = 0;
+/// The type of a function that tells of a byte, or of the frame of an instance.
+pub(crate) const TELLS: u32 = 0;
 
-/// The type of a function that puts the frame of an event.
-pub(crate) const TELLS: u32 = 1;
+/// The type of a function that tells of the frame of an instance by the number of an event or a status.
+pub(crate) const TELLS_BY_NUMBER: u32 = 1;

@@ -2,17 +2,17 @@
 
 ghost use Rattle.std.specs.Prelude.{◌≡◌, length, IfOk};
 
-use crate::layout::{PUT, RAISED, TRACED_SITE_AT};
-use crate::line::Op::{Call, Do, Get, I32, Memory};
+use crate::layout::{PUT, RAISED, STARTED, STARTING_SITE, TRACED_SITE_AT};
+use crate::line::Op::{Call, Do, Get, GetGlobal, I32, I64, Memory, SetGlobal};
 use crate::line::add_line;
-use crate::signatures::{TELLS, TELLS_BYTE};
-use crate::trace::{Event, Tellers, number_at};
+use crate::signatures::{TELLS, TELLS_BY_NUMBER};
+use crate::trace::{Event, Tellers};
 use sqlite_items::Items;
 use std::alloc::Global;
-use wa_syntax::opcode::{I32_EQ, I32_LOAD8_U, SELECT};
+use wa_syntax::opcode::{I32_EQ, I32_LOAD8_U, I32_STORE, I64_ADD, I64_STORE, SELECT};
 use wa_syntax::{Func, Instr, Locals, NoMemory};
 
-/// The first parameter of a function that tells an event: the frame in memory.
+/// The first parameter of a function that tells of an instance: the frame in memory.
 const FRAME: u32 = 0;
 
 /// The second parameter: the number of the event, or the status.
@@ -24,10 +24,11 @@ pub(crate) fn teller_functions(
     tellers: Tellers,
     slot_bytes: u32,
 ) -> Result<Items<Func>, NoMemory>
-    ensures { IfOk result (λ funcs. length funcs ≡ 3) }
+    ensures { IfOk result (λ funcs. length funcs ≡ 4) }
 {
     let mut funcs = Items::new(alloc);
     funcs.push(byte_teller(alloc)?)?;
+    funcs.push(start_teller(alloc, tellers, slot_bytes)?)?;
     funcs.push(event_teller(alloc, slot_bytes)?)?;
     funcs.push(outcome_teller(alloc, tellers)?)?;
     Ok(funcs)
@@ -38,10 +39,45 @@ fn byte_teller(alloc: Global) -> Result<Func, NoMemory> {
     let mut body = Items::new(alloc);
     add_line(&mut body, &[I32(0), Call(PUT), Get(0), Call(PUT)])?;
     Ok(Func {
-        ty: TELLS_BYTE,
+        ty: TELLS,
         locals: Locals::new(alloc),
         body,
     })
+}
+
+/// The function that makes a frame in memory that of a new instance, and puts the frame of its start.
+fn start_teller(alloc: Global, tellers: Tellers, slot_bytes: u32) -> Result<Func, NoMemory> {
+    let mut body = Items::new(alloc);
+    add_identity(&mut body, slot_bytes)?;
+    let line = [Get(FRAME), I32(Event::Start.number()), Call(tellers.event)];
+    add_line(&mut body, &line)?;
+    Ok(Func {
+        ty: TELLS,
+        locals: Locals::new(alloc),
+        body,
+    })
+}
+
+/// Adds what puts the site and the number of a new instance into its frame, which has so many bytes.
+fn add_identity(to: &mut Items<Instr>, slot_bytes: u32) -> Result<(), NoMemory> {
+    let line = [
+        Get(FRAME),
+        GetGlobal(STARTING_SITE),
+        Memory(I32_STORE, TRACED_SITE_AT),
+        Get(FRAME),
+        GetGlobal(STARTED),
+        Memory(I64_STORE, number_at(slot_bytes)),
+        GetGlobal(STARTED),
+        I64(1),
+        Do(I64_ADD),
+        SetGlobal(STARTED),
+    ];
+    add_line(to, &line)
+}
+
+/// The word with the number of the instance in a frame of so many bytes: the last one.
+fn number_at(slot_bytes: u32) -> u32 {
+    slot_bytes.saturating_sub(8)
 }
 
 /// The function that puts the frame of an event. In memory the least byte of a word stands first too.
@@ -51,7 +87,7 @@ fn event_teller(alloc: Global, slot_bytes: u32) -> Result<Func, NoMemory> {
     add_bytes(&mut body, TRACED_SITE_AT, 4)?;
     add_bytes(&mut body, number_at(slot_bytes), 8)?;
     Ok(Func {
-        ty: TELLS,
+        ty: TELLS_BY_NUMBER,
         locals: Locals::new(alloc),
         body,
     })
@@ -82,7 +118,7 @@ fn outcome_teller(alloc: Global, tellers: Tellers) -> Result<Func, NoMemory> {
     ];
     add_line(&mut body, &line)?;
     Ok(Func {
-        ty: TELLS,
+        ty: TELLS_BY_NUMBER,
         locals: Locals::new(alloc),
         body,
     })

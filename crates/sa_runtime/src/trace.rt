@@ -10,11 +10,10 @@
 
 ghost use Rattle.std.specs.Prelude.{◌≡◌, ◌+◌, IfOk};
 
-use crate::layout::{PUT, STARTED, STARTING_SITE, TRACED_SITE_AT, TRACED_WORDS};
-use crate::line::Op::{Call, Do, Get, GetGlobal, I32, I64, Memory, SetGlobal};
+use crate::layout::{PUT, STARTING_SITE, TRACED_WORDS};
+use crate::line::Op::{Call, Get, I32, SetGlobal};
 use crate::line::add_line;
 use sqlite_items::Items;
-use wa_syntax::opcode::{I32_STORE, I64_ADD, I64_STORE};
 use wa_syntax::{Instr, NoMemory};
 
 /// Whether a module is traced.
@@ -31,6 +30,8 @@ pub enum Tracing {
 pub struct Tellers {
     /// Puts the frame of a byte of the output, which is the low byte of its argument.
     pub byte: u32,
+    /// Makes a frame in memory that of a new instance, and puts the frame of its start.
+    pub start: u32,
     /// Puts the frame of an event, of the frame of an instance in memory and the event's number.
     pub event: u32,
     /// Puts the frame of the event by which the body of an instance was left, of its frame in memory and the body's status.
@@ -45,12 +46,14 @@ impl Tellers {
     /// `NoMemory` where 32 bits don't hold their numbers.
     pub fn from_first(first: u32) -> Result<Tellers, NoMemory>
         ensures byte { IfOk result (λ tellers. tellers.byte ≡ first) }
-        ensures event { IfOk result (λ tellers. tellers.event ≡ first + 1) }
-        ensures outcome { IfOk result (λ tellers. tellers.outcome ≡ first + 2) }
+        ensures start { IfOk result (λ tellers. tellers.start ≡ first + 1) }
+        ensures event { IfOk result (λ tellers. tellers.event ≡ first + 2) }
+        ensures outcome { IfOk result (λ tellers. tellers.outcome ≡ first + 3) }
     {
-        let last = first.checked_add(2).ok_or(NoMemory)?;
+        let last = first.checked_add(3).ok_or(NoMemory)?;
         Ok(Tellers {
             byte: first,
+            start: last - 2,
             event: last - 1,
             outcome: last,
         })
@@ -94,9 +97,12 @@ pub fn add_event(
     frame: u32,
     event: Event,
 ) -> Result<(), NoMemory> {
-    match tracing {
-        Tracing::Off => Ok(()),
-        Tracing::On(tellers) => {
+    let Tracing::On(tellers) = tracing else {
+        return Ok(());
+    };
+    match event {
+        Event::Start => add_line(to, &[Get(frame), Call(tellers.start)]),
+        Event::Resume | Event::Abandon => {
             let line = [Get(frame), I32(event.number()), Call(tellers.event)];
             add_line(to, &line)
         }
@@ -137,42 +143,4 @@ pub(crate) fn add_put(to: &mut Items<Instr>, tracing: Tracing) -> Result<(), NoM
         Tracing::Off => add_line(to, &[Call(PUT)]),
         Tracing::On(tellers) => add_line(to, &[Call(tellers.byte)]),
     }
-}
-
-/// Adds what makes the frame in this local, which has so many bytes, that of a new instance, and tells its start.
-pub(crate) fn add_started(
-    to: &mut Items<Instr>,
-    tracing: Tracing,
-    frame: u32,
-    slot_bytes: u32,
-) -> Result<(), NoMemory> {
-    match tracing {
-        Tracing::Off => Ok(()),
-        Tracing::On(_) => {
-            add_identity(to, frame, slot_bytes)?;
-            add_event(to, tracing, frame, Event::Start)
-        }
-    }
-}
-
-/// Adds what puts the site and the number of a new instance into the frame in this local, which has so many bytes.
-fn add_identity(to: &mut Items<Instr>, frame: u32, slot_bytes: u32) -> Result<(), NoMemory> {
-    let line = [
-        Get(frame),
-        GetGlobal(STARTING_SITE),
-        Memory(I32_STORE, TRACED_SITE_AT),
-        Get(frame),
-        GetGlobal(STARTED),
-        Memory(I64_STORE, number_at(slot_bytes)),
-        GetGlobal(STARTED),
-        I64(1),
-        Do(I64_ADD),
-        SetGlobal(STARTED),
-    ];
-    add_line(to, &line)
-}
-
-/// The word with the number of the instance in a frame of so many bytes: the last one.
-pub(crate) fn number_at(slot_bytes: u32) -> u32 {
-    slot_bytes.saturating_sub(8)
 }

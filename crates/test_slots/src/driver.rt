@@ -8,7 +8,9 @@ use sa_runtime::parts::{Function, Working, functions};
 use sa_runtime::trace::Tracing;
 use sqlite_items::Items;
 use std::alloc::Global;
-use wa_syntax::opcode::{I32_ADD, I32_AND, I32_EQ, I32_EQZ, I32_SHL, I32_SHR_U};
+use wa_syntax::opcode::{
+    I32_ADD, I32_AND, I32_EQ, I32_EQZ, I32_SHL, I32_SHR_S, I32_SHR_U, I32_SUB,
+};
 use wa_syntax::{
     Export, ExportKind, Func, FuncTy, Import, ImportKind, Limits, Module, Name, NoMemory, ValTy,
 };
@@ -37,10 +39,13 @@ const GIVE: u32 = 4;
 const BYTE: u32 = 0;
 
 /// The address of the pool.
-const BASE: u32 = 16;
+const BASE: u32 = 8;
 
 /// How many bytes a slot has.
 const SLOT_BYTES: u32 = 16;
+
+/// The address of the first slot. The address 0 is one slot less, which gives the number -1.
+const FIRST: u32 = BASE + 8;
 
 /// How many pages the pool takes.
 const PAGES: u32 = 3;
@@ -50,14 +55,16 @@ const BODY: &[Part] = &[
     Loop(&[
         Line(&[Call(GET), Tee(BYTE), Do(I32_EQZ)]),
         If(&[
-            Line(&[Call(TAKE), Tee(BYTE), I32(0xff), Do(I32_AND), Call(PUT)]),
+            Line(&[Call(TAKE), I32(FIRST), Do(I32_SUB), I32(4), Do(I32_SHR_S)]),
+            Line(&[Tee(BYTE), I32(0xff), Do(I32_AND), Call(PUT)]),
             Line(&[Get(BYTE), I32(8), Do(I32_SHR_U)]),
             Line(&[I32(0xff), Do(I32_AND), Call(PUT), Br(1)]),
         ]),
         Line(&[Get(BYTE), I32(1), Do(I32_EQ)]),
         If(&[
             Line(&[Call(GET), Call(GET), I32(8), Do(I32_SHL)]),
-            Line(&[Do(I32_ADD), Call(GIVE), Br(1)]),
+            Line(&[Do(I32_ADD), I32(4), Do(I32_SHL), I32(FIRST), Do(I32_ADD)]),
+            Line(&[Call(GIVE), Br(1)]),
         ]),
     ]),
     Line(&[I32(0)]),

@@ -1,11 +1,13 @@
 //! Which built-in features are instructions where they are called, and which are calls of the runtime.
 
 use sa_prelude::BuiltinFeature;
-use wa_syntax::opcode::{I64_ADD, I64_AND, I64_EQ, I64_LT_S, I64_MUL, I64_OR, I64_SUB, I64_XOR};
+use wa_syntax::opcode::{
+    I64_ADD, I64_AND, I64_EQ, I64_GT_S, I64_LT_S, I64_MUL, I64_OR, I64_SUB, I64_XOR,
+};
 
 /// How a built-in feature is written where it is called.
 #[derive(Clone, Copy)]
-pub(crate) enum Form {
+pub enum Form {
     /// A comparison of the receiver with the argument by this instruction.
     Compares(u8),
     /// An instruction on both, whose result is in range.
@@ -29,7 +31,7 @@ pub(crate) enum Form {
 }
 
 /// How a built-in feature is written.
-pub(crate) fn form_of(feature: BuiltinFeature) -> Form {
+pub fn form_of(feature: BuiltinFeature) -> Form {
     match feature {
         BuiltinFeature::BoolIsEq => Form::Compares(I64_EQ),
         BuiltinFeature::BoolNot => Form::Not,
@@ -49,5 +51,14 @@ pub(crate) fn form_of(feature: BuiltinFeature) -> Form {
         BuiltinFeature::ArefAget => Form::Reads,
         BuiltinFeature::ArefAset => Form::Writes,
         _ => Form::Called,
+    }
+}
+
+/// The instruction that does the same with its operands the other way round, if there is one.
+pub fn swapped(opcode: u8) -> Option<u8> {
+    match opcode {
+        I64_LT_S => Some(I64_GT_S),
+        I64_SUB => None,
+        _ => Some(opcode),
     }
 }

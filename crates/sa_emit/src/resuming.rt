@@ -1,0 +1,123 @@
+//! How the function of an iter's body begins or goes on: the choice between its blocks by the number in its frame.
+
+use sa_emit_step::{add_begun, add_entered, add_taken_up};
+use sa_emit_value::{Around, add_jump, held, target_number};
+use sa_flat::{FlatBody, FlatExit};
+use sa_shape::Shaped;
+use sqlite_items::Items;
+use std::alloc::Global;
+use wa_syntax::{Instr, NoMemory};
+
+/// Adds what stands before code that is jumped back to: behind it the number of the block to go on in is in its local, and what a
+/// start or a resumption takes is there.
+pub(crate) fn add_before_choice(
+    alloc: Global,
+    code: &mut Items<Instr>,
+    around: &Around<'_>,
+) -> Result<(), NoMemory> {
+    add_entered(code, around.body)?;
+    code.push(Instr::LocalTee(around.block()))?;
+    let mut resumption = Items::new(alloc);
+    add_taken_up(alloc, &mut resumption, around.body, around.keeping)?;
+    let mut start = Items::new(alloc);
+    add_begun(
+        &mut start,
+        around.body,
+        around.keeping,
+        only_resume(around)?,
+    )?;
+    code.push(Instr::If(None, resumption, start))?;
+    Ok(())
+}
+
+/// Adds the choice that is made once: at a resumption it jumps to the block to go on in, and a start goes on behind it.
+pub(crate) fn add_choice(
+    alloc: Global,
+    code: &mut Items<Instr>,
+    around: &Around<'_>,
+    shaped: &Shaped,
+) -> Result<(), NoMemory> {
+    let body = around.body;
+    let inner = around.further_in()?;
+    let mut resumption = Items::new(alloc);
+    add_taken_up(alloc, &mut resumption, body, around.keeping)?;
+    add_entered(code, body)?;
+    match shaped.entries.as_slice() {
+        [_, block] => add_jump(&mut resumption, &inner, *block)?,
+        _ => {
+            code.push(Instr::LocalTee(around.block()))?;
+            add_table(alloc, &mut resumption, &inner, shaped, None)?;
+        }
+    }
+    code.push(Instr::If(None, resumption, Items::new(alloc)))?;
+    add_begun(code, body, around.keeping, only_resume(around)?)
+}
+
+/// Adds the choice that is jumped back to. `behind` is the block that begins behind it.
+pub(crate) fn add_choice_again(
+    alloc: Global,
+    code: &mut Items<Instr>,
+    around: &Around<'_>,
+    shaped: &Shaped,
+    behind: Option<u32>,
+) -> Result<(), NoMemory> {
+    let mut table = Items::new(alloc);
+    add_table(alloc, &mut table, &around.further_in()?, shaped, behind)?;
+    code.push(Instr::Block(None, table))?;
+    Ok(())
+}
+
+/// Adds the table of the blocks by their numbers. The one that begins behind what stands around it has the label 0.
+fn add_table(
+    alloc: Global,
+    code: &mut Items<Instr>,
+    around: &Around<'_>,
+    shaped: &Shaped,
+    behind: Option<u32>,
+) -> Result<(), NoMemory> {
+    let mut labels = Items::new(alloc);
+    let mut last = 0;
+    for block in shaped.entries.as_slice() {
+        last = label_of(around, *block, behind)?;
+        labels.push(last)?;
+    }
+    code.push(Instr::LocalGet(around.block()))?;
+    code.push(Instr::BrTable(labels, last))?;
+    Ok(())
+}
+
+/// The label of a block in the table. Block 0 has none where a start doesn't come to the table.
+fn label_of(around: &Around<'_>, block: u32, behind: Option<u32>) -> Result<u32, NoMemory> {
+    if behind == Some(block) {
+        return Ok(0);
+    }
+    match held(around.labels.get(block as usize).copied())? {
+        Some(depth) => around.nesting.label(depth),
+        None if block == 0 => Ok(0),
+        None => Err(NoMemory),
+    }
+}
+
+/// The number of the block that is gone on in behind the suspension, where there is one alone.
+fn only_resume(around: &Around<'_>) -> Result<Option<u32>, NoMemory> {
+    if around.keeping.suspensions != 1 {
+        return Ok(None);
+    }
+    match resume_of(around.body) {
+        Some(block) => Ok(Some(target_number(around, block)?)),
+        None => Ok(None),
+    }
+}
+
+fn resume_of(body: &FlatBody) -> Option<u32> {
+    for block in body.blocks.as_slice() {
+        if let FlatExit::Suspend {
+            value: _,
+            resume: Some(to),
+        } = block.exit
+        {
+            return Some(to);
+        }
+    }
+    None
+}

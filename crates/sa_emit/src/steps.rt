@@ -1,0 +1,205 @@
+//! The steps of blocks, with what stays an operand between them.
+
+use crate::sums::held_graph;
+use sa_emit_step::add_step;
+use sa_emit_value::{Around, Reading, jump_to, word_of};
+use sa_flat::{FIRST_TEMPORARY, FlatBlock, FlatBody, FlatExit, FlatStep};
+use sa_operands::{Given, Planner, add_set, result_of};
+use sqlite_items::Items;
+use std::alloc::Global;
+use wa_syntax::{Instr, NoMemory, opcode};
+
+/// What instruction a turn has, so that a run never has more turns than instructions.
+#[derive(Clone, Copy, Debug, PartialEq, Eq)]
+pub(crate) enum Turn {
+    /// The one by which the block is come to.
+    Way,
+    /// A `nop` of its own.
+    Nop,
+}
+
+/// Writes the steps of the blocks of a body.
+#[derive(Drop)]
+pub(crate) struct Writer<'a> {
+    planner: Planner<'a>,
+    /// How each temporary is read.
+    readings: Vec<Reading>,
+    /// The temporaries that aren't read from their locals.
+    elsewhere: Vec<u32>,
+    /// The variables that the step at hand sets.
+    set: Vec<u32>,
+    /// For each block whose label can be seen how much stands around what the label is of.
+    labels: Vec<Option<u32>>,
+}
+
+impl<'a> Writer<'a> {
+    pub(crate) fn new(alloc: Global, body: &'a FlatBody) -> Result<Writer<'a>, NoMemory> {
+        let temporaries = body.temporaries.saturating_sub(FIRST_TEMPORARY) as usize;
+        Ok(Writer {
+            planner: held_graph(Planner::new(alloc, body))?,
+            readings: vec![in alloc; Reading::Local; temporaries]?,
+            elsewhere: Vec::new(alloc),
+            set: Vec::new(alloc),
+            labels: vec![in alloc; None; body.blocks.len()]?,
+        })
+    }
+
+    /// The label of a block can be seen from now on, around which so much stands; or it can't. The answer is what was so before.
+    pub(crate) fn set_label(
+        &mut self,
+        block: Option<u32>,
+        label: Option<u32>,
+    ) -> Result<Option<u32>, NoMemory> {
+        let Some(block) = block else {
+            return Ok(None);
+        };
+        match self.labels.get_mut(block as usize) {
+            Some(place) => {
+                let before = *place;
+                *place = label;
+                Ok(before)
+            }
+            None => Err(NoMemory),
+        }
+    }
+
+    /// Adds the steps of a block, of which the exit is left. `turn` is what instruction a turn has that is the first of them; each
+    /// other one has a `nop`. The answer is whether the last step has decided the branch behind it.
+    pub(crate) fn add_steps(
+        &mut self,
+        alloc: Global,
+        code: &mut Items<Instr>,
+        around: &Around<'_>,
+        number: u32,
+        block: &FlatBlock,
+        turn: Turn,
+    ) -> Result<bool, NoMemory> {
+        self.forget()?;
+        let mut turn = turn;
+        let mut decided = false;
+        let given = copied(alloc, held_graph(self.planner.plan(number))?)?;
+        for (step, given) in block.steps.as_slice().iter().zip(given.iter()) {
+            if is_turn(step) && turn == Turn::Nop {
+                code.push(Instr::Plain(opcode::NOP))?;
+            }
+            turn = Turn::Nop;
+            let left = left_to(&self.at_exit(around), block, *given);
+            decided = left.is_some();
+            self.add_step(alloc, code, around, step, *given, left)?;
+        }
+        Ok(decided)
+    }
+
+    /// Each temporary is read from its local.
+    fn forget(&mut self) -> Result<(), NoMemory> {
+        for _ in 0..self.elsewhere.len() {
+            if let Some(var) = self.elsewhere.pop() {
+                put(&mut self.readings, var, Reading::Local)?;
+            }
+        }
+        Ok(())
+    }
+
+    fn add_step(
+        &mut self,
+        alloc: Global,
+        code: &mut Items<Instr>,
+        around: &Around<'_>,
+        step: &FlatStep,
+        given: Given,
+        left: Option<u32>,
+    ) -> Result<(), NoMemory> {
+        if given != Given::Read && given != Given::Done {
+            let here = Around {
+                given,
+                left,
+                ..self.at_exit(around)
+            };
+            add_step(alloc, code, &here, step)?;
+        }
+        self.set.clear();
+        held_graph(add_set(&mut self.set, step))?;
+        for at in 0..self.set.len() {
+            if let Some(var) = self.set.get(at).copied() {
+                put(&mut self.readings, var, Reading::Local)?;
+            }
+        }
+        if let Some(var) = result_of(step) {
+            self.read_from(var, reading_of(around, step, given)?)?;
+        }
+        Ok(())
+    }
+
+    fn read_from(&mut self, var: u32, reading: Reading) -> Result<(), NoMemory> {
+        if reading != Reading::Local && var >= FIRST_TEMPORARY {
+            put(&mut self.readings, var, reading)?;
+            self.elsewhere.push(var)?;
+        }
+        Ok(())
+    }
+
+    /// Around what stands behind the steps that were added last.
+    pub(crate) fn at_exit<'b>(&'b self, around: &Around<'b>) -> Around<'b> {
+        Around {
+            readings: self.readings.as_slice(),
+            labels: self.labels.as_slice(),
+            ..*around
+        }
+    }
+}
+
+fn copied(alloc: Global, given: &[Given]) -> Result<Vec<Given>, NoMemory> {
+    Ok(Vec::from_slice(alloc, given)?)
+}
+
+/// Sets how a temporary is read. Other variables are read from their locals.
+fn put(readings: &mut Vec<Reading>, var: u32, reading: Reading) -> Result<(), NoMemory> {
+    let Some(place) = var.checked_sub(FIRST_TEMPORARY) else {
+        return Ok(());
+    };
+    match readings.get_mut(place as usize) {
+        Some(old) => {
+            *old = reading;
+            Ok(())
+        }
+        None => Err(NoMemory),
+    }
+}
+
+/// How the value is read that a step gives.
+fn reading_of(around: &Around<'_>, step: &FlatStep, given: Given) -> Result<Reading, NoMemory> {
+    match given {
+        Given::Operand => Ok(Reading::Operand),
+        Given::Truth => Ok(Reading::Truth),
+        Given::Read => free_reading(around, step),
+        _ => Ok(Reading::Local),
+    }
+}
+
+/// How the value of a step is read that isn't done.
+fn free_reading(around: &Around<'_>, step: &FlatStep) -> Result<Reading, NoMemory> {
+    match step {
+        FlatStep::Const { value, .. } => Ok(Reading::Word(word_of(around, value)?)),
+        FlatStep::Me { .. } => Ok(Reading::Me),
+        _ => Err(NoMemory),
+    }
+}
+
+/// Whether a step spends a turn and does nothing else.
+fn is_turn(step: &FlatStep) -> bool {
+    matches!(step, FlatStep::Turn)
+}
+
+/// The block that a step goes on in where it decides the branch behind it, and its instance has ended: one that is jumped to.
+fn left_to(around: &Around<'_>, block: &FlatBlock, given: Given) -> Option<u32> {
+    if given != Given::Branches {
+        return None;
+    }
+    let FlatExit::Branch { yes, .. } = block.exit else {
+        return None;
+    };
+    match jump_to(around, yes) {
+        Some(_) => Some(yes),
+        None => None,
+    }
+}

@@ -1,0 +1,3 @@
+pub mod Right
+pub mod Shapes
+pub mod Stands

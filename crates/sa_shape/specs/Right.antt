@@ -1,0 +1,10 @@
+-- What is promised of the shape of a body.
+use Rattle.std.specs.Prelude.{IsTrue}
+use Rattle.sa_flat.specs.declared.body.FlatBody.{FlatBody}
+use Rattle.sa_shape.specs.declared.shaped.Shaped.{Shaped}
+use Rattle.sa_shape.specs.Shapes.{pieces}
+use Rattle.sa_shape.specs.Stands.{stands}
+
+-- its list stands for the body, whose entries and blocks that are reached again are those that it names
+abbrev pub StandsFor : FlatBody → Shaped → Type 0
+StandsFor b shaped = IsTrue (stands b shaped.entries shaped.again (pieces shaped.list))

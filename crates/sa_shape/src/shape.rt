@@ -1,0 +1,56 @@
+//! Shapes as a type.
+
+ghost use Rattle.std.specs.Prelude.{◌≡◌};
+ghost use Rattle.sa_shape.specs.Shapes.{behind_piece, first, first_of, piece, pieces};
+
+use sqlite_items::Items;
+
+/// A piece of structured control. The pieces of a list stand one after the other.
+#[derive(Drop)]
+pub enum Shape {
+    /// The steps and the exit of a block. What it goes on in begins behind it, or is jumped to.
+    Block(u32),
+    /// The same, for a block that ends with a branch: the list is where the branch goes if its test holds.
+    If(u32, Items<Shape>),
+    /// A jump inside it to the block that begins behind it leaves it.
+    Part(Items<Shape>),
+    /// A jump inside it to the block that it begins with begins it anew.
+    Loop(Items<Shape>),
+    /// The body begins here, or goes on in the block that it was suspended before.
+    Choice,
+}
+
+/// The block that a list begins with. A list that begins with the choice begins with none.
+#[cycle(first)]
+pub fn first_of(list: &[Shape]) -> Option<u32>
+    ensures { result ≡ first (pieces list.now) }
+{
+    match list.first() {
+        Some(shape) => first_of_shape(shape),
+        None => None,
+    }
+}
+
+/// The block that a piece begins with.
+#[cycle(first)]
+fn first_of_shape(shape: &Shape) -> Option<u32>
+    ensures { result ≡ first_of (piece shape.now) }
+{
+    match shape {
+        Shape::Block(block) => Some(*block),
+        Shape::If(block, _) => Some(*block),
+        Shape::Part(list) => first_of(list.as_slice()),
+        Shape::Loop(list) => first_of(list.as_slice()),
+        Shape::Choice => None,
+    }
+}
+
+/// The block that begins behind a piece: the one that the rest of its list begins with, or else the one behind the list.
+pub fn block_behind(rest: &[Shape], behind: Option<u32>) -> Option<u32>
+    ensures { result ≡ behind_piece (pieces rest.now) behind }
+{
+    if rest.is_empty() {
+        return behind;
+    }
+    first_of(rest)
+}

@@ -1,0 +1,282 @@
+//! The trial whether a shape stands for the blocks of a body: what each block goes on in begins behind it, or is jumped to from where
+//! its label can be seen.
+
+ghost use Rattle.std.specs.Prelude.{◌≡◌, IfOk};
+ghost use Rattle.sa_shape.specs.Shapes.{piece, pieces};
+ghost use Rattle.sa_shape.specs.Stands as are;
+
+use crate::raises::{leaves, raised_of};
+use crate::shape::{Shape, block_behind, first_of};
+use sa_flat::{FlatBody, FlatExit, FlatStep, Raised};
+use sa_tree::NoMemory;
+use std::alloc::Global;
+
+/// What a shape is tried against.
+#[derive(Clone, Copy)]
+pub(crate) struct Against<'a> {
+    pub body: &'a FlatBody,
+    /// The blocks in which the body begins and goes on, the first of which is block 0.
+    pub entries: &'a [u32],
+    /// For each block its number in the choice, if it is reached again by way of that: of no block where the choice is made once.
+    pub again: &'a [Option<u32>],
+}
+
+/// Whether a list stands for the blocks of a body.
+///
+/// # Errors
+///
+/// `NoMemory`.
+pub(crate) fn stands(alloc: Global, against: Against<'_>, list: &[Shape]) -> Result<bool, NoMemory>
+    ensures { IfOk result (λ so. so ≡ are.stands against.body.now against.entries.now against.again.now (pieces list.now)) }
+{
+    if !begins(against, list) {
+        return Ok(false);
+    }
+    list_stands(alloc, against, &[], list, None)
+}
+
+/// Whether a list begins with the first block where that is the one entry, and else with the choice; and is one loop with the choice
+/// where that is reached again.
+fn begins(against: Against<'_>, list: &[Shape]) -> bool
+    ensures { result ≡ are.begins_well against.entries.now against.again.now (pieces list.now) }
+{
+    match first_of(list) {
+        Some(block) => block == 0 && against.entries.len() == 1 && against.again.is_empty(),
+        None => against.again.is_empty() || is_loop(list),
+    }
+}
+
+/// Whether a list is one loop.
+fn is_loop(list: &[Shape]) -> bool
+    ensures { result ≡ are.is_loop (pieces list.now) }
+{
+    match list {
+        [Shape::Loop(_)] => true,
+        _ => false,
+    }
+}
+
+/// Whether a list stands for its blocks, before the block behind it. `seen` has the blocks whose labels can be seen.
+#[cycle(standing)]
+fn list_stands(
+    alloc: Global,
+    against: Against<'_>,
+    seen: &[u32],
+    list: &[Shape],
+    behind: Option<u32>,
+) -> Result<bool, NoMemory>
+    ensures { IfOk result (λ so. so ≡
+        are.pieces_stand against.body.now against.entries.now against.again.now seen.now behind (pieces list.now)) }
+{
+    for (place, shape) in list.iter().enumerate() {
+        let next = block_behind(&list[place + 1..], behind);
+        if !shape_stands(alloc, against, seen, shape, next)? {
+            return Ok(false);
+        }
+    }
+    Ok(true)
+}
+
+/// Whether a piece stands for its blocks.
+#[cycle(standing)]
+fn shape_stands(
+    alloc: Global,
+    against: Against<'_>,
+    seen: &[u32],
+    shape: &Shape,
+    behind: Option<u32>,
+) -> Result<bool, NoMemory>
+    ensures { IfOk result (λ so. so ≡
+        are.piece_stands against.body.now against.entries.now against.again.now seen.now behind (piece shape.now)) }
+{
+    match shape {
+        Shape::Block(block) => Ok(block_stands(against, seen, *block, behind)),
+        Shape::If(block, list) => {
+            let side = list.as_slice();
+            if !if_stands(against, seen, *block, first_of(side), behind) {
+                return Ok(false);
+            }
+            list_stands(alloc, against, seen, side, None)
+        }
+        Shape::Part(list) => labelled_stands(alloc, against, seen, behind, list.as_slice(), behind),
+        Shape::Loop(list) => {
+            let inside = list.as_slice();
+            match first_of(inside) {
+                Some(block) => labelled_stands(alloc, against, seen, Some(block), inside, None),
+                None => list_stands(alloc, against, seen, inside, None),
+            }
+        }
+        Shape::Choice => Ok(choice_stands(against, seen, behind)),
+    }
+}
+
+/// Whether a list stands for its blocks inside something whose label is that of a block.
+#[cycle(standing)]
+fn labelled_stands(
+    alloc: Global,
+    against: Against<'_>,
+    seen: &[u32],
+    label: Option<u32>,
+    list: &[Shape],
+    behind: Option<u32>,
+) -> Result<bool, NoMemory>
+    ensures { IfOk result (λ so. so ≡ are.labelled label seen.now (λ more.
+        are.pieces_stand against.body.now against.entries.now against.again.now more behind (pieces list.now))) }
+{
+    let Some(block) = label else {
+        return Ok(false);
+    };
+    if is_in(seen, block) {
+        return Ok(false);
+    }
+    let mut more = Vec::from_slice(alloc, seen)?;
+    more.push(block)?;
+    list_stands(alloc, against, &more, list, behind)
+}
+
+/// Whether each block that the body begins or goes on in begins behind the choice, or its label can be seen.
+fn choice_stands(against: Against<'_>, seen: &[u32], behind: Option<u32>) -> bool
+    ensures { result ≡ are.each (are.is_come_to seen.now behind) against.entries.now }
+{
+    for block in against.entries {
+        if behind != Some(*block) && !is_in(seen, *block) {
+            return false;
+        }
+    }
+    true
+}
+
+/// Whether a list has a block.
+fn is_in(list: &[u32], block: u32) -> bool
+    ensures { result ≡ are.is_in list.now block }
+{
+    for other in list {
+        if *other == block {
+            return true;
+        }
+    }
+    false
+}
+
+/// Whether a block is gone on in: it begins behind, or is jumped to.
+fn is_reached(against: Against<'_>, seen: &[u32], behind: Option<u32>, block: u32) -> bool
+    ensures { result ≡ are.is_reached against.again.now seen.now behind block }
+{
+    behind == Some(block) || is_jumped_to(against, seen, block)
+}
+
+/// Whether a block is jumped to: by way of the choice, or its label can be seen.
+fn is_jumped_to(against: Against<'_>, seen: &[u32], block: u32) -> bool
+    ensures { result ≡ are.is_jumped_to against.again.now seen.now block }
+{
+    let again = against.again.get(block as usize).copied().flatten();
+    again.is_some() || is_in(seen, block)
+}
+
+/// Whether a block stands.
+fn block_stands(against: Against<'_>, seen: &[u32], number: u32, behind: Option<u32>) -> bool
+    ensures { result ≡ are.block_stands against.body.now against.again.now
+        (are.exit_stands against.body.now against.entries.now against.again.now seen.now behind) seen.now number }
+{
+    match against.body.blocks.get(number as usize) {
+        Some(block) => {
+            steps_stand(against, seen, block.steps.as_slice())
+                && exit_stands(against, seen, behind, &block.exit)
+        }
+        None => false,
+    }
+}
+
+/// Whether a block stands that ends with a branch, whose side for where the test holds begins with a block.
+fn if_stands(
+    against: Against<'_>,
+    seen: &[u32],
+    number: u32,
+    first: Option<u32>,
+    behind: Option<u32>,
+) -> bool
+    ensures { result ≡ are.block_stands against.body.now against.again.now
+        (are.side_stands against.again.now seen.now first behind) seen.now number }
+{
+    match against.body.blocks.get(number as usize) {
+        Some(block) => {
+            steps_stand(against, seen, block.steps.as_slice())
+                && side_stands(against, seen, first, behind, &block.exit)
+        }
+        None => false,
+    }
+}
+
+/// Whether an exit goes on in blocks that are reached.
+fn exit_stands(against: Against<'_>, seen: &[u32], behind: Option<u32>, exit: &FlatExit) -> bool
+    ensures { result ≡ are.exit_stands against.body.now against.entries.now against.again.now seen.now behind exit.now }
+{
+    match exit {
+        FlatExit::Jump(to) => is_reached(against, seen, behind, *to),
+        FlatExit::Branch { test: _, yes, no } => {
+            is_reached(against, seen, behind, *yes) && is_reached(against, seen, behind, *no)
+        }
+        FlatExit::Suspend { value: _, resume } => suspension_stands(against, *resume),
+        FlatExit::Stop { kind: _, fail } => raise_stands(against, seen, fail.raised),
+        FlatExit::Return { value: _ } => true,
+        FlatExit::Quit => true,
+        FlatExit::Raise { .. } => true,
+    }
+}
+
+/// Whether an exit is a branch that goes on in a side, and else in a block that is reached.
+fn side_stands(
+    against: Against<'_>,
+    seen: &[u32],
+    first: Option<u32>,
+    behind: Option<u32>,
+    exit: &FlatExit,
+) -> bool
+    ensures { result ≡ are.side_stands against.again.now seen.now first behind exit.now }
+{
+    match exit {
+        FlatExit::Branch { test: _, yes, no } => {
+            first == Some(*yes) && is_reached(against, seen, behind, *no)
+        }
+        _ => false,
+    }
+}
+
+/// Whether the blocks are jumped to that raises of the steps go to.
+fn steps_stand(against: Against<'_>, seen: &[u32], steps: &[FlatStep]) -> bool
+    ensures { result ≡ are.each (are.step_stands against.body.now against.again.now seen.now) steps.now }
+{
+    for step in steps {
+        if !step_stands(against, seen, step) {
+            return false;
+        }
+    }
+    true
+}
+
+/// Whether the block is jumped to that a raise of a step goes to.
+fn step_stands(against: Against<'_>, seen: &[u32], step: &FlatStep) -> bool
+    ensures { result ≡ are.step_stands against.body.now against.again.now seen.now step.now }
+{
+    match raised_of(step) {
+        Some(raised) => raise_stands(against, seen, raised),
+        None => true,
+    }
+}
+
+/// Whether the block of a raise is jumped to, or the raise leaves the body at once.
+fn raise_stands(against: Against<'_>, seen: &[u32], raised: Raised) -> bool
+    ensures { result ≡ are.raise_stands against.body.now against.again.now seen.now raised }
+{
+    leaves(against.body, raised) || is_jumped_to(against, seen, raised.block)
+}
+
+/// Whether the block that a suspension goes on in is one of the entries.
+fn suspension_stands(against: Against<'_>, resume: Option<u32>) -> bool
+    ensures { result ≡ are.suspension_stands against.entries.now resume }
+{
+    match resume {
+        Some(block) => is_in(against.entries, block),
+        None => true,
+    }
+}
