@@ -1,6 +1,5 @@
 -- What a shape means: the run of its pieces, by the steps and exits of the flat program.
-use Rattle.std.specs.Prelude.{ℕ, zero, suc, ◌≡◌, Bool, if◌then◌else◌, List, [], ◌∷◌, slice_get, Option, Some, None}
-use Rattle.sa_flat.specs.declared.body.FlatBlock.{FlatBlock}
+use Rattle.std.specs.Prelude.{ℕ, zero, suc, if◌then◌else◌, List, [], ◌∷◌, Option, Some, None}
 use Rattle.sa_flat.specs.declared.body.FlatBody.{FlatBody}
 use Rattle.sa_flat.specs.declared.step.FlatExit.{FlatExit}
 use Rattle.sa_flat.specs.declared.step.FlatStep.{FlatStep}
