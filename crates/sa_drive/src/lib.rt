@@ -18,6 +18,7 @@ mod print;
 mod report;
 mod run;
 mod selftest;
+mod texts;
 mod told;
 mod top;
 

@@ -1,12 +1,14 @@
 //! A subcommand with its matches, as a command.
 
-ghost use Rattle.std.specs.Prelude.{◌≡◌, IfOk, Some, map, option_map};
+ghost use Rattle.std.specs.List.{list_any};
+ghost use Rattle.std.specs.Prelude.{◌≡◌, IfOk, Some, bytes_eq, map, option_map};
 ghost use Rattle.clap.specs.Words.{all_of, first_of, found_of, rows_of};
 ghost use Rattle.sa_words.specs.Line.{assemble_in, build_in, check_in, classes_in, contracts_in, exec_in, files_in, fuel_in};
 ghost use Rattle.sa_words.specs.Line.{is_given, line_of, listing_in, named_line, room_in, run_in, stats_in, trace_in, Gen, Selftest};
 
 use crate::command::{Assemble, Build, Check, Command, Contracts, Exec, Listing, Run, Trace};
 use crate::number::{number_in, number_or};
+use crate::telling::telling;
 use clap::ArgMatches;
 use std::alloc::{AllocError, Global};
 
@@ -24,7 +26,7 @@ const MOST_ROOM: u64 = 1_048_576;
 const MOST_CLASSES: u64 = 500;
 
 /// The value of the argument with this name, or its first one.
-fn value<'a>(matches: &ArgMatches<'a>, name: &str) -> Option<&'a str>
+pub(crate) fn value<'a>(matches: &ArgMatches<'a>, name: &str) -> Option<&'a str>
     ensures { option_map (λ text. text.now) result ≡ first_of name.now (rows_of (found_of matches.now)) }
 {
     matches.get_str(name)
@@ -120,6 +122,13 @@ fn run<'a>(alloc: Global, matches: &ArgMatches<'a>) -> Result<Option<Command<'a>
     })))
 }
 
+/// Whether the name is one of these.
+fn is_among(name: &str, names: &[&str]) -> bool
+    ensures { result ≡ list_any (bytes_eq name.now) (map (λ other. other.now) names.now) }
+{
+    names.iter().any(|other| name == *other)
+}
+
 fn build<'a>(alloc: Global, matches: &ArgMatches<'a>) -> Result<Option<Command<'a>>, AllocError>
     ensures { IfOk result (λ command. option_map line_of command ≡ build_in (rows_of (found_of matches.now))) }
 {
@@ -127,6 +136,9 @@ fn build<'a>(alloc: Global, matches: &ArgMatches<'a>) -> Result<Option<Command<'
     let (Some(room), Some(out)) = (room(matches), value(matches, "out")) else {
         return Ok(None);
     };
+    if is_among(out, files.as_slice()) {
+        return Ok(None);
+    }
     Ok(Some(Command::Build(Build {
         room,
         contracts: contracts(matches),
@@ -188,10 +200,13 @@ fn assemble<'a>(matches: &ArgMatches<'a>) -> Option<Command<'a>>
 {
     let out = value(matches, "out")?;
     let file = value(matches, "file")?;
+    if out == file {
+        return None;
+    }
     Some(Command::Assemble(Assemble { out, file }))
 }
 
-/// The command of this name with these matches, or none where a number is out of its range.
+/// The command of this name with these matches, or none where they give none.
 pub(crate) fn named<'a>(
     alloc: Global,
     name: &str,
@@ -208,6 +223,6 @@ pub(crate) fn named<'a>(
         "selftest" => Ok(selftest(matches)),
         "listing" => Ok(listing(matches)),
         "assemble" => Ok(assemble(matches)),
-        _ => Ok(None),
+        _ => Ok(telling(name, matches)),
     }
 }
