@@ -1,5 +1,7 @@
 //! What becomes of what each step of a block gives.
 
+ghost use Rattle.std.specs.Prelude.{◌<◌, IfSome, vec_len};
+
 use crate::behind::{Behind, behind_of, temporary};
 use crate::given::Given;
 use crate::operands::{exit_reads_truth, operand_at, operand_of_exit, other_operand, reads_truth};
@@ -193,13 +195,16 @@ impl<'a> Planner<'a> {
     }
 
     /// Where the value of a variable lies on the stack, if it does.
-    fn place_on_stack(&self, var: u32) -> Option<usize> {
+    fn place_on_stack(&self, var: u32) -> Option<usize>
+        ensures { IfSome result (λ place. place < vec_len self.now.stack) }
+    {
         let step = self.setter(var)?;
         self.stack.iter().rposition(|other| *other == step)
     }
 
     /// Takes the operands of a step, the first of which lies at this place. Those above that the step doesn't read next, and that
     /// can be read where they are needed, make way; where another one lies above, nothing is taken.
+    #[tactic(auto, using(std::proofs::lemmas::Option::slice_get_within))]
     fn take_from(
         &mut self,
         block: &FlatBlock,

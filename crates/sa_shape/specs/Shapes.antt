@@ -32,7 +32,7 @@ piece_at (Shape-F.Part inside) = Part (listed inside)
 piece_at (Shape-F.Loop inside) = Loop (listed inside)
 piece_at Shape-F.Choice = Choice
 
-abbrev pub piece : Shape → Piece
+unfoldable pub piece : Shape → Piece
 piece = fold-Shape Piece piece_at
 
 abbrev pub pieces : List Shape → Pieces

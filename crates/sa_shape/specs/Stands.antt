@@ -1,6 +1,6 @@
 -- That a shape stands for the blocks of a body: what each block goes on in begins behind it, or is jumped to from where its label can
 -- be seen, or is reached by way of the choice.
-use Rattle.std.specs.Prelude.{ℕ, Bool, true, false, not, ◌&&◌, ◌||◌, ◌==◌, if◌then◌else◌, List, [], ◌∷◌, ◌++◌, length, slice_get}
+use Rattle.std.specs.Prelude.{ℕ, Bool, true, false, not, ◌&&◌, ◌||◌, ◌==◌, List, [], ◌∷◌, ◌++◌, length, slice_get}
 use Rattle.std.specs.Prelude.{Option, Some, None, is_some}
 use Rattle.std.specs.Option.{option_map_or, option_flatten}
 use Rattle.sa_flat.specs.declared.body.FlatBlock.{FlatBlock}
@@ -65,14 +65,14 @@ suspension_stands entries resume = option_map_or (is_in entries) resume true
 
 abbrev pub exit_stands : FlatBody → List ℕ → List (Option ℕ) → List ℕ → Option ℕ → FlatExit → Bool
 exit_stands b entries again seen behind (Jump block) = is_reached again seen behind block
-exit_stands b entries again seen behind (Branch test yes no) = is_reached again seen behind yes && is_reached again seen behind no
+exit_stands b entries again seen behind (Branch test to other) = is_reached again seen behind to && is_reached again seen behind other
 exit_stands b entries again seen behind (Suspend value resume) = suspension_stands entries resume
 exit_stands b entries again seen behind (Stop kind fail) = raise_stands b again seen fail.raised
 exit_stands b entries again seen behind _ = true
 
 -- a branch, where what begins with this block is where it goes if its test holds
 abbrev pub side_stands : List (Option ℕ) → List ℕ → Option ℕ → Option ℕ → FlatExit → Bool
-side_stands again seen side behind (Branch test yes no) = begins side yes && is_reached again seen behind no
+side_stands again seen side behind (Branch test to other) = begins side to && is_reached again seen behind other
 side_stands again seen side behind _ = false
 
 -- ---- blocks and pieces
@@ -86,6 +86,11 @@ abbrev pub labelled : Option ℕ → List ℕ → (List ℕ → Bool) → Bool
 labelled None seen inside = false
 labelled (Some block) seen inside = not (is_in seen block) && inside (seen ++ block ∷ [])
 
+-- inside a loop, whose label is that of the block that it begins with; one that begins with the choice has no such label
+abbrev pub headed : Option ℕ → List ℕ → (List ℕ → Bool) → Bool
+headed None seen inside = inside seen
+headed (Some block) seen inside = labelled (Some block) seen inside
+
 -- A body, the blocks in which it begins and goes on, and those that are reached again by way of the choice.
 module _ (b : FlatBody) (entries : List ℕ) (again : List (Option ℕ)) where
   abbrev mutual
@@ -94,9 +99,7 @@ module _ (b : FlatBody) (entries : List ℕ) (again : List (Option ℕ)) where
     piece_stands seen behind (If block side) =
         block_stands b again (side_stands again seen (first side) behind) seen block && pieces_stand seen None side
     piece_stands seen behind (Part inside) = labelled behind seen (λ more. pieces_stand more behind inside)
-    piece_stands seen behind (Loop inside) =
-        if is_some (first inside) then labelled (first inside) seen (λ more. pieces_stand more None inside)
-        else pieces_stand seen None inside
+    piece_stands seen behind (Loop inside) = headed (first inside) seen (λ more. pieces_stand more None inside)
     piece_stands seen behind Choice = each (is_come_to seen behind) entries
 
     pub pieces_stand : List ℕ → Option ℕ → Pieces → Bool
@@ -105,16 +108,26 @@ module _ (b : FlatBody) (entries : List ℕ) (again : List (Option ℕ)) where
 
 -- ---- whole shapes
 
+abbrev pub is_nothing : Pieces → Bool
+is_nothing nothing = true
+is_nothing (q then rest) = false
+
+abbrev pub is_whole_loop : Piece → Pieces → Bool
+is_whole_loop (Loop inside) rest = is_nothing rest
+is_whole_loop _ rest = false
+
 abbrev pub is_loop : Pieces → Bool
-is_loop (Loop inside then nothing) = true
-is_loop _ = false
+is_loop nothing = false
+is_loop (q then rest) = is_whole_loop q rest
 
 -- with the first block where that is the one entry, and else with the choice, which stands in a loop around all where blocks are
 -- reached again by it
+abbrev pub begins_by : List ℕ → List (Option ℕ) → Pieces → Option ℕ → Bool
+begins_by entries again list (Some block) = block == 0 && (length entries == 1 && length again == 0)
+begins_by entries again list None = length again == 0 || is_loop list
+
 abbrev pub begins_well : List ℕ → List (Option ℕ) → Pieces → Bool
-begins_well entries again list =
-    if is_some (first list) then begins (first list) 0 && length entries == 1 && length again == 0
-    else length again == 0 || is_loop list
+begins_well entries again list = begins_by entries again list (first list)
 
 abbrev pub stands : FlatBody → List ℕ → List (Option ℕ) → Pieces → Bool
 stands b entries again list = begins_well entries again list && pieces_stand b entries again [] None list

@@ -21,17 +21,19 @@ pub enum Shape {
 }
 
 /// The block that a list begins with. A list that begins with the choice begins with none.
+#[tactic(auto, using(crate::proofs::Pieces::beginnings))]
 #[cycle(first)]
 pub fn first_of(list: &[Shape]) -> Option<u32>
     ensures { result ≡ first (pieces list.now) }
 {
-    match list.first() {
-        Some(shape) => first_of_shape(shape),
+    match list.split_first() {
+        Some((shape, _)) => first_of_shape(shape),
         None => None,
     }
 }
 
 /// The block that a piece begins with.
+#[tactic(auto, using(crate::proofs::Pieces::beginnings))]
 #[cycle(first)]
 fn first_of_shape(shape: &Shape) -> Option<u32>
     ensures { result ≡ first_of (piece shape.now) }
@@ -46,11 +48,12 @@ fn first_of_shape(shape: &Shape) -> Option<u32>
 }
 
 /// The block that begins behind a piece: the one that the rest of its list begins with, or else the one behind the list.
+#[tactic(auto, using(crate::proofs::Pieces::beginnings))]
 pub fn block_behind(rest: &[Shape], behind: Option<u32>) -> Option<u32>
     ensures { result ≡ behind_piece (pieces rest.now) behind }
 {
-    if rest.is_empty() {
-        return behind;
+    match rest.split_first() {
+        Some((shape, _)) => first_of_shape(shape),
+        None => behind,
     }
-    first_of(rest)
 }

@@ -57,7 +57,7 @@ struct Known {
 ///
 /// `NoMemory`, also where a number of the body names no block.
 pub fn shape_of(alloc: Global, body: &FlatBody) -> Result<Option<Shaped>, NoMemory>
-    ensures { IfOk result (IfSome (StandsFor body.now)) }
+    ensures { IfOk result (λ found. IfSome found (StandsFor body.now)) }
 {
     let mut flow = flow_of(alloc, body)?;
     let blocks = body.blocks.len();
@@ -126,7 +126,7 @@ fn shape_found(
     again: &[Option<u32>],
     repeats: bool,
 ) -> Result<Option<Shaped>, NoMemory>
-    ensures { IfOk result (IfSome (StandsFor body.now)) }
+    ensures { IfOk result (λ found. IfSome found (StandsFor body.now)) }
 {
     let loops = Loops::of(alloc, &known.order, &known.back, &known.edges)?;
     let placing = placing_of(alloc, &known.flow, &known.order, &known.dominators, loops)?;
@@ -164,7 +164,9 @@ fn in_loop(alloc: Global, list: Items<Shape>, repeats: bool) -> Result<Items<Sha
 
 /// What has to be known of a shape where it is written.
 fn described(alloc: Global, list: Items<Shape>, against: Against<'_>) -> Result<Shaped, NoMemory>
-    ensures { IfOk result (λ shaped. (shaped.list ≡ list) × (shaped.entries ≡ against.entries.now) × (shaped.again ≡ against.again.now)) }
+    ensures list { IfOk result (λ shaped. shaped.list ≡ list) }
+    ensures entries { IfOk result (λ shaped. shaped.entries ≡ against.entry.entries.now) }
+    ensures again { IfOk result (λ shaped. shaped.again ≡ against.entry.again.now) }
 {
     let mut numbers = vec![in alloc; None; against.body.blocks.len()]?;
     for (place, block) in against.entries.iter().enumerate() {

@@ -27,9 +27,10 @@ pub(crate) struct Against<'a> {
 ///
 /// `NoMemory`.
 pub(crate) fn stands(alloc: Global, against: Against<'_>, list: &[Shape]) -> Result<bool, NoMemory>
-    ensures { IfOk result (λ so. so ≡ are.stands against.body.now against.entries.now against.again.now (pieces list.now)) }
+    ensures { IfOk result (λ so. so ≡
+        are.stands against.entry.body.now against.entry.entries.now against.entry.again.now (pieces list.now)) }
 {
-    if !begins(against, list) {
+    if !begins_well(against, list) {
         return Ok(false);
     }
     list_stands(alloc, against, &[], list, None)
@@ -37,8 +38,8 @@ pub(crate) fn stands(alloc: Global, against: Against<'_>, list: &[Shape]) -> Res
 
 /// Whether a list begins with the first block where that is the one entry, and else with the choice; and is one loop with the choice
 /// where that is reached again.
-fn begins(against: Against<'_>, list: &[Shape]) -> bool
-    ensures { result ≡ are.begins_well against.entries.now against.again.now (pieces list.now) }
+fn begins_well(against: Against<'_>, list: &[Shape]) -> bool
+    ensures { result ≡ are.begins_well against.entry.entries.now against.entry.again.now (pieces list.now) }
 {
     match first_of(list) {
         Some(block) => block == 0 && against.entries.len() == 1 && against.again.is_empty(),
@@ -47,16 +48,29 @@ fn begins(against: Against<'_>, list: &[Shape]) -> bool
 }
 
 /// Whether a list is one loop.
+#[tactic(auto, using(crate::proofs::Trials::tried))]
 fn is_loop(list: &[Shape]) -> bool
     ensures { result ≡ are.is_loop (pieces list.now) }
 {
-    match list {
-        [Shape::Loop(_)] => true,
-        _ => false,
+    match list.split_first() {
+        Some((shape, rest)) => is_whole_loop(shape, rest),
+        None => false,
+    }
+}
+
+/// Whether a piece is a loop, and nothing stands behind it.
+#[tactic(auto, using(crate::proofs::Trials::tried))]
+fn is_whole_loop(shape: &Shape, rest: &[Shape]) -> bool
+    ensures { result ≡ are.is_whole_loop (piece shape.now) (pieces rest.now) }
+{
+    match shape {
+        Shape::Loop(_) => rest.is_empty(),
+        Shape::Block(_) | Shape::If(_, _) | Shape::Part(_) | Shape::Choice => false,
     }
 }
 
 /// Whether a list stands for its blocks, before the block behind it. `seen` has the blocks whose labels can be seen.
+#[tactic(auto, using(crate::proofs::Trials::tried))]
 #[cycle(standing)]
 fn list_stands(
     alloc: Global,
@@ -66,7 +80,7 @@ fn list_stands(
     behind: Option<u32>,
 ) -> Result<bool, NoMemory>
     ensures { IfOk result (λ so. so ≡
-        are.pieces_stand against.body.now against.entries.now against.again.now seen.now behind (pieces list.now)) }
+        are.pieces_stand against.entry.body.now against.entry.entries.now against.entry.again.now seen.now behind (pieces list.now)) }
 {
     for (place, shape) in list.iter().enumerate() {
         let next = block_behind(&list[place + 1..], behind);
@@ -78,6 +92,7 @@ fn list_stands(
 }
 
 /// Whether a piece stands for its blocks.
+#[tactic(auto, using(crate::proofs::Trials::tried))]
 #[cycle(standing)]
 fn shape_stands(
     alloc: Global,
@@ -87,7 +102,7 @@ fn shape_stands(
     behind: Option<u32>,
 ) -> Result<bool, NoMemory>
     ensures { IfOk result (λ so. so ≡
-        are.piece_stands against.body.now against.entries.now against.again.now seen.now behind (piece shape.now)) }
+        are.piece_stands against.entry.body.now against.entry.entries.now against.entry.again.now seen.now behind (piece shape.now)) }
 {
     match shape {
         Shape::Block(block) => Ok(block_stands(against, seen, *block, behind)),
@@ -106,11 +121,12 @@ fn shape_stands(
                 None => list_stands(alloc, against, seen, inside, None),
             }
         }
-        Shape::Choice => Ok(choice_stands(against, seen, behind)),
+        Shape::Choice => Ok(choice_stands(against.entries, seen, behind)),
     }
 }
 
 /// Whether a list stands for its blocks inside something whose label is that of a block.
+#[tactic(auto, using(crate::proofs::Trials::tried))]
 #[cycle(standing)]
 fn labelled_stands(
     alloc: Global,
@@ -121,7 +137,7 @@ fn labelled_stands(
     behind: Option<u32>,
 ) -> Result<bool, NoMemory>
     ensures { IfOk result (λ so. so ≡ are.labelled label seen.now (λ more.
-        are.pieces_stand against.body.now against.entries.now against.again.now more behind (pieces list.now))) }
+        are.pieces_stand against.entry.body.now against.entry.entries.now against.entry.again.now more behind (pieces list.now))) }
 {
     let Some(block) = label else {
         return Ok(false);
@@ -134,19 +150,38 @@ fn labelled_stands(
     list_stands(alloc, against, &more, list, behind)
 }
 
-/// Whether each block that the body begins or goes on in begins behind the choice, or its label can be seen.
-fn choice_stands(against: Against<'_>, seen: &[u32], behind: Option<u32>) -> bool
-    ensures { result ≡ are.each (are.is_come_to seen.now behind) against.entries.now }
+/// Whether the choice comes to each of the blocks that the body begins or goes on in.
+#[tactic(auto, using(crate::proofs::Trials::tried))]
+fn choice_stands(entries: &[u32], seen: &[u32], behind: Option<u32>) -> bool
+    ensures { result ≡ are.each (are.is_come_to seen.now behind) entries.now }
 {
-    for block in against.entries {
-        if behind != Some(*block) && !is_in(seen, *block) {
+    for block in entries {
+        if !is_come_to(seen, behind, *block) {
             return false;
         }
     }
     true
 }
 
+/// Whether the choice comes to a block: it begins behind that, or its label can be seen.
+fn is_come_to(seen: &[u32], behind: Option<u32>, block: u32) -> bool
+    ensures { result ≡ are.is_come_to seen.now behind block }
+{
+    begins(behind, block) || is_in(seen, block)
+}
+
+/// Whether a block is the one that begins there.
+fn begins(there: Option<u32>, block: u32) -> bool
+    ensures { result ≡ are.begins there block }
+{
+    match there {
+        Some(other) => other == block,
+        None => false,
+    }
+}
+
 /// Whether a list has a block.
+#[tactic(auto, using(crate::proofs::Trials::tried))]
 fn is_in(list: &[u32], block: u32) -> bool
     ensures { result ≡ are.is_in list.now block }
 {
@@ -160,14 +195,14 @@ fn is_in(list: &[u32], block: u32) -> bool
 
 /// Whether a block is gone on in: it begins behind, or is jumped to.
 fn is_reached(against: Against<'_>, seen: &[u32], behind: Option<u32>, block: u32) -> bool
-    ensures { result ≡ are.is_reached against.again.now seen.now behind block }
+    ensures { result ≡ are.is_reached against.entry.again.now seen.now behind block }
 {
-    behind == Some(block) || is_jumped_to(against, seen, block)
+    begins(behind, block) || is_jumped_to(against, seen, block)
 }
 
 /// Whether a block is jumped to: by way of the choice, or its label can be seen.
 fn is_jumped_to(against: Against<'_>, seen: &[u32], block: u32) -> bool
-    ensures { result ≡ are.is_jumped_to against.again.now seen.now block }
+    ensures { result ≡ are.is_jumped_to against.entry.again.now seen.now block }
 {
     let again = against.again.get(block as usize).copied().flatten();
     again.is_some() || is_in(seen, block)
@@ -175,8 +210,8 @@ fn is_jumped_to(against: Against<'_>, seen: &[u32], block: u32) -> bool
 
 /// Whether a block stands.
 fn block_stands(against: Against<'_>, seen: &[u32], number: u32, behind: Option<u32>) -> bool
-    ensures { result ≡ are.block_stands against.body.now against.again.now
-        (are.exit_stands against.body.now against.entries.now against.again.now seen.now behind) seen.now number }
+    ensures { result ≡ are.block_stands against.entry.body.now against.entry.again.now
+        (are.exit_stands against.entry.body.now against.entry.entries.now against.entry.again.now seen.now behind) seen.now number }
 {
     match against.body.blocks.get(number as usize) {
         Some(block) => {
@@ -195,8 +230,8 @@ fn if_stands(
     first: Option<u32>,
     behind: Option<u32>,
 ) -> bool
-    ensures { result ≡ are.block_stands against.body.now against.again.now
-        (are.side_stands against.again.now seen.now first behind) seen.now number }
+    ensures { result ≡ are.block_stands against.entry.body.now against.entry.again.now
+        (are.side_stands against.entry.again.now seen.now first behind) seen.now number }
 {
     match against.body.blocks.get(number as usize) {
         Some(block) => {
@@ -209,7 +244,7 @@ fn if_stands(
 
 /// Whether an exit goes on in blocks that are reached.
 fn exit_stands(against: Against<'_>, seen: &[u32], behind: Option<u32>, exit: &FlatExit) -> bool
-    ensures { result ≡ are.exit_stands against.body.now against.entries.now against.again.now seen.now behind exit.now }
+    ensures { result ≡ are.exit_stands against.entry.body.now against.entry.entries.now against.entry.again.now seen.now behind exit.now }
 {
     match exit {
         FlatExit::Jump(to) => is_reached(against, seen, behind, *to),
@@ -232,19 +267,20 @@ fn side_stands(
     behind: Option<u32>,
     exit: &FlatExit,
 ) -> bool
-    ensures { result ≡ are.side_stands against.again.now seen.now first behind exit.now }
+    ensures { result ≡ are.side_stands against.entry.again.now seen.now first behind exit.now }
 {
     match exit {
         FlatExit::Branch { test: _, yes, no } => {
-            first == Some(*yes) && is_reached(against, seen, behind, *no)
+            begins(first, *yes) && is_reached(against, seen, behind, *no)
         }
         _ => false,
     }
 }
 
 /// Whether the blocks are jumped to that raises of the steps go to.
+#[tactic(auto, using(crate::proofs::Trials::tried))]
 fn steps_stand(against: Against<'_>, seen: &[u32], steps: &[FlatStep]) -> bool
-    ensures { result ≡ are.each (are.step_stands against.body.now against.again.now seen.now) steps.now }
+    ensures { result ≡ are.each (are.step_stands against.entry.body.now against.entry.again.now seen.now) steps.now }
 {
     for step in steps {
         if !step_stands(against, seen, step) {
@@ -256,7 +292,7 @@ fn steps_stand(against: Against<'_>, seen: &[u32], steps: &[FlatStep]) -> bool
 
 /// Whether the block is jumped to that a raise of a step goes to.
 fn step_stands(against: Against<'_>, seen: &[u32], step: &FlatStep) -> bool
-    ensures { result ≡ are.step_stands against.body.now against.again.now seen.now step.now }
+    ensures { result ≡ are.step_stands against.entry.body.now against.entry.again.now seen.now step.now }
 {
     match raised_of(step) {
         Some(raised) => raise_stands(against, seen, raised),
@@ -266,14 +302,14 @@ fn step_stands(against: Against<'_>, seen: &[u32], step: &FlatStep) -> bool
 
 /// Whether the block of a raise is jumped to, or the raise leaves the body at once.
 fn raise_stands(against: Against<'_>, seen: &[u32], raised: Raised) -> bool
-    ensures { result ≡ are.raise_stands against.body.now against.again.now seen.now raised }
+    ensures { result ≡ are.raise_stands against.entry.body.now against.entry.again.now seen.now raised }
 {
     leaves(against.body, raised) || is_jumped_to(against, seen, raised.block)
 }
 
 /// Whether the block that a suspension goes on in is one of the entries.
 fn suspension_stands(against: Against<'_>, resume: Option<u32>) -> bool
-    ensures { result ≡ are.suspension_stands against.entries.now resume }
+    ensures { result ≡ are.suspension_stands against.entry.entries.now resume }
 {
     match resume {
         Some(block) => is_in(against.entries, block),

@@ -1,6 +1,5 @@
 -- What a shape means: the run of its pieces, by the steps and exits of the flat program.
-use Rattle.std.specs.Prelude.{ℕ, zero, suc, ◌≡◌, Bool, if◌then◌else◌, List, [], ◌∷◌, slice_get, Option, Some, None}
-use Rattle.sa_flat.specs.declared.body.FlatBlock.{FlatBlock}
+use Rattle.std.specs.Prelude.{ℕ, zero, suc, if◌then◌else◌, List, [], ◌∷◌, Option, Some, None}
 use Rattle.sa_flat.specs.declared.body.FlatBody.{FlatBody}
 use Rattle.sa_flat.specs.declared.step.FlatExit.{FlatExit}
 use Rattle.sa_flat.specs.declared.step.FlatStep.{FlatStep}
@@ -38,33 +37,38 @@ module _ (p : FlatProgram) (rows : List (List ℕ)) (go : ℕ → ℕ → Eval E
   abbrev pub run_block : FlatBody → ℕ → (jump on : Jumps) → Eval Ending
   run_block b number jump on = at_place b.blocks number >>= (λ block. run_steps block.steps block.exit jump on)
 
-  -- The pieces of a body that begins or goes on in the block `entry`. `again` tells which blocks are reached again by the choice. A loop
-  -- is begun at most as often as the level says.
-  module _ (b : FlatBody) (again : List (Option ℕ)) where
+  -- ---- loops: what is inside is run from an entry on, by what a jump does there
+
+  -- A jump to the first block begins a loop anew, from the same entry; where it begins with the choice, a jump to a block that is
+  -- reached again by that does, and the block is the entry then.
+  abbrev pub again_in : List (Option ℕ) → Option ℕ → (anew : ℕ → Eval Ending) → (entry : ℕ) → Jumps → Jumps
+  again_in again None anew entry jump block = if is_again again block then anew block else jump block
+  again_in again (Some head) anew entry jump block = reach (Some head) (anew entry) jump block
+
+  -- begun at most as often as the level says
+  abbrev pub run_loop : List (Option ℕ) → (level : ℕ) → Option ℕ → (inside : ℕ → Jumps → Eval Ending) → (entry : ℕ) → Jumps → Eval Ending
+  run_loop again zero head inside entry jump = stuck
+  run_loop again (suc level) head inside entry jump =
+      inside entry (again_in again head (λ e. run_loop again level head inside e jump) entry jump)
+
+  -- The pieces of a body that begins or goes on in the block `entry`. `again` tells which blocks are reached again by the choice, and
+  -- `level` how often each loop is begun at most.
+  module _ (b : FlatBody) (again : List (Option ℕ)) (level : ℕ) where
     abbrev mutual
-      pub run_piece : (level : ℕ) → (entry : ℕ) → Piece → Jumps → Option ℕ → Eval Ending → Eval Ending
-      run_piece level entry (Block block) jump there behind = run_block b block jump (reach there behind jump)
-      run_piece level entry (If block side) jump there behind =
-          run_block b block jump (reach (first side) (run_pieces level entry side jump None stuck) (reach there behind jump))
-      run_piece level entry (Part inside) jump there behind = run_pieces level entry inside (reach there behind jump) there behind
-      run_piece level entry (Loop inside) jump there behind = run_loop level entry inside jump
-      run_piece level entry Choice jump there behind = reach there behind jump entry
+      pub run_piece : (entry : ℕ) → Piece → Jumps → Option ℕ → Eval Ending → Eval Ending
+      run_piece entry (Block block) jump there behind = run_block b block jump (reach there behind jump)
+      run_piece entry (If block side) jump there behind =
+          run_block b block jump (reach (first side) (run_pieces entry side jump None stuck) (reach there behind jump))
+      run_piece entry (Part inside) jump there behind = run_pieces entry inside (reach there behind jump) there behind
+      run_piece entry (Loop inside) jump there behind =
+          run_loop again level (first inside) (λ e to. run_pieces e inside to None stuck) entry jump
+      run_piece entry Choice jump there behind = reach there behind jump entry
 
-      pub run_pieces : (level : ℕ) → (entry : ℕ) → Pieces → Jumps → Option ℕ → Eval Ending → Eval Ending
-      run_pieces level entry nothing jump there behind = behind
-      run_pieces level entry (q then rest) jump there behind =
-          run_piece level entry q jump (behind_piece rest there) (run_pieces level entry rest jump there behind)
-
-      -- a jump to the first block begins the loop anew; where it begins with the choice, a jump to a block that is reached by it does
-      pub run_loop : (level : ℕ) → (entry : ℕ) → Pieces → Jumps → Eval Ending
-      run_loop zero entry inside jump = stuck
-      run_loop (suc level) entry inside jump =
-          run_pieces level entry inside (again_in (first inside) (λ e. run_loop level e inside jump) entry jump) None stuck
-
-      pub again_in : Option ℕ → (ℕ → Eval Ending) → ℕ → Jumps → Jumps
-      again_in None anew entry jump block = if is_again again block then anew block else jump block
-      again_in (Some head) anew entry jump block = reach (Some head) (anew entry) jump block
+      pub run_pieces : (entry : ℕ) → Pieces → Jumps → Option ℕ → Eval Ending → Eval Ending
+      run_pieces entry nothing jump there behind = behind
+      run_pieces entry (q then rest) jump there behind =
+          run_piece entry q jump (behind_piece rest there) (run_pieces entry rest jump there behind)
 
     -- the whole shape; nothing is around it
-    abbrev pub run_shape : (level : ℕ) → (entry : ℕ) → Pieces → Eval Ending
-    run_shape level entry shape = run_pieces level entry shape (λ block. stuck) None stuck
+    abbrev pub run_shape : (entry : ℕ) → Pieces → Eval Ending
+    run_shape entry shape = run_pieces entry shape (λ block. stuck) None stuck
