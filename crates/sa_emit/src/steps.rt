@@ -83,7 +83,11 @@ impl<'a> Writer<'a> {
                 code.push(Instr::Plain(opcode::NOP))?;
             }
             turn = Turn::Nop;
-            let left = left_to(&self.at_exit(around), block, *given);
+            let here = Around {
+                labels: self.labels.as_slice(),
+                ..*around
+            };
+            let left = left_to(&here, block, *given);
             decided = left.is_some();
             self.add_step(alloc, code, around, step, *given, left)?;
         }
@@ -113,7 +117,9 @@ impl<'a> Writer<'a> {
             let here = Around {
                 given,
                 left,
-                ..self.at_exit(around)
+                readings: self.readings.as_slice(),
+                labels: self.labels.as_slice(),
+                ..*around
             };
             add_step(alloc, code, &here, step)?;
         }
@@ -138,13 +144,14 @@ impl<'a> Writer<'a> {
         Ok(())
     }
 
-    /// Around what stands behind the steps that were added last.
-    pub(crate) fn at_exit<'b>(&'b self, around: &Around<'b>) -> Around<'b> {
-        Around {
-            readings: self.readings.as_slice(),
-            labels: self.labels.as_slice(),
-            ..*around
-        }
+    /// How each temporary is read behind the steps that were added last.
+    pub(crate) fn readings(&self) -> &[Reading] {
+        self.readings.as_slice()
+    }
+
+    /// For each block whose label can be seen how much stands around what the label is of.
+    pub(crate) fn labels(&self) -> &[Option<u32>] {
+        self.labels.as_slice()
     }
 }
 

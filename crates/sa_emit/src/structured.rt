@@ -140,7 +140,12 @@ fn add_if(
         return Err(NoMemory);
     };
     writer.add_steps(alloc, code, &spot.around, number, block, spot.turn)?;
-    add_test(code, &writer.at_exit(&spot.around), test)?;
+    let here = Around {
+        readings: writer.readings(),
+        labels: writer.labels(),
+        ..spot.around
+    };
+    add_test(code, &here, test)?;
     let side = inside(alloc, writer, spot, None, list)?;
     code.push(Instr::If(None, side, Items::new(alloc)))?;
     add_going_on(code, writer, spot, no)
@@ -156,14 +161,19 @@ fn add_block(
 ) -> Result<(), NoMemory> {
     let block = held(spot.around.body.blocks.get(number as usize))?;
     let decided = writer.add_steps(alloc, code, &spot.around, number, block, spot.turn)?;
+    let here = Around {
+        readings: writer.readings(),
+        labels: writer.labels(),
+        ..spot.around
+    };
     match &block.exit {
         FlatExit::Jump(to) => add_going_on(code, writer, spot, *to),
         FlatExit::Branch { no, .. } if decided => add_going_on(code, writer, spot, *no),
         FlatExit::Branch { test, yes, no } => {
-            add_test(code, &writer.at_exit(&spot.around), *test)?;
+            add_test(code, &here, *test)?;
             add_branch(alloc, code, writer, spot, *yes, *no)
         }
-        exit => add_leaving(alloc, code, &writer.at_exit(&spot.around), exit),
+        exit => add_leaving(alloc, code, &here, exit),
     }
 }
 
@@ -177,7 +187,12 @@ fn add_going_on(
     if spot.behind == Some(block) {
         return Ok(());
     }
-    add_jump(code, &writer.at_exit(&spot.around), block)
+    let here = Around {
+        readings: writer.readings(),
+        labels: writer.labels(),
+        ..spot.around
+    };
+    add_jump(code, &here, block)
 }
 
 /// Adds what follows the test of a branch: a jump for a side, so that the other one goes on.
@@ -189,11 +204,16 @@ fn add_branch(
     yes: u32,
     no: u32,
 ) -> Result<(), NoMemory> {
+    let here = Around {
+        readings: writer.readings(),
+        labels: writer.labels(),
+        ..spot.around
+    };
     if spot.behind == Some(yes) {
         add_negation(code)?;
-        return add_jump_where(alloc, code, &writer.at_exit(&spot.around), no);
+        return add_jump_where(alloc, code, &here, no);
     }
-    add_jump_where(alloc, code, &writer.at_exit(&spot.around), yes)?;
+    add_jump_where(alloc, code, &here, yes)?;
     add_going_on(code, writer, spot, no)
 }
 
@@ -220,7 +240,11 @@ fn add_entries(
     writer: &Writer<'_>,
     spot: Spot<'_>,
 ) -> Result<(), NoMemory> {
-    let around = writer.at_exit(&spot.around);
+    let around = Around {
+        readings: writer.readings(),
+        labels: writer.labels(),
+        ..spot.around
+    };
     if spot.shaped.repeats() {
         return add_choice_again(alloc, code, &around, spot.shaped, spot.behind);
     }

@@ -170,15 +170,20 @@ fn add_block(
     let block = held(spot.around.body.blocks.get(number as usize))?;
     let turn = first_turn(spot, number)?;
     let decided = writer.add_steps(alloc, code, &spot.around, number, block, turn)?;
+    let here = Around {
+        readings: writer.readings(),
+        labels: writer.labels(),
+        ..spot.around
+    };
     match &block.exit {
         FlatExit::Jump(to) => add_going_on(code, spot, *to),
         FlatExit::Branch { no, .. } if decided => add_going_on(code, spot, *no),
         FlatExit::Branch { test, yes, no } => {
-            add_test(code, &writer.at_exit(&spot.around), *test)?;
+            add_test(code, &here, *test)?;
             add_branch(alloc, code, spot, *yes, *no)
         }
         exit => {
-            add_leaving(alloc, code, &writer.at_exit(&spot.around), exit)?;
+            add_leaving(alloc, code, &here, exit)?;
             Ok(Behind::Nothing)
         }
     }
