@@ -36,17 +36,17 @@ pub(crate) fn add_shaped(
         behind: None,
         turn: Turn::Nop,
     };
-    add_list(alloc, code, writer, spot, shaped.list.as_slice())
+    add_list(alloc, shaped.list.as_slice(), code, writer, spot)
 }
 
 /// Adds the code of a list, behind which the block of the spot begins.
 #[cycle(structured)]
 fn add_list(
     alloc: Global,
+    list: &[Shape],
     code: &mut Items<Instr>,
     writer: &mut Writer<'_>,
     spot: Spot<'_>,
-    list: &[Shape],
 ) -> Result<(), NoMemory> {
     let mut turn = spot.turn;
     for (place, shape) in list.iter().enumerate() {
@@ -57,7 +57,7 @@ fn add_list(
             turn,
             ..spot
         };
-        add_piece(alloc, code, writer, here, shape)?;
+        add_piece(alloc, shape, code, writer, here)?;
         turn = Turn::Nop;
     }
     Ok(())
@@ -66,22 +66,22 @@ fn add_list(
 #[cycle(structured)]
 fn add_piece(
     alloc: Global,
+    shape: &Shape,
     code: &mut Items<Instr>,
     writer: &mut Writer<'_>,
     spot: Spot<'_>,
-    shape: &Shape,
 ) -> Result<(), NoMemory> {
     match shape {
         Shape::Block(block) => add_block(alloc, code, writer, spot, *block),
-        Shape::If(block, list) => add_if(alloc, code, writer, spot, *block, list.as_slice()),
+        Shape::If(block, list) => add_if(alloc, list.as_slice(), code, writer, spot, *block),
         Shape::Part(list) => {
             let list = list.as_slice();
-            let body = labelled(alloc, writer, spot, spot.behind, spot.behind, list)?;
+            let body = labelled(alloc, list, writer, spot, spot.behind, spot.behind)?;
             Ok(code.push(Instr::Block(None, body))?)
         }
         Shape::Loop(list) => {
             let list = list.as_slice();
-            let body = labelled(alloc, writer, spot, first_of(list), None, list)?;
+            let body = labelled(alloc, list, writer, spot, first_of(list), None)?;
             Ok(code.push(Instr::Loop(None, body))?)
         }
         Shape::Choice => add_entries(alloc, code, writer, spot),
@@ -92,15 +92,15 @@ fn add_piece(
 #[cycle(structured)]
 fn labelled(
     alloc: Global,
+    list: &[Shape],
     writer: &mut Writer<'_>,
     spot: Spot<'_>,
     label: Option<u32>,
     behind: Option<u32>,
-    list: &[Shape],
 ) -> Result<Items<Instr>, NoMemory> {
     let depth = spot.around.nesting.depth();
     let before = writer.set_label(label, Some(depth))?;
-    let code = inside(alloc, writer, spot, behind, list)?;
+    let code = inside(alloc, list, writer, spot, behind)?;
     writer.set_label(label, before)?;
     Ok(code)
 }
@@ -109,10 +109,10 @@ fn labelled(
 #[cycle(structured)]
 fn inside(
     alloc: Global,
+    list: &[Shape],
     writer: &mut Writer<'_>,
     spot: Spot<'_>,
     behind: Option<u32>,
-    list: &[Shape],
 ) -> Result<Items<Instr>, NoMemory> {
     let inner = Spot {
         around: spot.around.further_in()?,
@@ -121,7 +121,7 @@ fn inside(
         turn: Turn::Way,
     };
     let mut code = Items::new(alloc);
-    add_list(alloc, &mut code, writer, inner, list)?;
+    add_list(alloc, list, &mut code, writer, inner)?;
     Ok(code)
 }
 
@@ -129,11 +129,11 @@ fn inside(
 #[cycle(structured)]
 fn add_if(
     alloc: Global,
+    list: &[Shape],
     code: &mut Items<Instr>,
     writer: &mut Writer<'_>,
     spot: Spot<'_>,
     number: u32,
-    list: &[Shape],
 ) -> Result<(), NoMemory> {
     let block = held(spot.around.body.blocks.get(number as usize))?;
     let FlatExit::Branch { test, yes: _, no } = block.exit else {
@@ -146,7 +146,7 @@ fn add_if(
         ..spot.around
     };
     add_test(code, &here, test)?;
-    let side = inside(alloc, writer, spot, None, list)?;
+    let side = inside(alloc, list, writer, spot, None)?;
     code.push(Instr::If(None, side, Items::new(alloc)))?;
     add_going_on(code, writer, spot, no)
 }
