@@ -1,6 +1,7 @@
 -- What include clauses bring.
-use Rattle.std.proofs.Common.{◌≡◌, ℕ, ◌+◌, ◌<◌, ◌≤◌, Bool, true, List, [], ◌∷◌, Option, None, Some, length, flat_map, get_or, slice_get, refl, sym, ap, subst, ◌∙◌, ◌⊎◌, inl, inr, arith}
+use Rattle.std.proofs.Common.{◌≡◌, ℕ, ◌+◌, ◌<◌, ◌≤◌, Bool, true, List, [], ◌∷◌, Option, None, Some, length, flat_map, get_or, slice_get, take, take_all, refl, sym, ap, subst, ◌∙◌, ◌⊎◌, inl, inr, arith}
 use Rattle.std.proofs.Math.Path.{fun_ext}
+use Rattle.std.proofs.lemmas.List.Elements.{All-more}
 use Rattle.std.proofs.lemmas.Option.{slice_get_read, slice_get_within}
 use Rattle.std.specs.List.{All}
 use Rattle.std.specs.Prelude.{MatchOption, ⊤}
@@ -27,7 +28,7 @@ use Rattle.sa_include_names.specs.declared.names.ClassNumbers.{ClassNumbers}
 use Rattle.sa_include_names.specs.Includes.{number_named}
 use Rattle.sa_include_names.specs.Names.{number_of}
 use Rattle.sa_include_names.specs.Tables.{HasNumbers, number_in}
-use Rattle.sa_include.specs.Flattened.{is_immutable}
+use Rattle.sa_include.specs.Flattened.{IsApart, is_immutable}
 use Rattle.sa_include.specs.Included.{AreIncluded, BringsAll, IsBrought, given_in, given_level, name_brought, put_by}
 
 -- ---- the types that a clause gives
@@ -88,15 +89,19 @@ clause_brings number whole c clause place included by params given same known ch
 
 -- ---- all classes
 
--- each clause of each class up to one brings all
-pub record IncludedUpTo (classes whole : List Class) (n : ℕ) : Type 0 where
+-- no two features of a class up to one conflict, and each of its clauses brings all
+pub record TriedUpTo (classes whole : List Class) (n : ℕ) : Type 0 where
+  pub apart : All IsApart (take n whole)
   pub each : (place : ℕ) (written c : Class) → place < n → slice_get classes place ≡ Some written → slice_get whole place ≡ Some c → All (BringsAll (number_of classes) whole c) written.includes
 
-pub none_included : (classes whole : List Class) → IncludedUpTo classes whole 0
-none_included classes whole = record { each = λ place written c lt. absurd (omega (arith, lt)) }
+pub none_tried : (classes whole : List Class) → TriedUpTo classes whole 0
+none_tried classes whole = record { apart = tt; each = λ place written c lt. absurd (omega (arith, lt)) }
 
-pub class_included : (classes whole : List Class) (n : ℕ) (written made : Class) (numbers : ClassNumbers) (clauses : List Include) → n < length classes → written ≡ get_or classes n written → HasNumbers classes numbers → IncludedUpTo classes whole n → slice_get whole n ≡ Some made → clauses ≡ written.includes → All (BringsAll (number_in numbers) whole made) clauses → IncludedUpTo classes whole (n + 1)
-class_included classes whole n written made numbers clauses within is numbered so_far at is_clauses brings = record { each = λ place w c lt at_w at_c. by place w c at_w at_c (near place lt) }
+pub class_tried : (classes whole : List Class) (n : ℕ) (written made : Class) (numbers : ClassNumbers) (clauses : List Include) → n < length whole → made ≡ get_or whole n made → HasNumbers classes numbers → TriedUpTo classes whole n → slice_get classes n ≡ Some written → clauses ≡ written.includes → IsApart made → All (BringsAll (number_in numbers) whole made) clauses → TriedUpTo classes whole (n + 1)
+class_tried classes whole n written made numbers clauses within is numbered so_far at is_clauses is_apart brings = record {
+  apart = All-more IsApart whole n made within so_far.apart (subst IsApart is is_apart);
+  each = λ place w c lt at_w at_c. by place w c at_w at_c (near place lt);
+}
   where
     near : (place : ℕ) → place < n + 1 → (place < n) ⊎ (n ≡ place)
     near place h = grind (arith, h)
@@ -109,16 +114,20 @@ class_included classes whole n written made numbers clauses within is numbered s
     by : (place : ℕ) (w c : Class) → slice_get classes place ≡ Some w → slice_get whole place ≡ Some c → (place < n) ⊎ (n ≡ place) → All (BringsAll (number_of classes) whole c) w.includes
     by place w c at_w at_c (inl lt) = so_far.each place w c lt at_w at_c
     by place w c at_w at_c (inr e) =
-        subst (λ (d : Class). All (BringsAll (number_of classes) whole d) w.includes) (one (sym at ∙ ap (slice_get whole) e ∙ at_c))
-        (subst (λ (v : Class). All (BringsAll (number_of classes) whole made) v.includes) (one (sym own ∙ ap (slice_get classes) e ∙ at_w)) here)
+        subst (λ (d : Class). All (BringsAll (number_of classes) whole d) w.includes) (one (sym own ∙ ap (slice_get whole) e ∙ at_c))
+        (subst (λ (v : Class). All (BringsAll (number_of classes) whole made) v.includes) (one (sym at ∙ ap (slice_get classes) e ∙ at_w)) here)
       where
-        own : slice_get classes n ≡ Some written
-        own = slice_get_read classes (length classes) n written refl within is
+        own : slice_get whole n ≡ Some made
+        own = slice_get_read whole (length whole) n made refl within is
 
         one : {x y : Class} → Some x ≡ Some y → x ≡ y
         one q = cc
 
-pub all_included : (classes whole : List Class) (n : ℕ) → length classes ≤ n → IncludedUpTo classes whole n → AreIncluded classes whole
-all_included classes whole n le so_far = record { each = λ place written c at at_c. so_far.each place written c (omega (arith, le, slice_get_within classes place written at)) at at_c }
+module _ (classes whole : List Class) (n : ℕ) (le : length whole ≤ n) (so_far : TriedUpTo classes whole n) where
+  pub all_apart : All IsApart whole
+  all_apart = subst (All IsApart) (take_all n whole le) so_far.apart
 
-pub ruleset all_classes = (none_included, class_included, all_included)
+  pub all_included : AreIncluded classes whole
+  all_included = record { each = λ place written c at at_c. so_far.each place written c (omega (arith, le, slice_get_within whole place c at_c)) at at_c }
+
+pub ruleset all_classes = (none_tried, class_tried, all_apart, all_included)

@@ -16,8 +16,7 @@ is_immutable _ = false
 abbrev pub Wins : List Feature → Feature → Type 0
 Wins features f = IsTrue (is_stub_part f.part) ⊎ Contains features f
 
--- a class has no includes, the header of the class that is written, what that class writes, no two features that conflict, and no
--- stub unless it is partial
+-- a class has no includes, the header of the class that is written, what that class writes, and no stub unless it is partial
 pub record IsFlattened (written : Class) (flat : Class) : Type 0 where
   pub kind : flat.kind ≡ written.kind
   pub name : flat.name ≡ written.name
@@ -26,9 +25,12 @@ pub record IsFlattened (written : Class) (flat : Class) : Type 0 where
   pub above : flat.above ≡ written.above
   pub includes : flat.includes ≡ []
   pub wins : All (Wins flat.features) written.features
-  pub none_clash : NoneClash (is_immutable flat.kind) flat.features
   pub no_stub : keeps_stub flat.kind flat.features ≡ false
 
 -- one for one
 abbrev pub AreFlattened : List Class → List Class → Type 0
 AreFlattened written flat = AllZip IsFlattened written flat
+
+-- no two features of a class conflict
+abbrev pub IsApart : Class → Type 0
+IsApart c = NoneClash (is_immutable c.kind) c.features

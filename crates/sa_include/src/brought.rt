@@ -1,9 +1,10 @@
-//! Each class has what its include clauses bring, tried when all classes are made.
+//! No two features of a class conflict, and each class has what its include clauses bring: both are tried when all classes are
+//! made.
 
 ghost use Rattle.std.specs.Prelude.{◌≡◌, OnOk};
 ghost use Rattle.std.specs.List.{All};
 ghost use Rattle.sa_include.specs.Changes.{HasChanges};
-ghost use Rattle.sa_include.specs.Flattened.{is_immutable};
+ghost use Rattle.sa_include.specs.Flattened.{IsApart, is_immutable};
 ghost use Rattle.sa_include.specs.Included.{AreIncluded, BringsAll, IsBrought};
 ghost use Rattle.sa_include_conflicts.specs.Brought.{HasSignatures};
 ghost use Rattle.sa_include_names.specs.Tables.{HasNumbers, number_in};
@@ -18,38 +19,40 @@ use sa_tree::{Change, Class, Feature, Include, NoMemory, Ty};
 use sa_types::Substitution;
 use std::alloc::Global;
 
-/// Tries that each class has, of each feature of a class that it includes, the one that its clause makes of it, or one that
-/// conflicts with that. `whole` are the classes without their includes.
+/// Tries that no two features of a class conflict, and that each class has, of each feature of a class that it includes, the one
+/// that its clause makes of it, or one that conflicts with that. `whole` are the classes without their includes.
 ///
 /// # Errors
 ///
 /// `NoMemory`, also where it isn't so.
 #[tactic(auto, using(crate::proofs::Bringing::all_classes))]
-pub(crate) fn try_included(
+pub(crate) fn try_whole(
     alloc: Global,
     classes: &[Class],
     whole: &[Class],
     includes: &Includes,
 ) -> Result<(), NoMemory>
     requires { HasNumbers classes.now includes.now.numbers }
-    ensures { OnOk result (AreIncluded classes.now whole.now) }
+    ensures apart { OnOk result (All IsApart whole.now) }
+    ensures included { OnOk result (AreIncluded classes.now whole.now) }
 {
-    for (place, class) in classes.iter().enumerate() {
-        let made = item(whole, place)?;
-        try_clauses(alloc, class.includes.as_slice(), made, whole, includes)?;
+    for (place, made) in whole.iter().enumerate() {
+        let class = item(classes, place)?;
+        try_class(alloc, class.includes.as_slice(), made, whole, includes)?;
     }
     Ok(())
 }
 
-/// The same of the include clauses of one class.
-fn try_clauses(
+/// The same of one class, which has these include clauses.
+fn try_class(
     alloc: Global,
     clauses: &[Include],
     made: &Class,
     whole: &[Class],
     includes: &Includes,
 ) -> Result<(), NoMemory>
-    ensures { OnOk result (All (BringsAll (number_in includes.now.numbers) whole.now made.now) clauses.now) }
+    ensures apart { OnOk result (IsApart made.now) }
+    ensures included { OnOk result (All (BringsAll (number_in includes.now.numbers) whole.now made.now) clauses.now) }
 {
     let known = try_apart(alloc, made.features.as_slice(), is_immutable(made.kind))?;
     for clause in clauses {
@@ -68,7 +71,7 @@ struct Bringing<'a> {
     immutable: bool,
 }
 
-/// The same of one of them. The features of the class have these signatures.
+/// Tries what one of them brings. The features of the class have these signatures.
 #[tactic(auto, using(crate::proofs::Bringing::clause_brings))]
 fn try_clause(
     alloc: Global,

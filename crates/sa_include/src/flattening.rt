@@ -1,14 +1,15 @@
 //! The classes of a program with their features flattened.
 
 ghost use Rattle.std.specs.Prelude.{◌≡◌, Err, IfOk, OnOk, true};
+ghost use Rattle.std.specs.List.{All};
 ghost use Rattle.sa_tree.specs.declared.refusal.FrontFault.TheVariants.{Refused};
 ghost use Rattle.sa_tree.specs.declared.refusal.Refusal.{Refusal};
-ghost use Rattle.sa_include.specs.Flattened.{AreFlattened};
+ghost use Rattle.sa_include.specs.Flattened.{AreFlattened, IsApart};
 ghost use Rattle.sa_include.specs.Included.{AreIncluded};
 ghost use Rattle.sa_include.specs.Refusals.{RefusesIncludes, is_of_class};
 ghost use Rattle.sa_include_names.specs.Refusals.{AreIncludesRight};
 
-use crate::brought::try_included;
+use crate::brought::try_whole;
 use crate::budget::Budget;
 use crate::class::flatten_class;
 use crate::resolved::{Flattened, Program};
@@ -34,6 +35,7 @@ use std::alloc::Global;
 #[tactic(auto, using(crate::proofs::Refusing::refusing))]
 pub fn flatten(alloc: Global, classes: &[Class]) -> Result<Flat, FrontFault>
     ensures flattened { IfOk result (λ flat. AreFlattened classes.now flat.classes) }
+    ensures apart { IfOk result (λ flat. All IsApart flat.classes) }
     ensures included { IfOk result (λ flat. AreIncluded classes.now flat.classes) }
     ensures right { OnOk result (AreIncludesRight classes.now) }
     ensures refused { (refusal : Refusal) → result ≡ Err (Refused refusal) → RefusesIncludes classes.now refusal }
@@ -41,7 +43,7 @@ pub fn flatten(alloc: Global, classes: &[Class]) -> Result<Flat, FrontFault>
     let includes = Includes::new(alloc, classes)?;
     let resolved = resolved(alloc, classes, &includes)?;
     let whole = whole_classes(alloc, classes, resolved)?;
-    try_included(alloc, classes, whole.as_slice(), &includes)?;
+    try_whole(alloc, classes, whole.as_slice(), &includes)?;
     Ok(Flat { classes: whole })
 }
 

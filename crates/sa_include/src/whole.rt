@@ -3,14 +3,13 @@
 
 ghost use Rattle.std.specs.Prelude.{◌≡◌, IfOk, IsTrue, OnOk, false};
 ghost use Rattle.std.specs.List.{All};
-ghost use Rattle.sa_include_conflicts.specs.Clashes.{NoneClash};
 ghost use Rattle.sa_include_conflicts.specs.Stub.{is_stub_part, keeps_stub};
 ghost use Rattle.sa_include.specs.Flattened.{IsFlattened, Wins, is_immutable};
 ghost use Rattle.sa_include.specs.Parts.{PutsNothing};
 
 use crate::resolved::Flattened;
 use crate::substitute::subst_part;
-use sa_include_conflicts::{is_set, is_stub, keeps_stub, try_apart};
+use sa_include_conflicts::{is_set, is_stub, keeps_stub};
 use sa_tree::{Class, Feature, Formal, Kind, Local, NoMemory, Param, Ty};
 use sa_types::Substitution;
 use sqlite_items::Items;
@@ -29,7 +28,7 @@ pub(crate) fn whole_class(
     let Flattened { brought, stays, .. } = flattened;
     let written = class.features.as_slice();
     let features = with_written(alloc, brought, written, &stays, nothing)?;
-    try_features(alloc, class.kind, features.as_slice())?;
+    try_stubs(class.kind, features.as_slice())?;
     Ok(Class {
         kind: class.kind,
         name: copy_local(alloc, &class.name)?,
@@ -41,16 +40,13 @@ pub(crate) fn whole_class(
     })
 }
 
-/// Tries that no two of the features of a class conflict, and that a class that isn't partial has no stub. A class of which that
-/// doesn't hold has been refused.
-fn try_features(alloc: Global, kind: Kind, features: &[Feature]) -> Result<(), NoMemory>
-    ensures none_clash { OnOk result (NoneClash (is_immutable kind) features.now) }
-    ensures no_stub { OnOk result (keeps_stub kind features.now ≡ false) }
+/// Tries that a class of this kind has no stub, unless it is partial. A class that has one has been refused.
+fn try_stubs(kind: Kind, features: &[Feature]) -> Result<(), NoMemory>
+    ensures { OnOk result (keeps_stub kind features.now ≡ false) }
 {
     if keeps_stub(kind, features) {
         return Err(NoMemory);
     }
-    try_apart(alloc, features, is_immutable(kind))?;
     Ok(())
 }
 
