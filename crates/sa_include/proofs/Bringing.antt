@@ -1,7 +1,7 @@
 -- What include clauses bring.
 use Rattle.std.proofs.Common.{◌≡◌, ℕ, ◌+◌, ◌<◌, ◌≤◌, Bool, true, List, [], ◌∷◌, Option, None, Some, length, flat_map, get_or, slice_get, take, take_all, refl, sym, ap, subst, ◌∙◌, ◌⊎◌, inl, inr, arith}
 use Rattle.std.proofs.Math.Path.{fun_ext}
-use Rattle.std.proofs.lemmas.List.Elements.{All-more}
+use Rattle.std.proofs.lemmas.List.Elements.{All-more, All-nil}
 use Rattle.std.proofs.lemmas.Option.{slice_get_read, slice_get_within}
 use Rattle.std.specs.List.{All}
 use Rattle.std.specs.Prelude.{MatchOption, ⊤}
@@ -21,6 +21,7 @@ use Rattle.sa_types.specs.Substitution.{given_for, substituted}
 use Rattle.sa_types.specs.Table.{IsTableFor, put_in, value_in}
 use Rattle.sa_types.specs.declared.sig.Sig.{Sig}
 use Rattle.sa_types.specs.declared.substitution.Substitution.{Substitution}
+use Rattle.sa_include_conflicts.specs.Clashes.{NoneClash}
 use Rattle.sa_include_conflicts.specs.Brought.{HasSignatures, has_brought}
 use Rattle.sa_include_conflicts.specs.Known.{signatures_of}
 use Rattle.sa_include_conflicts.specs.declared.apart.Known.{Known}
@@ -89,13 +90,18 @@ clause_brings number whole c clause place included by params given same known ch
 
 -- ---- all classes
 
+-- the features of a class were tried, as those of one that is immutable or isn't
+pub is_apart : (c : Class) (immutable : Bool) (features : List Feature) → immutable ≡ is_immutable c.kind → features ≡ c.features → NoneClash immutable features → IsApart c
+is_apart c immutable features is_immutable_class is_features none =
+    subst (λ b. NoneClash b c.features) is_immutable_class (subst (NoneClash immutable) is_features none)
+
 -- no two features of a class up to one conflict, and each of its clauses brings all
 pub record TriedUpTo (classes whole : List Class) (n : ℕ) : Type 0 where
   pub apart : All IsApart (take n whole)
   pub each : (place : ℕ) (written c : Class) → place < n → slice_get classes place ≡ Some written → slice_get whole place ≡ Some c → All (BringsAll (number_of classes) whole c) written.includes
 
 pub none_tried : (classes whole : List Class) → TriedUpTo classes whole 0
-none_tried classes whole = record { apart = tt; each = λ place written c lt. absurd (omega (arith, lt)) }
+none_tried classes whole = record { apart = All-nil IsApart; each = λ place written c lt. absurd (omega (arith, lt)) }
 
 pub class_tried : (classes whole : List Class) (n : ℕ) (written made : Class) (numbers : ClassNumbers) (clauses : List Include) → n < length whole → made ≡ get_or whole n made → HasNumbers classes numbers → TriedUpTo classes whole n → slice_get classes n ≡ Some written → clauses ≡ written.includes → IsApart made → All (BringsAll (number_in numbers) whole made) clauses → TriedUpTo classes whole (n + 1)
 class_tried classes whole n written made numbers clauses within is numbered so_far at is_clauses is_apart brings = record {

@@ -44,6 +44,7 @@ pub(crate) fn try_whole(
 }
 
 /// The same of one class, which has these include clauses.
+#[tactic(auto, using(crate::proofs::Bringing::is_apart))]
 fn try_class(
     alloc: Global,
     clauses: &[Include],
