@@ -1,5 +1,5 @@
 -- The table of the changes of an include clause.
-use Rattle.std.specs.Prelude.{◌≡◌, ℕ, List, Option, None, Some, cond, is_some, nat_eq, slice_get}
+use Rattle.std.specs.Prelude.{◌≡◌, true, false, ℕ, List, Option, None, Some, cond, is_some, nat_eq, slice_get}
 use Rattle.std.specs.Cmp.Lexicographic.{pointwise}
 use Rattle.std.specs.Option.{option_and_then}
 use Rattle.indexmap.specs.IndexMap.{get}

@@ -103,7 +103,8 @@ fn try_clause(
         by,
         immutable: is_immutable(made.kind),
     };
-    try_features(alloc, included.features.as_slice(), &bringing, known)
+    try_features(alloc, included.features.as_slice(), &bringing, known)?;
+    Ok(())
 }
 
 /// Tries of each of these features that it is brought.
