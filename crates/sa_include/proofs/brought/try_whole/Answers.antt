@@ -5,7 +5,7 @@ pub loop-place-preserved : goal.loop-place-preserved
 loop-place-preserved c =
     class_tried c.args.classes.now c.args.whole.now c.loop-place.place c.in_ok-class.class.now c.index-whole-place.result
     c.args.includes.now.numbers c.as_slice.result.now c.loop-place-test.true c.index-whole-place.is c.requires c.loop-place.invariant
-    c.in_ok-class.ensures c.as_slice.ensures.value c.in_ok-try_class.ensures.apart c.in_ok-try_class.ensures.included
+    c.in_ok-class.ensures c.as_slice.ensures c.in_ok-try_class.ensures.apart c.in_ok-try_class.ensures.included
 
 pub returns-clause-apart : goal.returns-clause-apart
 returns-clause-apart c =
