@@ -1,1 +1,5 @@
 pub mod WrittenLemmas
+pub mod Nothing
+pub mod Refusing
+pub mod Renamings
+pub mod Bringing

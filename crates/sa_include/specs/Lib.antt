@@ -1,1 +1,5 @@
+pub mod Parts
 pub mod Flattened
+pub mod Included
+pub mod Changes
+pub mod Refusals

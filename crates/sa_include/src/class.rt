@@ -2,13 +2,14 @@
 //! that it writes conflict (E11), two that its includes bring do or both have an array part (E17), or a stub is left.
 
 use crate::clause::{Gathered, gather};
+use crate::refused::{ClassRefusal, ClassRule};
 use crate::resolved::{Flattened, Program};
 use crate::substitute::Maker;
 use sa_graph::entry;
 use sa_include_conflicts::{
     ClassFeatures, Conflicts, first_conflict, group_features, is_set, item, staying, stub_left,
 };
-use sa_tree::{Class, Feature, Kind, NoMemory, Pos, Refusal, Rule, Ty};
+use sa_tree::{Class, Feature, Kind, NoMemory, Pos, Ty};
 use sqlite_items::Items;
 use std::alloc::{AllocError, Global};
 
@@ -22,7 +23,9 @@ pub(crate) fn flatten_class(
 ) -> Result<Flattened, NoMemory> {
     let class = item(program.classes, number as usize)?;
     let gathered = gather(alloc, program, resolved, maker, number)?;
-    let arrays = program.includes.second_with_array(number);
+    let arrays = program
+        .includes
+        .second_with_array(class.includes.as_slice());
     let judged = judge(alloc, class, &gathered, arrays)?;
     kept(alloc, gathered, judged)
 }
@@ -31,7 +34,7 @@ pub(crate) fn flatten_class(
 #[derive(Drop)]
 struct Judged {
     stays: Vec<bool>,
-    refusal: Option<Refusal>,
+    refusal: Option<ClassRefusal>,
 }
 
 /// Which features stay of those that the includes of a class bring and of those that it writes. `arrays` is the second of
@@ -64,7 +67,7 @@ fn judge(
     if refusal.is_some() {
         return Ok(Judged { stays, refusal });
     }
-    let refusal = stub_left(class.kind, &features, &stays)?;
+    let refusal = stub_refused(class.kind, &features, &stays)?;
     Ok(Judged { stays, refusal })
 }
 
@@ -74,13 +77,13 @@ fn written_refused(
     features: &ClassFeatures<'_>,
     conflicts: &Conflicts,
     stays: &[bool],
-) -> Result<Option<Refusal>, NoMemory> {
+) -> Result<Option<ClassRefusal>, NoMemory> {
     let first = features.brought.len();
     let Some(place) = first_conflict(alloc, conflicts, stays, first, features.len())? else {
         return Ok(None);
     };
     let pos = features.at(place)?.name.pos;
-    Ok(Some(Rule::FeaturesConflict.at(pos)))
+    Ok(Some(ClassRule::FeaturesConflict.at(pos)))
 }
 
 /// The first include clause that is refused: the one that brings the first brought feature that conflicts with an earlier
@@ -101,12 +104,25 @@ fn refused_clause(
 }
 
 /// The refusal of an include clause at its type.
-fn clause_refused(class: &Class, clause: Option<usize>) -> Result<Option<Refusal>, NoMemory> {
+fn clause_refused(class: &Class, clause: Option<usize>) -> Result<Option<ClassRefusal>, NoMemory> {
     let Some(clause) = clause else {
         return Ok(None);
     };
     let include = item(class.includes.as_slice(), clause)?;
-    Ok(Some(Rule::IncludedFeaturesConflict.at(pos_of(&include.ty))))
+    let pos = pos_of(&include.ty);
+    Ok(Some(ClassRule::IncludedFeaturesConflict.at(pos)))
+}
+
+/// The refusal of the first stub that is left.
+fn stub_refused(
+    kind: Kind,
+    features: &ClassFeatures<'_>,
+    stays: &[bool],
+) -> Result<Option<ClassRefusal>, NoMemory> {
+    match stub_left(kind, features, stays)? {
+        Some(pos) => Ok(Some(ClassRule::StubLeft.at(pos))),
+        None => Ok(None),
+    }
 }
 
 fn pos_of(ty: &Ty) -> Pos {

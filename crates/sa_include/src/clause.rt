@@ -1,10 +1,14 @@
 //! The features that the include clauses of a class bring.
 
+ghost use Rattle.std.specs.Prelude.{◌≡◌};
+ghost use Rattle.sa_include.specs.Included.{given_in};
+
+use crate::refused::ClassRefusal;
 use crate::renamed::{Renaming, access_after, name_after};
 use crate::resolved::{Flattened, Program};
 use crate::substitute::{Included, Maker, Renamed, TypeArguments};
 use sa_include_conflicts::{is_set, item};
-use sa_tree::{Class, Feature, Include, NoMemory, Refusal, Ty, held};
+use sa_tree::{Class, Feature, Include, NoMemory, Ty, held};
 use std::alloc::Global;
 
 /// What the include clauses of a class bring, before anything is replaced.
@@ -16,7 +20,7 @@ pub(crate) struct Gathered {
     /// The place of the clause that brings each feature.
     pub(crate) clauses: Vec<usize>,
     /// The refusal of the first change that is none of a feature that its clause brings.
-    pub(crate) refusal: Option<Refusal>,
+    pub(crate) refusal: Option<ClassRefusal>,
 }
 
 /// What the include clauses of a class bring, which has this number.
@@ -36,7 +40,7 @@ pub(crate) fn gather<'a>(
     };
     let same = Ty::Same(class.name.pos);
     for (place, include) in class.includes.as_slice().iter().enumerate() {
-        let included = held(program.includes.included(number, place))?;
+        let included = held(program.includes.included(&include.ty))?;
         let source = source_of(program, resolved, included)?;
         bring_clause(alloc, &source, include, place, &same, maker, &mut gathered)?;
     }
@@ -70,7 +74,7 @@ impl Gathered {
     }
 
     /// Keeps the refusal of a clause, where there is none of an earlier one.
-    fn refuse(&mut self, refusal: Option<Refusal>) {
+    fn refuse(&mut self, refusal: Option<ClassRefusal>) {
         if self.refusal.is_none() {
             self.refusal = refusal;
         }
@@ -187,10 +191,15 @@ impl<'a> Clause<'a> {
     }
 }
 
-/// The parameters that are given to an included class.
-fn given_in(ty: &Ty) -> &[Ty] {
+/// The types that are given to an included class.
+#[tactic(auto, using(crate::proofs::Bringing::givens))]
+pub(crate) fn given_in(ty: &Ty) -> &[Ty]
+    ensures { result.now ≡ given_in ty.now }
+{
     match ty {
         Ty::Named(_, given, _) => given.as_slice(),
-        _ => &[],
+        Ty::Same(_) => &[],
+        Ty::Rout(_, _, _) => &[],
+        Ty::Iter(_, _, _) => &[],
     }
 }

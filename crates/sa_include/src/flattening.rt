@@ -1,8 +1,15 @@
 //! The classes of a program with their features flattened.
 
-ghost use Rattle.std.specs.Prelude.{IfOk};
-ghost use Rattle.sa_include.specs.Flattened.{AreFlattened};
+ghost use Rattle.std.specs.Prelude.{◌≡◌, Err, IfOk, OnOk, true};
+ghost use Rattle.std.specs.List.{All};
+ghost use Rattle.sa_tree.specs.declared.refusal.FrontFault.TheVariants.{Refused};
+ghost use Rattle.sa_tree.specs.declared.refusal.Refusal.{Refusal};
+ghost use Rattle.sa_include.specs.Flattened.{AreFlattened, IsApart};
+ghost use Rattle.sa_include.specs.Included.{AreIncluded};
+ghost use Rattle.sa_include.specs.Refusals.{RefusesIncludes, is_of_class};
+ghost use Rattle.sa_include_names.specs.Refusals.{AreIncludesRight};
 
+use crate::brought::try_whole;
 use crate::budget::Budget;
 use crate::class::flatten_class;
 use crate::resolved::{Flattened, Program};
@@ -25,14 +32,19 @@ use std::alloc::Global;
 /// The first refusal by the rules of classes: E10 for all classes, then E12 for all names in headers and include clauses,
 /// then E15, then per class in text order E16, E11, E17 and E22; or `NoMemory`, also where the includes bring more than
 /// [`MOST_FORMS`](crate::MOST_FORMS).
+#[tactic(auto, using(crate::proofs::Refusing::refusing))]
 pub fn flatten(alloc: Global, classes: &[Class]) -> Result<Flat, FrontFault>
     ensures flattened { IfOk result (λ flat. AreFlattened classes.now flat.classes) }
+    ensures apart { IfOk result (λ flat. All IsApart flat.classes) }
+    ensures included { IfOk result (λ flat. AreIncluded classes.now flat.classes) }
+    ensures right { OnOk result (AreIncludesRight classes.now) }
+    ensures refused { (refusal : Refusal) → result ≡ Err (Refused refusal) → RefusesIncludes classes.now refusal }
 {
     let includes = Includes::new(alloc, classes)?;
     let resolved = resolved(alloc, classes, &includes)?;
-    Ok(Flat {
-        classes: whole_classes(alloc, classes, resolved)?,
-    })
+    let whole = whole_classes(alloc, classes, resolved)?;
+    try_whole(alloc, classes, whole.as_slice(), &includes)?;
+    Ok(Flat { classes: whole })
 }
 
 /// The classes with their includes resolved, in the order of their numbers.
@@ -44,7 +56,9 @@ fn resolved(
     alloc: Global,
     classes: &[Class],
     includes: &Includes,
-) -> Result<Vec<Flattened>, FrontFault> {
+) -> Result<Vec<Flattened>, FrontFault>
+    ensures { (refusal : Refusal) → result ≡ Err (Refused refusal) → is_of_class refusal.rule ≡ true }
+{
     let params = all_params(alloc, classes)?;
     let open = open_in_all(alloc, classes, &params)?;
     let program = Program {
@@ -69,7 +83,9 @@ fn resolve(
     alloc: Global,
     program: &Program<'_>,
     maker: &mut Maker<'_>,
-) -> Result<Vec<Flattened>, FrontFault> {
+) -> Result<Vec<Flattened>, FrontFault>
+    ensures { (refusal : Refusal) → result ≡ Err (Refused refusal) → is_of_class refusal.rule ≡ true }
+{
     let mut resolved = unresolved(alloc, program.classes.len())?;
     let mut accepted = 0;
     for number in program.includes.order() {
@@ -127,11 +143,13 @@ fn open_in(alloc: Global, features: &[Feature], params: &Weights) -> Result<Vec<
 
 /// The number of the first class from this one on that isn't gone through, or how many classes there are. The first class
 /// before it that has a refusal is refused.
-fn accepted_up_to(resolved: &[Flattened], from: usize) -> Result<usize, FrontFault> {
+fn accepted_up_to(resolved: &[Flattened], from: usize) -> Result<usize, FrontFault>
+    ensures { (refusal : Refusal) → result ≡ Err (Refused refusal) → is_of_class refusal.rule ≡ true }
+{
     for number in from..resolved.len() {
         let flattened = item(resolved, number)?;
-        if let Some(refusal) = flattened.refusal {
-            return Err(FrontFault::Refused(refusal));
+        if let Some(refused) = &flattened.refusal {
+            return Err(FrontFault::Refused(refused.refusal()));
         }
         if !flattened.done {
             return Ok(number);
@@ -141,6 +159,7 @@ fn accepted_up_to(resolved: &[Flattened], from: usize) -> Result<usize, FrontFau
 }
 
 /// The classes without includes, each with the features that its includes bring and those of its own that stay.
+#[tactic(auto, using(crate::proofs::Nothing::puts_nothing))]
 fn whole_classes(
     alloc: Global,
     classes: &[Class],

@@ -1,10 +1,12 @@
 //! Includes: the classes of a program without their include clauses, each with all the features that it has.
 #![tactic(auto)]
 
+mod brought;
 mod budget;
 mod class;
 mod clause;
 mod flattening;
+mod refused;
 mod renamed;
 mod resolved;
 mod size;

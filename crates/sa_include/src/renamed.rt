@@ -1,10 +1,17 @@
 //! The changes of an include clause: what an included feature is called, and who sees it. A change is of a feature that the
 //! clause brings, and its two names are both those of iters or neither is (else E16).
 
+ghost use Rattle.std.specs.Prelude.{◌≡◌, IfOk, OnOk};
+ghost use Rattle.std.specs.Option.{option_copied};
+ghost use Rattle.sa_include.specs.Changes.{AddsChange, HasChanges};
+ghost use Rattle.sa_include.specs.Included.{name_brought};
+
+use crate::refused::{ClassRefusal, ClassRule};
 use indexmap::IndexMap;
 use sa_graph::put;
 use sa_include_conflicts::is_set;
-use sa_tree::{Access, Change, Include, Name, NoMemory, Refusal, Rule};
+use sa_tree::{Access, Change, Include, Name, NoMemory};
+use sqlite_items::at;
 use std::alloc::{AllocError, Global};
 
 /// The changes of an include clause, found by the names that they change.
@@ -17,7 +24,10 @@ pub(crate) struct Renaming {
 }
 
 impl Renaming {
-    pub(crate) fn new(alloc: Global, changes: &[Change]) -> Result<Renaming, NoMemory> {
+    #[tactic(auto, using(crate::proofs::Renamings::changes_added))]
+    pub(crate) fn new(alloc: Global, changes: &[Change]) -> Result<Renaming, NoMemory>
+        ensures { IfOk result (HasChanges changes.now) }
+    {
         let mut renaming = Renaming {
             first: IndexMap::new(alloc),
             met: vec![in alloc; false; changes.len()]?,
@@ -28,12 +38,35 @@ impl Renaming {
         Ok(renaming)
     }
 
-    fn add(&mut self, alloc: Global, name: &Name, place: usize) -> Result<(), NoMemory> {
-        if self.first.get(name).is_some() {
-            return Ok(());
+    #[tactic(auto, using(crate::proofs::Renamings::one_added))]
+    fn add(&mut self, alloc: Global, name: &Name, place: usize) -> Result<(), NoMemory>
+        ensures { OnOk result (AddsChange name.now place self.old self.new) }
+    {
+        match self.first.get(name).copied() {
+            Some(_) => Ok(()),
+            None => {
+                self.first.insert(name.copy(alloc)?, place)?;
+                Ok(())
+            }
         }
-        self.first.insert(name.copy(alloc)?, place)?;
-        Ok(())
+    }
+
+    /// What a feature is called that the clause brings, or None where a change leaves it out.
+    #[tactic(auto, using(crate::proofs::Renamings::names))]
+    pub(crate) fn name_of<'a>(&self, name: &'a Name, changes: &'a [Change]) -> Option<&'a Name>
+        requires { HasChanges changes.now self.now }
+        ensures { option_copied result ≡ name_brought changes.now name.now }
+    {
+        let Some(place) = self.first.get(name).copied() else {
+            return Some(name);
+        };
+        let Some(change) = at(changes, place) else {
+            return Some(name);
+        };
+        match &change.to {
+            Some(to) => Some(to),
+            None => None,
+        }
     }
 
     /// The change of the features of this name that the clause brings.
@@ -50,10 +83,10 @@ impl Renaming {
     }
 
     /// The refusal of the first change, in text order, that isn't one of a feature that the clause brings.
-    pub(crate) fn refused(&self, changes: &[Change]) -> Option<Refusal> {
+    pub(crate) fn refused(&self, changes: &[Change]) -> Option<ClassRefusal> {
         for change in changes {
             if !self.is_met(&change.from.name) || !keeps_the_kind(change) {
-                return Some(Rule::NoSuchIncludedFeature.at(change.from.pos));
+                return Some(ClassRule::NoSuchIncludedFeature.at(change.from.pos));
             }
         }
         None

@@ -1,7 +1,8 @@
 //! The classes of a program while their includes are gone through.
 
+use crate::refused::ClassRefusal;
 use sa_include_names::Includes;
-use sa_tree::{Class, Feature, Refusal};
+use sa_tree::{Class, Feature};
 use sqlite_items::Items;
 use std::alloc::Global;
 
@@ -15,7 +16,7 @@ pub(crate) struct Flattened {
     /// For each feature that the class writes whether it stays.
     pub(crate) stays: Vec<bool>,
     /// The first refusal of the class.
-    pub(crate) refusal: Option<Refusal>,
+    pub(crate) refusal: Option<ClassRefusal>,
     /// Whether the class was gone through.
     pub(crate) done: bool,
 }

@@ -1,6 +1,12 @@
 //! What an included feature is in the including class: types with the given ones in place of the included class's parameters,
 //! and statements that are shared where nothing in them changes.
 
+ghost use Rattle.std.specs.Prelude.{◌≡◌, IfOk};
+ghost use Rattle.std.specs.Option.{option_map};
+ghost use Rattle.sa_types.specs.Table.{put_in};
+ghost use Rattle.sa_instance.specs.Trees.{expr_with};
+ghost use Rattle.sa_include.specs.Parts.{part_with};
+
 use crate::budget::{Budget, FEATURE_FORMS};
 use crate::size::{
     size_of_formals, size_of_optional_type, size_of_stmts, size_of_type, size_of_value,
@@ -210,7 +216,9 @@ pub(crate) fn subst_part(
     alloc: Global,
     part: &Part,
     by: &Substitution<'_>,
-) -> Result<Part, NoMemory> {
+) -> Result<Part, NoMemory>
+    ensures { IfOk result (λ copy. copy ≡ part_with (put_in by.now) part.now) }
+{
     match part {
         Part::Routine(body) => Ok(Part::Routine(body.share()?)),
         Part::Signature => Ok(Part::Signature),
@@ -229,7 +237,9 @@ fn subst_optional_expr(
     alloc: Global,
     e: &Option<Expr>,
     by: &Substitution<'_>,
-) -> Result<Option<Expr>, NoMemory> {
+) -> Result<Option<Expr>, NoMemory>
+    ensures { IfOk result (λ copy. copy ≡ option_map (expr_with (put_in by.now)) e.now) }
+{
     match e {
         None => Ok(None),
         Some(e) => Ok(Some(subst_expr(alloc, e, by)?)),

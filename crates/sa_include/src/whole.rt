@@ -1,15 +1,16 @@
 //! A class without its includes: its header, the features that its includes bring, and those that it writes itself, but for
 //! its stubs that are replaced.
 
-ghost use Rattle.std.specs.Prelude.{◌≡◌, IfOk, IsTrue};
+ghost use Rattle.std.specs.Prelude.{◌≡◌, IfOk, IsTrue, OnOk, false};
 ghost use Rattle.std.specs.List.{All};
-ghost use Rattle.sa_include_conflicts.specs.Stub.{is_stub_part};
-ghost use Rattle.sa_include.specs.Flattened.{IsFlattened, Wins, head_of};
+ghost use Rattle.sa_include_conflicts.specs.Stub.{is_stub_part, keeps_stub};
+ghost use Rattle.sa_include.specs.Flattened.{IsFlattened, Wins, is_immutable};
+ghost use Rattle.sa_include.specs.Parts.{PutsNothing};
 
 use crate::resolved::Flattened;
 use crate::substitute::subst_part;
-use sa_include_conflicts::{is_set, is_stub};
-use sa_tree::{Class, Feature, Formal, Local, NoMemory, Param, Ty};
+use sa_include_conflicts::{is_set, is_stub, keeps_stub};
+use sa_tree::{Class, Feature, Formal, Kind, Local, NoMemory, Param, Ty};
 use sa_types::Substitution;
 use sqlite_items::Items;
 use std::alloc::{AllocError, Global};
@@ -21,11 +22,13 @@ pub(crate) fn whole_class(
     flattened: Flattened,
     nothing: &Substitution<'_>,
 ) -> Result<Class, NoMemory>
+    requires { PutsNothing nothing.now }
     ensures { IfOk result (λ flat. IsFlattened class.now flat) }
 {
     let Flattened { brought, stays, .. } = flattened;
     let written = class.features.as_slice();
     let features = with_written(alloc, brought, written, &stays, nothing)?;
+    try_stubs(class.kind, features.as_slice())?;
     Ok(Class {
         kind: class.kind,
         name: copy_local(alloc, &class.name)?,
@@ -37,6 +40,27 @@ pub(crate) fn whole_class(
     })
 }
 
+/// Tries that a class of this kind has no stub, unless it is partial. A class that has one has been refused.
+fn try_stubs(kind: Kind, features: &[Feature]) -> Result<(), NoMemory>
+    ensures { OnOk result (keeps_stub kind features.now ≡ false) }
+{
+    if keeps_stub(kind, features) {
+        return Err(NoMemory);
+    }
+    Ok(())
+}
+
+pub(crate) fn is_immutable(kind: Kind) -> bool
+    ensures { result ≡ is_immutable kind }
+{
+    match kind {
+        Kind::Reference => false,
+        Kind::Immutable => true,
+        Kind::Abstract => false,
+        Kind::Partial => false,
+    }
+}
+
 /// The features that the includes of a class bring, and behind them those that it writes, but for its stubs that don't stay.
 fn with_written(
     alloc: Global,
@@ -45,6 +69,7 @@ fn with_written(
     stays: &[bool],
     nothing: &Substitution<'_>,
 ) -> Result<Items<Feature>, NoMemory>
+    requires { PutsNothing nothing.now }
     ensures { IfOk result (λ features. All (Wins features) written.now) }
 {
     let mut features = brought;
@@ -65,12 +90,14 @@ fn is_replaced_stub(feature: &Feature, stays: bool) -> bool
 }
 
 /// A feature once more. Its statements are shared.
+#[tactic(auto, using(crate::proofs::Nothing::part_nothing))]
 fn copy_feature(
     alloc: Global,
     feature: &Feature,
     nothing: &Substitution<'_>,
 ) -> Result<Feature, NoMemory>
-    ensures { IfOk result (λ copy. head_of copy ≡ head_of feature.now) }
+    requires { PutsNothing nothing.now }
+    ensures { IfOk result (λ copy. copy ≡ feature.now) }
 {
     Ok(Feature {
         name: copy_local(alloc, &feature.name)?,

@@ -1,6 +1,7 @@
 //! The features of a class before any replaces another, and which of them are stubs.
 
-ghost use Rattle.std.specs.Prelude.{◌≡◌};
+ghost use Rattle.std.specs.Prelude.{◌≡◌, IfOk, Some, length, slice_get};
+ghost use Rattle.sa_include_conflicts.specs.Sharing.{all_features};
 ghost use Rattle.sa_include_conflicts.specs.Stub.{is_stub_part};
 
 use crate::lists::item;
@@ -20,8 +21,10 @@ pub struct ClassFeatures<'a> {
 
 impl<'a> ClassFeatures<'a> {
     /// How many there are.
-    pub fn len(&self) -> usize {
-        self.brought.len().saturating_add(self.written.len())
+    pub fn len(&self) -> usize
+        ensures { result ≡ length (all_features self.now) }
+    {
+        self.brought.len() + self.written.len()
     }
 
     /// The feature at a place.
@@ -29,11 +32,15 @@ impl<'a> ClassFeatures<'a> {
     /// # Errors
     ///
     /// `NoMemory` where there is none.
-    pub fn at(&self, place: usize) -> Result<&'a Feature, NoMemory> {
-        match place.checked_sub(self.brought.len()) {
-            None => item(self.brought, place),
-            Some(written) => item(self.written, written),
+    #[tactic(auto, using(crate::proofs::Places::places))]
+    pub fn at(&self, place: usize) -> Result<&'a Feature, NoMemory>
+        ensures { IfOk result (λ feature. slice_get (all_features self.now) place ≡ Some feature.now) }
+    {
+        let brought = self.brought.len();
+        if place < brought {
+            return item(self.brought, place);
         }
+        item(self.written, place - brought)
     }
 
     /// Whether there is a stub at a place.

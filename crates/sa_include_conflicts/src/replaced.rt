@@ -3,6 +3,7 @@
 
 use crate::conflicts::Conflicts;
 use crate::features::ClassFeatures;
+use crate::groups::Marks;
 use crate::lists::is_set;
 use sa_graph::put;
 use sa_tree::NoMemory;
@@ -23,7 +24,7 @@ pub fn staying(
     let mut replacement = Replacement {
         features,
         conflicts,
-        taken: vec![in alloc; false; conflicts.count]?,
+        taken: Marks::none(alloc, conflicts.count)?,
     };
     // Each kind is replaced by those before it, so that a feature that is replaced replaces none.
     replacement.take(&stays, false, brought, all)?;
@@ -40,7 +41,7 @@ struct Replacement<'a> {
     features: &'a ClassFeatures<'a>,
     conflicts: &'a Conflicts,
     /// The groups of the features that replace what conflicts with them.
-    taken: Vec<bool>,
+    taken: Marks,
 }
 
 impl<'a> Replacement<'a> {
@@ -54,7 +55,8 @@ impl<'a> Replacement<'a> {
     ) -> Result<(), NoMemory> {
         for place in from..to {
             if self.features.is_stub(place) == stubs && is_set(stays, place) {
-                self.conflicts.at(place)?.mark(&mut self.taken)?;
+                let groups = self.conflicts.at(place)?;
+                self.taken.add(&groups)?;
             }
         }
         Ok(())
@@ -69,9 +71,8 @@ impl<'a> Replacement<'a> {
         to: usize,
     ) -> Result<(), NoMemory> {
         for place in from..to {
-            if self.features.is_stub(place) == stubs
-                && self.conflicts.at(place)?.is_marked(&self.taken)
-            {
+            let groups = self.conflicts.at(place)?;
+            if self.features.is_stub(place) == stubs && self.taken.has(&groups) {
                 put(stays, place, false)?;
             }
         }

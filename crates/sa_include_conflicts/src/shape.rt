@@ -1,134 +1,94 @@
-//! The signatures of features, by which they conflict. An attribute and a shared have two, those of the reader and the
-//! writer, and every other feature has one.
+//! Signatures as keys of a table, in which two are equal where they conflict.
 
-use sa_tree::{Feature, Formal, Mode, ModeTy, Name, NoMemory, Part, Ty};
+ghost use Rattle.std.specs.Prelude.{◌≡◌, fold};
+ghost use Rattle.std.specs.Cmp.{partial_equiv_from_equiv};
+ghost use Rattle.std.specs.Hash as fed;
+ghost use Rattle.sa_signatures.specs.Conflict.{do_conflict};
+ghost use Rattle.sa_include_conflicts.specs.Shapes.{argument_writes, conflict_Alike, conflict_equiv, seen, seen_writes, sig_writes};
+
+use sa_signatures::conflict;
+use sa_tree::{ModeTy, Ty};
 use sa_types::{Sig, is_abstract};
-use sqlite_items::Items;
-use std::alloc::{AllocError, Global};
-use std::hash::{FoldHasher, Hash, Hasher};
+use std::hash::{Hash, Hasher};
+use std::marker::Model;
 
-/// Which signature of a feature.
-#[derive(Clone, Copy)]
-pub(crate) enum Side {
-    /// The one of a reader, and of each feature that is neither an attribute nor a shared.
-    Own,
-    /// The one of a writer.
-    Writer,
+/// A signature, which is equal to those that it conflicts with.
+#[derive(Drop)]
+pub(crate) struct Shape {
+    sig: Sig,
 }
 
-/// Whether a feature has a writer.
-pub(crate) fn has_writer(feature: &Feature) -> bool {
-    match feature.part {
-        Part::Attr | Part::Shared(_) => true,
-        _ => false,
+impl Model for Shape {
+    ghost use Rattle.sa_types.specs.declared.sig.Sig.{Sig};
+    ghost use Rattle.sa_tree.specs.contracts.ty.Ty as e;
+    ghost use Rattle.std.specs.Coded.{codes};
+
+    ghost Value = { Sig };
+
+    ghost coded = { Prim.hlevel (codes, e.the_row.coded) };
+
+    ghost view = { λ s. s.sig };
+}
+
+impl Shape {
+    pub(crate) fn new(sig: Sig) -> Shape
+        ensures { result ≡ sig }
+    {
+        Shape { sig }
     }
 }
 
-/// Whether a signature of a feature has a result. The writer of an attribute of an immutable class gives the changed copy,
-/// and a constant has a result though its type may be left out.
-fn has_result(feature: &Feature, side: Side, immutable: bool) -> bool {
-    match (side, &feature.part) {
-        (Side::Own, Part::Const(_, _)) => true,
-        (Side::Own, _) => feature.result.is_some(),
-        (Side::Writer, Part::Attr) => immutable,
-        (Side::Writer, _) => false,
+impl PartialEq for Shape {
+    ghost eq = { do_conflict };
+
+    ghost laws = { partial_equiv_from_equiv conflict_equiv };
+
+    fn eq(&self, other: &Shape) -> bool {
+        conflict(&self.sig, &other.sig)
     }
 }
 
-/// A number that is equal for two signatures that conflict.
-pub(crate) fn hash_of(feature: &Feature, side: Side, immutable: bool) -> u64 {
-    let mut state = FoldHasher::default();
-    feature.name.name.hash(&mut state);
-    state.write_u8(u8::from(has_result(feature, side, immutable)));
-    match side {
-        Side::Own => hash_formals(feature.formals.as_slice(), &mut state),
-        Side::Writer => hash_written(&feature.result, &mut state),
-    }
-    state.finish()
+impl Eq for Shape {
+    ghost laws = { conflict_equiv };
 }
 
-fn hash_formals(formals: &[Formal], state: &mut FoldHasher) {
-    for formal in formals {
-        hash_argument(formal.mode, &formal.ty, state);
+impl Hash for Shape {
+    ghost hash_input = { sig_writes };
+
+    ghost respects_eq = { conflict_Alike.fed };
+
+    fn hash<H: Hasher>(&self, state: &mut H) {
+        self.sig.name.hash(state);
+        self.sig.result.is_some().hash(state);
+        hash_args(self.sig.args.as_slice(), state);
     }
 }
 
-/// Hashes the argument of a writer.
-fn hash_written(ty: &Option<Ty>, state: &mut FoldHasher) {
-    if let Some(ty) = ty {
-        hash_argument(Mode::In, ty, state);
+#[tactic(auto, using(crate::proofs::Hashes::hashes))]
+fn hash_args<H: Hasher>(args: &[ModeTy], state: &mut H)
+    ensures { state.new ≡ fold H.write state.old (fed.slice argument_writes args.now) }
+{
+    state.write_usize(args.len());
+    for arg in args {
+        hash_arg(arg, state);
     }
 }
 
-/// Hashes an argument. All abstract types are alike.
-fn hash_argument(mode: Mode, ty: &Ty, state: &mut FoldHasher) {
-    mode.hash(state);
+fn hash_arg<H: Hasher>(arg: &ModeTy, state: &mut H)
+    ensures { state.new ≡ fold H.write state.old (argument_writes arg.now) }
+{
+    arg.mode.hash(state);
+    hash_type(&arg.ty, state);
+}
+
+/// All abstract types are alike.
+fn hash_type<H: Hasher>(ty: &Ty, state: &mut H)
+    ensures { state.new ≡ fold H.write state.old (seen_writes (seen ty.now)) }
+{
     if is_abstract(ty) {
         state.write_u8(0);
     } else {
         state.write_u8(1);
         ty.hash(state);
-    }
-}
-
-/// A signature of a feature.
-pub(crate) fn signature(
-    alloc: Global,
-    feature: &Feature,
-    side: Side,
-    immutable: bool,
-) -> Result<Sig, NoMemory> {
-    let name = feature.name.name.copy(alloc)?;
-    let args = args_of(alloc, feature, side)?;
-    if !has_result(feature, side, immutable) {
-        return Ok(Sig {
-            name,
-            args,
-            result: None,
-        });
-    }
-    let result = Some(result_of(alloc, feature, side)?);
-    Ok(Sig { name, args, result })
-}
-
-/// The arguments of a signature.
-fn args_of(alloc: Global, feature: &Feature, side: Side) -> Result<Items<ModeTy>, AllocError> {
-    match side {
-        Side::Own => own_args(alloc, feature.formals.as_slice()),
-        Side::Writer => written_arg(alloc, &feature.result),
-    }
-}
-
-fn own_args(alloc: Global, formals: &[Formal]) -> Result<Items<ModeTy>, AllocError> {
-    let mut args = Items::new(alloc);
-    for formal in formals {
-        let ty = formal.ty.copy(alloc)?;
-        args.push(ModeTy {
-            mode: formal.mode,
-            ty,
-        })?;
-    }
-    Ok(args)
-}
-
-/// The argument of a writer.
-fn written_arg(alloc: Global, ty: &Option<Ty>) -> Result<Items<ModeTy>, AllocError> {
-    let mut args = Items::new(alloc);
-    if let Some(ty) = ty {
-        let ty = ty.copy(alloc)?;
-        args.push(ModeTy { mode: Mode::In, ty })?;
-    }
-    Ok(args)
-}
-
-/// The type of a result: that of the class for a writer, and INT for a constant without a type.
-fn result_of(alloc: Global, feature: &Feature, side: Side) -> Result<Ty, AllocError> {
-    match (side, &feature.result) {
-        (Side::Writer, _) => Ok(Ty::Same(feature.name.pos)),
-        (Side::Own, Some(ty)) => ty.copy(alloc),
-        (Side::Own, None) => {
-            let name = Name::from_slice(alloc, b"INT")?;
-            Ok(Ty::Named(name, Items::new(alloc), feature.name.pos))
-        }
     }
 }

@@ -1,57 +1,95 @@
 //! Which classes include which, and which have the array part by their includes.
 
+ghost use Rattle.std.specs.Prelude.{◌≡◌, IfOk, OnOk};
+ghost use Rattle.sa_tree.specs.Types.{bare};
+ghost use Rattle.sa_include_names.specs.Includes.{AreArrays, is_set};
+ghost use Rattle.sa_include_names.specs.Tables.{AddsEdges, AreEdges, AreGraphOf, HasNumbers, IsNumber, NamesHere, included_in};
+
 use crate::names::{ClassNumbers, ParamNames};
-use sa_graph::{Grouped, entry, put, word};
-use sa_tree::{Class, Name, NoMemory, Ty};
+use sa_graph::{Graph, word};
+use sa_tree::{Class, Include, Name, NoMemory, Ty};
 use std::alloc::Global;
 
 /// The class that has the array part.
 const ARRAY_PART: &'static [u8] = b"AREF";
 
-/// An edge from a class to the class of each of its include clauses, by the numbers of classes. They stand in the order of
-/// the classes and of their clauses. A clause that names no class has no edge.
+/// An edge from a class to the class of each of its include clauses, by the numbers of classes. A clause that names no class
+/// has no edge.
 #[derive(Drop)]
-pub(crate) struct Edges {
-    pub(crate) starts: Vec<u32>,
-    pub(crate) ends: Vec<u32>,
+struct Edges {
+    starts: Vec<u32>,
+    ends: Vec<u32>,
 }
 
 impl Edges {
-    pub(crate) fn new(
-        alloc: Global,
-        classes: &[Class],
-        numbers: &ClassNumbers,
-    ) -> Result<Edges, NoMemory> {
+    #[tactic(auto, using(crate::proofs::Clauses::classes_added))]
+    fn new(alloc: Global, classes: &[Class], numbers: &ClassNumbers) -> Result<Edges, NoMemory>
+        requires { HasNumbers classes.now numbers.now }
+        ensures { IfOk result (AreEdges classes.now) }
+    {
         let mut edges = Edges {
             starts: Vec::new(alloc),
             ends: Vec::new(alloc),
         };
         for (place, class) in classes.iter().enumerate() {
-            edges.add_class(alloc, word(place)?, class, numbers)?;
+            let params = ParamNames::new(alloc, class.params.as_slice())?;
+            edges.add_clauses(word(place)?, class.includes.as_slice(), &params, numbers)?;
         }
         Ok(edges)
     }
 
-    fn add_class(
+    /// Adds the edges of a class with this number.
+    #[tactic(auto, using(crate::proofs::Clauses::clauses))]
+    fn add_clauses(
         &mut self,
-        alloc: Global,
         number: u32,
-        class: &Class,
+        includes: &[Include],
+        params: &ParamNames,
         numbers: &ClassNumbers,
-    ) -> Result<(), NoMemory> {
-        let params = ParamNames::new(alloc, class.params.as_slice())?;
-        for include in class.includes.as_slice() {
-            if let Some(included) = included_class(&include.ty, &params, numbers) {
-                self.starts.push(number)?;
-                self.ends.push(included)?;
-            }
+    ) -> Result<(), NoMemory>
+        ensures { OnOk result (AddsEdges number (NamesHere params.now numbers.now includes.now) self.old self.new) }
+    {
+        for include in includes {
+            self.add_clause(number, &include.ty, params, numbers)?;
         }
+        Ok(())
+    }
+
+    /// Adds the edge of a clause of this type, if it names a class.
+    #[tactic(auto, using(crate::proofs::Clauses::named_edges))]
+    fn add_clause(
+        &mut self,
+        number: u32,
+        ty: &Ty,
+        params: &ParamNames,
+        numbers: &ClassNumbers,
+    ) -> Result<(), NoMemory>
+        ensures { OnOk result (AddsEdges number (IsNumber (included_in params.now numbers.now (bare ty.now))) self.old self.new) }
+    {
+        match included_class(ty, params, numbers) {
+            Some(included) => {
+                self.add(number, included)?;
+                Ok(())
+            }
+            None => Ok(()),
+        }
+    }
+
+    #[tactic(auto, using(crate::proofs::Clauses::edge_added))]
+    fn add(&mut self, start: u32, end: u32) -> Result<(), NoMemory>
+        ensures { OnOk result (AddsEdges start (λ to. to ≡ end) self.old self.new) }
+    {
+        self.starts.push(start)?;
+        self.ends.push(end)?;
         Ok(())
     }
 }
 
 /// The class that the type of an include clause names.
-fn included_class(ty: &Ty, params: &ParamNames, numbers: &ClassNumbers) -> Option<u32> {
+#[tactic(auto, using(sa_tree::proofs::BareTypes::bares))]
+fn included_class(ty: &Ty, params: &ParamNames, numbers: &ClassNumbers) -> Option<u32>
+    ensures { result ≡ included_in params.now numbers.now (bare ty.now) }
+{
     match ty {
         Ty::Named(name, _, _) => {
             if params.hides(name) {
@@ -60,72 +98,55 @@ fn included_class(ty: &Ty, params: &ParamNames, numbers: &ClassNumbers) -> Optio
                 numbers.of(name)
             }
         }
-        _ => None,
+        Ty::Same(_) => None,
+        Ty::Rout(_, _, _) => None,
+        Ty::Iter(_, _, _) => None,
     }
 }
 
-/// For each of so many classes whether it is AREF or reaches it by its includes.
-pub(crate) fn reaching_arrays(
+/// The graph of the classes in which an edge leads from each to those that it includes.
+#[tactic(auto, using(crate::proofs::Verdicts::graph_of))]
+pub(crate) fn include_graph(
     alloc: Global,
-    count: usize,
+    classes: &[Class],
     numbers: &ClassNumbers,
-    edges: &Edges,
-) -> Result<Vec<bool>, NoMemory> {
-    let mut reach = Reach {
-        marks: vec![in alloc; false; count]?,
-        reached: Vec::new(alloc),
-    };
+) -> Result<Graph, NoMemory>
+    requires { HasNumbers classes.now numbers.now }
+    ensures { IfOk result (AreGraphOf classes.now) }
+{
+    let Edges { starts, ends } = Edges::new(alloc, classes, numbers)?;
+    let graph = Graph::new(alloc, classes.len(), starts, ends)?;
+    Ok(graph)
+}
+
+/// For each class whether it is AREF or reaches it by its includes.
+#[tactic(auto, using(crate::proofs::Verdicts::arrays))]
+pub(crate) fn array_parts(
+    alloc: Global,
+    classes: &[Class],
+    graph: &Graph,
+    numbers: &ClassNumbers,
+) -> Result<Vec<bool>, NoMemory>
+    requires numbers { HasNumbers classes.now numbers.now }
+    requires graph { AreGraphOf classes.now graph.now }
+    ensures { IfOk result (λ marks. AreArrays classes.now marks.items) }
+{
     let name = Name::from_slice(alloc, ARRAY_PART)?;
-    if let Some(array) = numbers.of(&name) {
-        let by_end = Grouped::new(alloc, count, &edges.ends)?;
-        reach.spread(array, &by_end, &edges.starts)?;
+    match numbers.of(&name) {
+        Some(array) => {
+            let marks = graph.reaching(alloc, array)?;
+            Ok(marks)
+        }
+        None => {
+            let marks = vec![in alloc; false; classes.len()]?;
+            Ok(marks)
+        }
     }
-    let Reach { marks, .. } = reach;
-    Ok(marks)
 }
 
 /// Whether a class is marked.
-pub(crate) fn is_marked(marks: &[bool], class: u32) -> bool {
+pub(crate) fn is_marked(marks: &[bool], class: u32) -> bool
+    ensures { result ≡ is_set marks.now class }
+{
     marks.get(class as usize).copied().unwrap_or(false)
-}
-
-/// The classes that reach one by their includes.
-#[derive(Drop)]
-struct Reach {
-    marks: Vec<bool>,
-    /// Those that are marked, in the order in which they were.
-    reached: Vec<u32>,
-}
-
-impl Reach {
-    /// Marks a class and all that reach it. The edges that end at a class are those of its group.
-    fn spread(&mut self, class: u32, by_end: &Grouped, starts: &[u32]) -> Result<(), NoMemory> {
-        self.mark(class)?;
-        // Each class is reached once at most.
-        for place in 0..self.marks.len() {
-            let Some(class) = self.reached.get(place).copied() else {
-                break;
-            };
-            self.mark_starts(by_end.of(class), starts)?;
-        }
-        Ok(())
-    }
-
-    /// Marks the classes at which these edges start.
-    fn mark_starts(&mut self, edges: &[u32], starts: &[u32]) -> Result<(), NoMemory> {
-        for edge in edges {
-            self.mark(entry(starts, *edge as usize)?)?;
-        }
-        Ok(())
-    }
-
-    /// Marks a class where it isn't marked yet.
-    fn mark(&mut self, class: u32) -> Result<(), NoMemory> {
-        if entry(&self.marks, class as usize)? {
-            return Ok(());
-        }
-        put(&mut self.marks, class as usize, true)?;
-        self.reached.push(class)?;
-        Ok(())
-    }
 }

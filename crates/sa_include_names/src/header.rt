@@ -1,15 +1,16 @@
 //! The names in headers and include clauses: each is that of a class, or of a parameter, that may stand there (E12).
 
+ghost use Rattle.std.specs.Prelude.{◌≡◌, ◌&&◌, ◌==◌, IfOk, None, cond, flat_map, length};
+ghost use Rattle.sa_include_names.specs.Headers.{is_never_included, misused, misused_arg, misused_class, misused_names, misused_option};
+ghost use Rattle.sa_include_names.specs.Headers.{misused_types};
+ghost use Rattle.sa_include_names.specs.Tables.{HasNumbers, first, hidden_in, includes_in, misused_above_in, misused_class_in};
+ghost use Rattle.sa_include_names.specs.Tables.{misused_include_in, number_in, passes_in, stands_in};
+
 use crate::graph::is_marked;
 use crate::names::{ClassNumbers, ParamNames};
-use sa_tree::{Class, FrontFault, Include, Kind, ModeTy, Name, Param, Rule, Ty};
+use sa_tree::{Class, Include, Kind, ModeTy, Name, NoMemory, Param, Pos, Ty};
 use sqlite_items::Boxed;
 use std::alloc::Global;
-
-/// The classes of the prelude that can't be included in any class.
-const NEVER_INCLUDED: [&'static [u8]; 7] = [
-    b"BOOL", b"INT", b"CHAR", b"STR", b"OUT", b"IN", b"SYS",
-];
 
 /// What names may mean in a class.
 #[derive(Drop)]
@@ -18,172 +19,291 @@ struct Scope<'a> {
     numbers: &'a ClassNumbers,
     /// For each class whether it is AREF or reaches it by its includes.
     arrays: &'a [bool],
+    /// The kind of the class.
+    kind: Kind,
     params: ParamNames,
 }
 
-/// Whether each name in a header or an include clause may stand there.
-///
-/// # Errors
-///
-/// E12 at the first type whose name may not, in text order, a type before those inside it.
-pub(crate) fn check_names(
+/// Where the first type stands in a header or an include clause, in text order and a type before those inside it, whose name
+/// may not stand there.
+#[tactic(auto, using(crate::proofs::Misuses::firsts), unfolding(crate::specs::Headers::misused_names))]
+pub(crate) fn first_misused(
     alloc: Global,
     classes: &[Class],
     numbers: &ClassNumbers,
     arrays: &[bool],
-) -> Result<(), FrontFault> {
+) -> Result<Option<Pos>, NoMemory>
+    requires { HasNumbers classes.now numbers.now }
+    ensures { IfOk result (λ pos. pos ≡ first (misused_names classes.now arrays.now)) }
+{
     for class in classes {
-        let scope = Scope {
-            classes,
-            numbers,
-            arrays,
-            params: ParamNames::new(alloc, class.params.as_slice())?,
-        };
-        check_class(&scope, class)?;
+        if let Some(pos) = in_one(alloc, classes, numbers, arrays, class)? {
+            return Ok(Some(pos));
+        }
     }
-    Ok(())
+    Ok(None)
 }
 
-/// The types of a header, which are the bounds of parameters, the types after `<` and those after `>`, and then the
+/// The same in one of the classes.
+#[tactic(auto, using(crate::proofs::Scopes::scopes))]
+fn in_one(
+    alloc: Global,
+    classes: &[Class],
+    numbers: &ClassNumbers,
+    arrays: &[bool],
+    class: &Class,
+) -> Result<Option<Pos>, NoMemory>
+    requires { HasNumbers classes.now numbers.now }
+    ensures { IfOk result (λ pos. pos ≡ first (misused_class classes.now arrays.now class.now)) }
+{
+    let scope = Scope {
+        classes,
+        numbers,
+        arrays,
+        kind: class.kind,
+        params: ParamNames::new(alloc, class.params.as_slice())?,
+    };
+    let pos = in_class(&scope, class);
+    Ok(pos)
+}
+
+/// The same in the header of a class, in which are the bounds of parameters, the types after `<` and those after `>`, and in its
 /// include clauses.
-fn check_class(scope: &Scope<'_>, class: &Class) -> Result<(), FrontFault> {
-    check_bounds(scope, class.params.as_slice())?;
-    check_types(scope, class.below.as_slice())?;
-    check_all_above(scope, class.above.as_slice())?;
-    check_includes(scope, class.kind, class.includes.as_slice())
+#[tactic(auto, using(crate::proofs::Misuses::firsts), unfolding(crate::specs::Headers::misused_in))]
+fn in_class(scope: &Scope<'_>, class: &Class) -> Option<Pos>
+    ensures { result ≡ first (misused_class_in scope.now class.now) }
+{
+    match in_bounds(scope, class.params.as_slice()) {
+        Some(pos) => Some(pos),
+        None => match in_types(scope, class.below.as_slice()) {
+            Some(pos) => Some(pos),
+            None => match in_all_above(scope, class.above.as_slice()) {
+                Some(pos) => Some(pos),
+                None => in_includes(scope, class.includes.as_slice()),
+            },
+        },
+    }
 }
 
-fn check_bounds(scope: &Scope<'_>, params: &[Param]) -> Result<(), FrontFault> {
+#[tactic(auto, using(crate::proofs::Misuses::firsts))]
+fn in_bounds(scope: &Scope<'_>, params: &[Param]) -> Option<Pos>
+    ensures { result ≡ first (flat_map (λ p. misused_option (stands_in scope.now) p.bound) params.now) }
+{
     for param in params {
-        if let Some(bound) = &param.bound {
-            check_type(scope, bound)?;
+        if let Some(pos) = in_bound(scope, &param.bound) {
+            return Some(pos);
         }
     }
-    Ok(())
+    None
 }
 
-fn check_all_above(scope: &Scope<'_>, above: &[Ty]) -> Result<(), FrontFault> {
+fn in_bound(scope: &Scope<'_>, bound: &Option<Ty>) -> Option<Pos>
+    ensures { result ≡ first (misused_option (stands_in scope.now) bound.now) }
+{
+    match bound {
+        None => None,
+        Some(ty) => in_type(scope, ty),
+    }
+}
+
+#[tactic(auto, using(crate::proofs::Misuses::firsts))]
+fn in_all_above(scope: &Scope<'_>, above: &[Ty]) -> Option<Pos>
+    ensures { result ≡ first (flat_map (misused_above_in scope.now) above.now) }
+{
     for ty in above {
-        check_above(scope, ty)?;
-    }
-    Ok(())
-}
-
-/// A type after `>`, which is no bound type and no parameter.
-fn check_above(scope: &Scope<'_>, ty: &Ty) -> Result<(), FrontFault> {
-    match ty {
-        Ty::Rout(_, _, pos) => return Err(Rule::ClassNotUsable.at(*pos).into()),
-        Ty::Iter(_, _, pos) => return Err(Rule::ClassNotUsable.at(*pos).into()),
-        Ty::Named(_, _, pos) => {
-            if scope.params.has(ty) {
-                return Err(Rule::ClassNotUsable.at(*pos).into());
-            }
+        if let Some(pos) = in_above(scope, ty) {
+            return Some(pos);
         }
-        Ty::Same(_) => {}
     }
-    check_type(scope, ty)
+    None
 }
 
-/// A type: each name in it is that of a parameter, or of a class that isn't partial.
-#[cycle(types)]
-fn check_type(scope: &Scope<'_>, ty: &Ty) -> Result<(), FrontFault> {
+/// The same in a type after `>`, which is no bound type and no parameter.
+#[tactic(auto, using(crate::proofs::Misuses::above))]
+fn in_above(scope: &Scope<'_>, ty: &Ty) -> Option<Pos>
+    ensures { result ≡ first (misused_above_in scope.now ty.now) }
+{
     match ty {
         Ty::Named(name, given, pos) => {
-            if scope.params.has(ty) {
-                return Ok(());
+            if is_param(scope, name, given.as_slice()) {
+                return Some(*pos);
             }
-            if !is_type(scope, name) {
-                return Err(Rule::ClassNotUsable.at(*pos).into());
-            }
-            check_types(scope, given.as_slice())
+            in_type(scope, ty)
         }
-        Ty::Same(_) => Ok(()),
-        Ty::Rout(args, result, _) => {
-            check_args(scope, args.as_slice())?;
-            check_result(scope, result)
-        }
-        Ty::Iter(args, result, _) => {
-            check_args(scope, args.as_slice())?;
-            check_result(scope, result)
-        }
+        Ty::Same(_) => None,
+        Ty::Rout(_, _, pos) => Some(*pos),
+        Ty::Iter(_, _, pos) => Some(*pos),
     }
 }
 
+/// Whether a name with these parameters is that of a parameter of the class.
+fn is_param(scope: &Scope<'_>, name: &Name, given: &[Ty]) -> bool
+    ensures { result ≡ ((length given.now == 0) && hidden_in scope.now.params name.now) }
+{
+    given.is_empty() && scope.params.hides(name)
+}
+
+/// The same in a type: each name in it is that of a parameter, or of a class that isn't partial.
+#[tactic(auto, using(crate::proofs::Misuses::misuses))]
 #[cycle(types)]
-fn check_types(scope: &Scope<'_>, types: &[Ty]) -> Result<(), FrontFault> {
+fn in_type(scope: &Scope<'_>, ty: &Ty) -> Option<Pos>
+    ensures { result ≡ first (misused (stands_in scope.now) ty.now) }
+{
+    match ty {
+        Ty::Named(name, given, pos) => {
+            if !may_stand(scope, name, given.as_slice()) {
+                return Some(*pos);
+            }
+            in_types(scope, given.as_slice())
+        }
+        Ty::Same(_) => None,
+        Ty::Rout(args, result, _) => match in_args(scope, args.as_slice()) {
+            Some(pos) => Some(pos),
+            None => in_result(scope, result),
+        },
+        Ty::Iter(args, result, _) => match in_args(scope, args.as_slice()) {
+            Some(pos) => Some(pos),
+            None => in_result(scope, result),
+        },
+    }
+}
+
+#[tactic(auto, using(crate::proofs::Misuses::misuses))]
+#[cycle(types)]
+fn in_types(scope: &Scope<'_>, types: &[Ty]) -> Option<Pos>
+    ensures { result ≡ first (misused_types (stands_in scope.now) types.now) }
+{
     for ty in types {
-        check_type(scope, ty)?;
+        if let Some(pos) = in_type(scope, ty) {
+            return Some(pos);
+        }
     }
-    Ok(())
+    None
 }
 
+#[tactic(auto, using(crate::proofs::Misuses::misuses))]
 #[cycle(types)]
-fn check_args(scope: &Scope<'_>, args: &[ModeTy]) -> Result<(), FrontFault> {
+fn in_args(scope: &Scope<'_>, args: &[ModeTy]) -> Option<Pos>
+    ensures { result ≡ first (flat_map (misused_arg (stands_in scope.now)) args.now) }
+{
     for arg in args {
-        check_type(scope, &arg.ty)?;
+        if let Some(pos) = in_type(scope, &arg.ty) {
+            return Some(pos);
+        }
     }
-    Ok(())
+    None
 }
 
+#[tactic(auto, using(crate::proofs::Misuses::misuses))]
 #[cycle(types)]
-fn check_result(scope: &Scope<'_>, of: &Option<Boxed<Ty>>) -> Result<(), FrontFault> {
+fn in_result(scope: &Scope<'_>, of: &Option<Boxed<Ty>>) -> Option<Pos>
+    ensures { result ≡ first (misused_option (stands_in scope.now) of.now) }
+{
     match of {
-        None => Ok(()),
-        Some(ty) => check_type(scope, ty.get()),
+        None => None,
+        Some(ty) => in_type(scope, ty.get()),
     }
 }
 
-/// Whether a class of this name is a type. Partial classes aren't, nor are those that a parameter hides.
-fn is_type(scope: &Scope<'_>, name: &Name) -> bool {
-    if scope.params.hides(name) {
-        return false;
+/// Whether a name with these parameters may stand as a type: alone it may be that of a parameter. Partial classes are no
+/// types, nor are those that a parameter hides.
+fn may_stand(scope: &Scope<'_>, name: &Name, given: &[Ty]) -> bool
+    ensures { result ≡ stands_in scope.now name.now (length given.now == 0) }
+{
+    if given.is_empty() && scope.params.hides(name) {
+        return true;
     }
-    let Some(number) = scope.numbers.of(name) else {
-        return false;
-    };
-    match scope.classes.get(number as usize) {
-        Some(class) => class.kind != Kind::Partial,
+    match class_of(scope, name) {
+        Some(number) => match scope.classes.get(number as usize) {
+            Some(class) => class.kind != Kind::Partial,
+            None => false,
+        },
         None => false,
     }
 }
 
-fn check_includes(scope: &Scope<'_>, kind: Kind, includes: &[Include]) -> Result<(), FrontFault> {
-    for include in includes {
-        check_include(scope, kind, &include.ty)?;
+/// The number of the class of this name, unless a parameter hides it.
+fn class_of(scope: &Scope<'_>, name: &Name) -> Option<u32>
+    ensures { result ≡ cond (hidden_in scope.now.params name.now) None (number_in scope.now.numbers.now name.now) }
+{
+    if scope.params.hides(name) {
+        None
+    } else {
+        scope.numbers.of(name)
     }
-    Ok(())
 }
 
-/// The type of an include clause: that of a class that may be included in one of this kind. What it is given are types.
-fn check_include(scope: &Scope<'_>, kind: Kind, ty: &Ty) -> Result<(), FrontFault> {
+#[tactic(auto, using(crate::proofs::Misuses::firsts))]
+fn in_includes(scope: &Scope<'_>, includes: &[Include]) -> Option<Pos>
+    ensures { result ≡ first (flat_map (λ i. misused_include_in scope.now i.ty) includes.now) }
+{
+    for include in includes {
+        if let Some(pos) = in_include(scope, &include.ty) {
+            return Some(pos);
+        }
+    }
+    None
+}
+
+/// The same in the type of an include clause: that of a class that may be included in the class. What it is given are types.
+#[tactic(auto, using(crate::proofs::Misuses::including))]
+fn in_include(scope: &Scope<'_>, ty: &Ty) -> Option<Pos>
+    ensures { result ≡ first (misused_include_in scope.now ty.now) }
+{
     match ty {
         Ty::Named(name, given, pos) => {
-            if scope.params.hides(name) || !may_include(scope, kind, name) {
-                return Err(Rule::ClassNotUsable.at(*pos).into());
+            if !may_include(scope, name) {
+                return Some(*pos);
             }
-            check_types(scope, given.as_slice())
+            in_types(scope, given.as_slice())
         }
-        Ty::Same(pos) => Err(Rule::ClassNotUsable.at(*pos).into()),
-        Ty::Rout(_, _, pos) => Err(Rule::ClassNotUsable.at(*pos).into()),
-        Ty::Iter(_, _, pos) => Err(Rule::ClassNotUsable.at(*pos).into()),
+        Ty::Same(pos) => Some(*pos),
+        Ty::Rout(_, _, pos) => Some(*pos),
+        Ty::Iter(_, _, pos) => Some(*pos),
     }
 }
 
-/// Whether a class of this kind may include the class with this name: an abstract class and the classes of the built-in
-/// values and of input and output are never included, and an immutable class has no array part.
-fn may_include(scope: &Scope<'_>, kind: Kind, name: &Name) -> bool {
-    let Some(number) = scope.numbers.of(name) else {
-        return false;
-    };
-    let Some(class) = scope.classes.get(number as usize) else {
-        return false;
-    };
-    if class.kind == Kind::Abstract || is_never_included(name.as_slice()) {
-        return false;
+/// Whether the class may include the class with this name: an abstract class and the classes of the built-in values and of
+/// input and output are never included, and an immutable class has no array part.
+#[tactic(auto, unfolding(crate::specs::Headers::may_include))]
+fn may_include(scope: &Scope<'_>, name: &Name) -> bool
+    ensures { result ≡ includes_in scope.now name.now }
+{
+    match class_of(scope, name) {
+        Some(number) => match scope.classes.get(number as usize) {
+            Some(class) => passes(scope, name, number, class),
+            None => false,
+        },
+        None => false,
     }
-    kind != Kind::Immutable || !is_marked(scope.arrays, number)
 }
 
-fn is_never_included(name: &[u8]) -> bool {
-    NEVER_INCLUDED.iter().any(|other| *other == name)
+/// The same of the class with this name and number.
+fn passes(scope: &Scope<'_>, name: &Name, number: u32, class: &Class) -> bool
+    ensures { result ≡ passes_in scope.now name.now number class.now }
+{
+    if class.kind == Kind::Abstract {
+        return false;
+    }
+    if is_never_included(name.as_slice()) {
+        return false;
+    }
+    if scope.kind != Kind::Immutable {
+        return true;
+    }
+    !is_marked(scope.arrays, number)
+}
+
+/// Whether it is one of the classes of the prelude that can't be included in any class.
+#[tactic(auto, unfolding(crate::specs::Headers::is_never_included))]
+fn is_never_included(name: &[u8]) -> bool
+    ensures { result ≡ is_never_included name.now }
+{
+    name == b"BOOL".as_slice()
+        || name == b"INT".as_slice()
+        || name == b"CHAR".as_slice()
+        || name == b"STR".as_slice()
+        || name == b"OUT".as_slice()
+        || name == b"IN".as_slice()
+        || name == b"SYS".as_slice()
 }

@@ -1,8 +1,17 @@
 //! The names of classes, each of which is defined once (E10), and the names of the parameters of a class.
 
+ghost use Rattle.std.specs.Prelude.{◌≡◌, ◌≢◌, Err, IfOk, None, OnOk, Some, false, nat_eq, true};
+ghost use Rattle.std.specs.Cmp.Lexicographic.{pointwise};
+ghost use Rattle.indexmap.specs.IndexMap.{Updates};
+ghost use Rattle.sa_include_names.specs.Names.{DifferInName};
+ghost use Rattle.sa_tree.specs.declared.refusal.FrontFault.TheVariants.{Refused};
+ghost use Rattle.sa_tree.specs.declared.refusal.Refusal.{Refusal};
+ghost use Rattle.sa_include_names.specs.Refusals.{RefusesRepeated};
+ghost use Rattle.sa_include_names.specs.Tables.{HasNumbers, HasParams, hidden_in, number_in};
+
 use indexmap::{IndexMap, IndexSet};
 use sa_graph::word;
-use sa_tree::{Class, FrontFault, Name, Param, Rule, Ty};
+use sa_tree::{Class, FrontFault, Name, NoMemory, Param, Rule};
 use std::alloc::{AllocError, Global};
 
 /// The number of each class, its place in the program's list, by its name.
@@ -13,26 +22,37 @@ pub(crate) struct ClassNumbers {
 
 impl ClassNumbers {
     /// The numbers of the classes, whose names must differ. The later of two classes with one name is refused.
-    pub(crate) fn new(alloc: Global, classes: &[Class]) -> Result<ClassNumbers, FrontFault> {
+    #[tactic(auto, using(crate::proofs::Numbers::numbering))]
+    pub(crate) fn new(alloc: Global, classes: &[Class]) -> Result<ClassNumbers, FrontFault>
+        ensures numbers { IfOk result (HasNumbers classes.now) }
+        ensures differ { OnOk result (DifferInName classes.now) }
+        ensures refused { (refusal : Refusal) → result ≡ Err (Refused refusal) → RefusesRepeated classes.now refusal }
+    {
         let mut numbers = ClassNumbers {
             by_name: IndexMap::new(alloc),
         };
         for (place, class) in classes.iter().enumerate() {
-            numbers.add(alloc, class, word(place)?)?;
+            if !numbers.add(alloc, &class.name.name, word(place)?)? {
+                return Err(Rule::ClassDefinedTwice.at(class.name.pos).into());
+            }
         }
         Ok(numbers)
     }
 
-    fn add(&mut self, alloc: Global, class: &Class, number: u32) -> Result<(), FrontFault> {
-        let name = class.name.name.copy(alloc)?;
-        match self.by_name.insert(name, number)? {
-            None => Ok(()),
-            Some(_) => Err(Rule::ClassDefinedTwice.at(class.name.pos).into()),
-        }
+    /// Gives a name its number, and tells whether it had none.
+    fn add(&mut self, alloc: Global, name: &Name, number: u32) -> Result<bool, NoMemory>
+        ensures added { OnOk result (Updates (pointwise nat_eq) self.old.by_name self.new.by_name name.now (Some number)) }
+        ensures new { IfOk result (λ new. new ≡ true → number_in self.old name.now ≡ None) }
+        ensures old { IfOk result (λ new. new ≡ false → number_in self.old name.now ≢ None) }
+    {
+        let before = self.by_name.insert(name.copy(alloc)?, number)?;
+        Ok(before.is_none())
     }
 
     /// The number of the class with this name.
-    pub(crate) fn of(&self, name: &Name) -> Option<u32> {
+    pub(crate) fn of(&self, name: &Name) -> Option<u32>
+        ensures { result ≡ number_in self.now name.now }
+    {
         self.by_name.get(name).copied()
     }
 }
@@ -45,7 +65,9 @@ pub(crate) struct ParamNames {
 }
 
 impl ParamNames {
-    pub(crate) fn new(alloc: Global, params: &[Param]) -> Result<ParamNames, AllocError> {
+    pub(crate) fn new(alloc: Global, params: &[Param]) -> Result<ParamNames, AllocError>
+        ensures { IfOk result (HasParams params.now) }
+    {
         let mut names = IndexSet::new(alloc);
         for param in params {
             names.insert(param.name.name.copy(alloc)?)?;
@@ -53,16 +75,10 @@ impl ParamNames {
         Ok(ParamNames { names })
     }
 
-    /// Whether a type is a parameter.
-    pub(crate) fn has(&self, ty: &Ty) -> bool {
-        match ty {
-            Ty::Named(name, given, _) => given.is_empty() && self.hides(name),
-            _ => false,
-        }
-    }
-
     /// Whether a parameter hides the class of this name.
-    pub(crate) fn hides(&self, name: &Name) -> bool {
+    pub(crate) fn hides(&self, name: &Name) -> bool
+        ensures { result ≡ hidden_in self.now name.now }
+    {
         self.names.contains(name)
     }
 }

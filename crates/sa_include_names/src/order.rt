@@ -1,18 +1,27 @@
 //! An order in which each class stands behind those that it includes. There is none where a class includes itself, by itself
 //! or by others (E15).
 
-use crate::graph::{Edges, is_marked, reaching_arrays};
-use crate::header::check_names;
+ghost use Rattle.std.specs.Prelude.{◌≡◌, ◌≤◌, Err, IfOk, MatchOption, OnOk, count_by};
+ghost use Rattle.sa_graph.specs.Paths.{NoneBefore, node_count};
+ghost use Rattle.sa_tree.specs.declared.refusal.FrontFault.TheVariants.{Refused};
+ghost use Rattle.sa_tree.specs.declared.refusal.Refusal.{Refusal};
+ghost use Rattle.sa_tree.specs.declared.rule.Rule.TheVariants.{ClassNotUsable};
+ghost use Rattle.sa_tree.specs.Types.{bare};
+ghost use Rattle.sa_include_names.specs.Includes.{AreArrays, IsSecond, brings_array, number_named};
+ghost use Rattle.sa_include_names.specs.Refusals.{AreIncludesRight, RefusesNames};
+ghost use Rattle.sa_include_names.specs.Tables.{CycleAt, HasNumbers, IsNamed, MisusedAt, NoneMisused, number_in};
+
+use crate::graph::{array_parts, include_graph, is_marked};
+use crate::header::first_misused;
 use crate::names::ClassNumbers;
 use sa_graph::Graph;
-use sa_tree::{Class, FrontFault, Rule, held};
+use sa_tree::{Class, FrontFault, Include, Pos, Rule, Ty};
 use std::alloc::Global;
 
-/// Which classes of a program include which. A class has the number of its place in the program's list, and a clause that
-/// of its place in its class.
+/// Which classes of a program include which. A class has the number of its place in the program's list.
 #[derive(Drop)]
 pub struct Includes {
-    graph: Graph,
+    numbers: ClassNumbers,
     order: Vec<u32>,
     /// For each class whether it is AREF or reaches it by its includes.
     arrays: Vec<bool>,
@@ -27,16 +36,20 @@ impl Includes {
     /// header or an include clause, in text order and a type before those inside it, whose name may not stand there; then
     /// E15 at the name of the first class, in text order, that includes itself, by itself or by others. `NoMemory` where
     /// memory runs out.
-    pub fn new(alloc: Global, classes: &[Class]) -> Result<Includes, FrontFault> {
+    #[tactic(auto, using(crate::proofs::Verdicts::verdicts))]
+    pub fn new(alloc: Global, classes: &[Class]) -> Result<Includes, FrontFault>
+        ensures numbers { IfOk result (λ includes. HasNumbers classes.now includes.numbers) }
+        ensures arrays { IfOk result (λ includes. AreArrays classes.now includes.arrays.items) }
+        ensures right { OnOk result (AreIncludesRight classes.now) }
+        ensures refused { (refusal : Refusal) → result ≡ Err (Refused refusal) → RefusesNames classes.now refusal }
+    {
         let numbers = ClassNumbers::new(alloc, classes)?;
-        let edges = Edges::new(alloc, classes, &numbers)?;
-        let arrays = reaching_arrays(alloc, classes.len(), &numbers, &edges)?;
-        check_names(alloc, classes, &numbers, &arrays)?;
-        let Edges { starts, ends } = edges;
-        let graph = Graph::new(alloc, classes.len(), starts, ends)?;
+        let graph = include_graph(alloc, classes, &numbers)?;
+        let arrays = array_parts(alloc, classes, &graph, &numbers)?;
+        names_stand(alloc, classes, &numbers, &arrays)?;
         let order = include_order(alloc, classes, &graph)?;
         Ok(Includes {
-            graph,
+            numbers,
             order,
             arrays,
         })
@@ -47,18 +60,30 @@ impl Includes {
         self.order.as_slice()
     }
 
-    /// The class that an include clause of a class includes, or None where there is no such class or clause.
-    pub fn included(&self, class: u32, clause: usize) -> Option<u32> {
-        let edge = self.graph.from(class).get(clause).copied()?;
-        self.graph.end(edge)
+    /// The class that the type of an include clause names.
+    #[tactic(auto, using(sa_tree::proofs::BareTypes::bares))]
+    pub fn included(&self, ty: &Ty) -> Option<u32>
+        ensures { result ≡ number_named (number_in self.now.numbers) (bare ty.now) }
+    {
+        match ty {
+            Ty::Named(name, _, _) => self.numbers.of(name),
+            Ty::Same(_) => None,
+            Ty::Rout(_, _, _) => None,
+            Ty::Iter(_, _, _) => None,
+        }
     }
 
-    /// The second include clause of a class that is of AREF or of a class that reaches it by its includes, if there are
-    /// two.
-    pub fn second_with_array(&self, class: u32) -> Option<usize> {
+    /// The place of the second of these include clauses that is of AREF or of a class that reaches it by its includes, if there
+    /// are two.
+    #[tactic(auto, using(crate::proofs::Seconds::seconds))]
+    pub fn second_with_array(&self, includes: &[Include]) -> Option<usize>
+        ensures { MatchOption result
+            (count_by (brings_array (number_in self.now.numbers) self.now.arrays.items) includes.now ≤ 1)
+            (IsSecond (brings_array (number_in self.now.numbers) self.now.arrays.items) includes.now) }
+    {
         let mut one = false;
-        for (clause, edge) in self.graph.from(class).iter().enumerate() {
-            if self.ends_with_array(*edge) {
+        for (clause, include) in includes.iter().enumerate() {
+            if self.has_array(include) {
                 if one {
                     return Some(clause);
                 }
@@ -68,12 +93,43 @@ impl Includes {
         None
     }
 
-    fn ends_with_array(&self, edge: u32) -> bool {
-        match self.graph.end(edge) {
+    fn has_array(&self, include: &Include) -> bool
+        ensures { result ≡ brings_array (number_in self.now.numbers) self.now.arrays.items include.now }
+    {
+        match self.included(&include.ty) {
             Some(class) => is_marked(&self.arrays, class),
             None => false,
         }
     }
+}
+
+/// Sees that each name in a header or an include clause may stand there.
+///
+/// # Errors
+///
+/// E12 at the first type, in text order and before those inside it, whose name may not.
+#[tactic(auto, using(crate::proofs::Scopes::misused_first))]
+fn names_stand(
+    alloc: Global,
+    classes: &[Class],
+    numbers: &ClassNumbers,
+    arrays: &[bool],
+) -> Result<(), FrontFault>
+    requires { HasNumbers classes.now numbers.now }
+    ensures none { OnOk result (NoneMisused classes.now arrays.now) }
+    ensures misused { (refusal : Refusal) → result ≡ Err (Refused refusal) → MisusedAt classes.now arrays.now refusal }
+{
+    match first_misused(alloc, classes, numbers, arrays)? {
+        None => Ok(()),
+        Some(pos) => Err(misused_at(pos)),
+    }
+}
+
+/// The refusal of a name that may not stand at this position.
+fn misused_at(pos: Pos) -> FrontFault
+    ensures { (refusal : Refusal) → result ≡ Refused refusal → refusal ≡ record { rule = ClassNotUsable; pos = pos } }
+{
+    Rule::ClassNotUsable.at(pos).into()
 }
 
 /// The numbers of the classes in an order in which each class stands behind those that it includes.
@@ -81,11 +137,24 @@ impl Includes {
 /// # Errors
 ///
 /// E15 at the name of the first class in text order that includes itself, by itself or by others.
-fn include_order(alloc: Global, classes: &[Class], graph: &Graph) -> Result<Vec<u32>, FrontFault> {
+#[tactic(auto, using(crate::proofs::Verdicts::first_named))]
+fn include_order(alloc: Global, classes: &[Class], graph: &Graph) -> Result<Vec<u32>, FrontFault>
+    ensures none { OnOk result (NoneBefore graph.now (node_count graph.now)) }
+    ensures cycle { (refusal : Refusal) → result ≡ Err (Refused refusal) → CycleAt classes.now graph.now refusal }
+{
     let order = graph.order(alloc)?;
-    let Some(number) = graph.first_on_cycle(alloc, &order)? else {
-        return Ok(order);
-    };
-    let class = held(classes.get(number))?;
-    Err(Rule::Cycle.at(class.name.pos).into())
+    match graph.first_on_cycle(alloc, &order)? {
+        None => Ok(order),
+        Some(number) => Err(cycle_at(classes, number)),
+    }
+}
+
+/// The refusal at the name of a class that lies on a cycle.
+fn cycle_at(classes: &[Class], number: usize) -> FrontFault
+    ensures { (refusal : Refusal) → result ≡ Refused refusal → IsNamed classes.now number refusal }
+{
+    match classes.get(number) {
+        Some(class) => Rule::Cycle.at(class.name.pos).into(),
+        None => FrontFault::NoMemory,
+    }
 }

@@ -1,7 +1,7 @@
 use Rattle.std.proofs.Common.{◌≡◌, ◌+◌, List, take, take_all, subst, sym}
 use Rattle.std.specs.List.{All}
 use Rattle.sa_tree.specs.declared.class.Feature.{Feature}
-use Rattle.sa_include.specs.Flattened.{Wins, head_of}
+use Rattle.sa_include.specs.Flattened.{Wins}
 use Rattle.sa_include.proofs.WrittenLemmas.{wins_copied}
 use Rattle.sa_include.proofs.whole.with_written.Goals as goal
 
@@ -12,7 +12,7 @@ loop-place-preserved c =
     let i = c.loop-place.place in
     let f = c.index-written-place.result in
     let copy = c.in_ok-copy_feature.field-0 in
-    let same = subst (λ (g : Feature). head_of copy ≡ head_of g) c.index-written-place.is c.in_ok-copy_feature.ensures in
+    let same = subst (λ (g : Feature). copy ≡ g) c.index-written-place.is c.in_ok-copy_feature.ensures in
     subst (λ (features : List Feature). All (Wins features) (take (i + 1) written)) (sym c.in_ok-push.ensures.ok)
     (wins_copied c.loop-place.features copy written i f c.loop-place-test.true c.loop-place.invariant same)
 

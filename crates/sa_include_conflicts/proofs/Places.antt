@@ -1,0 +1,18 @@
+-- The element at a place of two lists that are joined.
+use Rattle.std.proofs.Common.{◌≡◌, ℕ, zero, suc, ◌+◌, ◌-◌, ◌<◌, ◌≤◌, List, [], ◌∷◌, ◌++◌, Some, length, slice_get, ap, ◌∙◌, arith}
+
+module _ {A : Type 0} where
+  pub first_part : (xs ys : List A) (i : ℕ) (x : A) → slice_get xs i ≡ Some x → slice_get (xs ++ ys) i ≡ Some x
+  first_part [] ys i x h = cc
+  first_part (y ∷ xs) ys zero x h = h
+  first_part (y ∷ xs) ys (suc i) x h = first_part xs ys i x h
+
+  behind : (xs ys : List A) (i k : ℕ) → i ≡ length xs + k → slice_get (xs ++ ys) i ≡ slice_get ys k
+  behind [] ys i k e = let same : i ≡ k = omega (arith, e) in ap (slice_get ys) same
+  behind (x ∷ xs) ys zero k e = absurd (omega (arith, e))
+  behind (x ∷ xs) ys (suc i) k e = behind xs ys i k (omega (arith, e))
+
+  pub second_part : (xs ys : List A) (i : ℕ) (x : A) → length xs ≤ i → slice_get ys (i - length xs) ≡ Some x → slice_get (xs ++ ys) i ≡ Some x
+  second_part xs ys i x le h = behind xs ys i (i - length xs) (omega (arith, le)) ∙ h
+
+pub ruleset places = (first_part, second_part)

@@ -1,0 +1,73 @@
+//! Features of which no two conflict, tried: each signature is put into a table, in which none of an earlier feature conflicts with it.
+
+ghost use Rattle.std.specs.Prelude.{IfOk, OnOk};
+ghost use Rattle.sa_include_conflicts.specs.Brought.{HasSignatures};
+ghost use Rattle.sa_include_conflicts.specs.Clashes.{NoneClash};
+ghost use Rattle.sa_include_conflicts.specs.Known.{AddsFeature, AddsSignature};
+
+use crate::shape::Shape;
+use crate::signature::{own_signature, writer_signature};
+use indexmap::IndexSet;
+use sa_tree::{Feature, NoMemory};
+use sa_types::Sig;
+use std::alloc::Global;
+
+/// The signatures of features of which no two conflict.
+#[derive(Drop)]
+pub struct Known {
+    pub(crate) shapes: IndexSet<Shape>,
+}
+
+/// The signatures of the features of a class. It tries that no two of these conflict, which is known to the writer and not to
+/// a proof.
+///
+/// # Errors
+///
+/// `NoMemory`, also where two conflict.
+#[tactic(auto, using(crate::proofs::Separate::none_apart, crate::proofs::Separate::more_apart))]
+pub fn try_apart(alloc: Global, features: &[Feature], immutable: bool) -> Result<Known, NoMemory>
+    ensures none_clash { OnOk result (NoneClash immutable features.now) }
+    ensures signatures { IfOk result (HasSignatures immutable features.now) }
+{
+    let mut known = Known {
+        shapes: IndexSet::new(alloc),
+    };
+    for feature in features {
+        known.add_feature(alloc, feature, immutable)?;
+    }
+    Ok(known)
+}
+
+impl Known {
+    /// Adds the signatures of a feature.
+    #[tactic(auto, using(crate::proofs::Separate::adds_one, crate::proofs::Separate::adds_two))]
+    fn add_feature(
+        &mut self,
+        alloc: Global,
+        feature: &Feature,
+        immutable: bool,
+    ) -> Result<(), NoMemory>
+        ensures { OnOk result (AddsFeature immutable feature.now self.old.shapes.keys self.new.shapes.keys) }
+    {
+        self.add(own_signature(alloc, feature)?)?;
+        match writer_signature(alloc, feature, immutable)? {
+            Some(sig) => {
+                self.add(sig)?;
+                Ok(())
+            }
+            None => Ok(()),
+        }
+    }
+
+    /// Adds a signature, which conflicts with none of the others.
+    #[tactic(auto, using(crate::proofs::Separate::adds_new))]
+    fn add(&mut self, sig: Sig) -> Result<(), NoMemory>
+        ensures { OnOk result (AddsSignature sig self.old.shapes.keys self.new.shapes.keys) }
+    {
+        let is_new = self.shapes.insert(Shape::new(sig))?;
+        if !is_new {
+            return Err(NoMemory);
+        }
+        Ok(())
+    }
+}

@@ -1,0 +1,6 @@
+pub mod Numbers
+pub mod Misuses
+pub mod Clauses
+pub mod Scopes
+pub mod Verdicts
+pub mod Seconds
