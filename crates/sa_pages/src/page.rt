@@ -1,7 +1,7 @@
 //! Which text a word asks for.
 
 ghost use Rattle.std.specs.Prelude.{◌≡◌, map, option_map};
-ghost use Rattle.sa_pages.specs.Pages.{asked_row, error_page, error_pages, library_file, library_files, library_list, seen_row};
+ghost use Rattle.sa_pages.specs.Pages.{asked_row, asks, error_page, error_pages, library_file, library_files, library_list, seen_row};
 
 use crate::errors::ERRORS;
 use crate::library::{FILES, LISTED};
@@ -51,11 +51,15 @@ fn text_behind(
 ) -> Option<&'static str>
     ensures { option_map (λ text. text.now) result ≡ asked_row word.now (map seen_row table.now) }
 {
-    match table
-        .iter()
-        .find(|row| word == row.0 || word == row.1 || word == row.2)
-    {
+    match table.iter().find(|row| asks(word, *row)) {
         Some(row) => Some(row.3),
         None => None,
     }
+}
+
+/// Whether the word is one of the row's.
+fn asks(word: &str, row: &(&'static str, &'static str, &'static str, &'static str)) -> bool
+    ensures { result ≡ asks word.now (seen_row row.now) }
+{
+    word == row.0 || word == row.1 || word == row.2
 }
