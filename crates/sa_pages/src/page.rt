@@ -54,7 +54,8 @@ pub fn library_list() -> &'static str
 
 /// The first text, or where there is none the second.
 fn before(first: Option<&'static str>, second: Option<&'static str>) -> Option<&'static str>
-    ensures { option_map (λ text. text.now) result ≡ spec.before (option_map (λ text. text.now) first) (option_map (λ text. text.now) second) }
+    ensures { option_map (λ text. text.now) result
+        ≡ spec.before (option_map (λ text. text.now) first.entry) (option_map (λ text. text.now) second.entry) }
 {
     match first {
         Some(text) => Some(text),
