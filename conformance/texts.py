@@ -23,7 +23,8 @@ from report import Left
 
 CRATE = os.path.join(report.TOP, 'crates', 'sa_pages', 'src')
 COLUMNS = 79
-WIDTH, ROW_WIDTH = 100, 60
+WIDTH, ROW_WIDTH, SHORT = 100, 60, 10
+PARTS = 12
 SECTION = re.compile(r'^### ([^\n]*)\n(.*?)(?=^##|\Z)', re.M | re.S)
 CODE_OF = re.compile(r'(E\d\d): (.*)')
 LINK = re.compile(r'\[([^]]*)\]\([^)]*\)')
@@ -102,29 +103,52 @@ def name_of(word):
     return re.sub(r'\W+', '_', word).upper()
 
 
-def row(words, name):
-    """A row of a table, laid out as `rt fmt` does."""
-    parts = ['"%s"' % word for word in words] + [name]
+def row(parts):
+    """A row of a table of several, laid out as `rt fmt` does."""
     if len(', '.join(parts)) <= ROW_WIDTH:
         return '    (%s),\n' % ', '.join(parts)
     return '    (\n%s    ),\n' % ''.join('        %s,\n' % part for part in parts)
 
 
+def table_of(head, rows):
+    """A table behind the head of its constant, laid out as `rt fmt` does."""
+    if len(rows) != 1:
+        return '%s[%s];\n' % (head, '\n' + ''.join(map(row, rows)) if rows else '')
+    line = '%s[(%s)];\n' % (head, ', '.join(rows[0]))
+    if len(line) <= WIDTH + 1:
+        return line
+    if max(map(len, rows[0])) <= SHORT:
+        return '%s[(\n    %s,\n)];\n' % (head, ', '.join(rows[0]))
+    return '%s[(\n%s)];\n' % (head, ''.join('    %s,\n' % part for part in rows[0]))
+
+
+def parted(texts):
+    """The texts in parts that are about equally long: what the prover can take at once is bounded."""
+    whole, before = sum(len(text) for *_, text in texts), 0
+    parts = [[] for _ in range(PARTS)]
+    for *words, text in texts:
+        parts[(before + len(text) // 2) * PARTS // whole].append([*words, text])
+        before += len(text)
+    return parts
+
+
 def source(head, table, says, texts):
-    """The source of a table of words with their texts: a constant for each text, named by the first word that asks for it."""
-    rows = ''.join(row(words, name_of(words[0])) for *words, _ in texts)
-    constants = '\n'.join(constant(name_of(words[0]), text) for *words, text in texts)
-    return '%s\n/// %s\npub(crate) const %s: [(&str, &str, &str, &str); %d] = [\n%s];\n\n%s' % (
-        head, says, table, len(texts), rows, constants)
+    """The source of the tables of words with their texts: a constant for each text, named by the first word that asks for it."""
+    tables = ''
+    for number, part in enumerate(parted(texts)):
+        rows = [['"%s"' % word for word in words] + [name_of(words[0])] for *words, _ in part]
+        name = 'pub(crate) const %s_%d: [(&str, &str, &str, &str); %d] = ' % (table, number, len(part))
+        tables += '/// %s\n%s\n' % (says, table_of(name, rows))
+    return '%s\n%s%s' % (head, tables, '\n'.join(constant(name_of(words[0]), text) for *words, text in texts))
 
 
 def sources():
     """The sources of the crate that this script writes, by their names."""
     return {
         'errors.rt': source('//! The sections of docs/ERRORS.md. conformance/texts.py writes this file.\n', 'ERRORS',
-                            'The pages, each behind the words that ask for it.', explained()),
+                            'A part of the pages, each behind the words that ask for it.', explained()),
         'library.rt': source('//! The files of lib/. conformance/texts.py writes this file.\n', 'FILES',
-                             'The files, each behind the words that ask for it.', printed())
+                             'A part of the files, each behind the words that ask for it.', printed())
         + '\n/// The files, each with what it has.\n' + constant('LISTED', listed(), 'pub(crate) ')}
 
 

@@ -1,5 +1,5 @@
 -- The row that a word asks for, among references and among what they point to.
-use Rattle.std.proofs.Common.{◌≡◌, ◌∙◌, Bool, cond, false, true, ap, refl, sym, List, [], ◌∷◌, map, None, Option, Some}
+use Rattle.std.proofs.Common.{◌≡◌, ◌∙◌, Bool, cond, false, true, ap, refl, List, [], ◌∷◌, map, None, Option, Some}
 use Rattle.std.specs.Prelude.{find, option_map}
 use Rattle.std.specs.Borrow.{Bor}
 use Rattle.sa_pages.specs.Pages.{Row, Text, asked_row, asks, seen_row}

@@ -1,8 +1,10 @@
 -- Which text a word asks for.
-use Rattle.std.specs.Prelude.{ℕ, ◌||◌, Bool, List, Option, find, map, option_map, bytes_eq}
+use Rattle.std.specs.Prelude.{ℕ, ◌||◌, Bool, List, None, Option, Some, find, map, option_map, bytes_eq}
 use Rattle.std.specs.Borrow.{Bor}
-use Rattle.sa_pages.specs.declared.errors.TheConstants.{ERRORS}
-use Rattle.sa_pages.specs.declared.library.TheConstants.{FILES, LISTED}
+use Rattle.sa_pages.specs.declared.errors.TheConstants.{ERRORS_0, ERRORS_1, ERRORS_2, ERRORS_3, ERRORS_4, ERRORS_5, ERRORS_6, ERRORS_7}
+use Rattle.sa_pages.specs.declared.errors.TheConstants.{ERRORS_8, ERRORS_9, ERRORS_10, ERRORS_11}
+use Rattle.sa_pages.specs.declared.library.TheConstants.{FILES_0, FILES_1, FILES_2, FILES_3, FILES_4, FILES_5, FILES_6, FILES_7}
+use Rattle.sa_pages.specs.declared.library.TheConstants.{FILES_8, FILES_9, FILES_10, FILES_11, LISTED}
 
 abbrev pub Text : Type 0
 Text = List ℕ
@@ -23,21 +25,116 @@ asks word row = bytes_eq word row.0 || (bytes_eq word row.1 || bytes_eq word row
 abbrev pub asked_row : Text → List Row → Option Text
 asked_row word table = option_map (λ row. row.3) (find (asks word) table)
 
--- the sections of docs/ERRORS.md
-unfoldable pub error_pages : List Row
-error_pages = map (λ row. (row.0.now, row.1.now, row.2.now, row.3.now)) ERRORS
+-- the sections of docs/ERRORS.md, in parts
+unfoldable pub errors_0 : List Row
+errors_0 = map (λ row. (row.0.now, row.1.now, row.2.now, row.3.now)) ERRORS_0
 
--- the files of lib/
-unfoldable pub library_files : List Row
-library_files = map (λ row. (row.0.now, row.1.now, row.2.now, row.3.now)) FILES
+unfoldable pub errors_1 : List Row
+errors_1 = map (λ row. (row.0.now, row.1.now, row.2.now, row.3.now)) ERRORS_1
+
+unfoldable pub errors_2 : List Row
+errors_2 = map (λ row. (row.0.now, row.1.now, row.2.now, row.3.now)) ERRORS_2
+
+unfoldable pub errors_3 : List Row
+errors_3 = map (λ row. (row.0.now, row.1.now, row.2.now, row.3.now)) ERRORS_3
+
+unfoldable pub errors_4 : List Row
+errors_4 = map (λ row. (row.0.now, row.1.now, row.2.now, row.3.now)) ERRORS_4
+
+unfoldable pub errors_5 : List Row
+errors_5 = map (λ row. (row.0.now, row.1.now, row.2.now, row.3.now)) ERRORS_5
+
+unfoldable pub errors_6 : List Row
+errors_6 = map (λ row. (row.0.now, row.1.now, row.2.now, row.3.now)) ERRORS_6
+
+unfoldable pub errors_7 : List Row
+errors_7 = map (λ row. (row.0.now, row.1.now, row.2.now, row.3.now)) ERRORS_7
+
+unfoldable pub errors_8 : List Row
+errors_8 = map (λ row. (row.0.now, row.1.now, row.2.now, row.3.now)) ERRORS_8
+
+unfoldable pub errors_9 : List Row
+errors_9 = map (λ row. (row.0.now, row.1.now, row.2.now, row.3.now)) ERRORS_9
+
+unfoldable pub errors_10 : List Row
+errors_10 = map (λ row. (row.0.now, row.1.now, row.2.now, row.3.now)) ERRORS_10
+
+unfoldable pub errors_11 : List Row
+errors_11 = map (λ row. (row.0.now, row.1.now, row.2.now, row.3.now)) ERRORS_11
+
+-- the files of lib/, in parts
+unfoldable pub files_0 : List Row
+files_0 = map (λ row. (row.0.now, row.1.now, row.2.now, row.3.now)) FILES_0
+
+unfoldable pub files_1 : List Row
+files_1 = map (λ row. (row.0.now, row.1.now, row.2.now, row.3.now)) FILES_1
+
+unfoldable pub files_2 : List Row
+files_2 = map (λ row. (row.0.now, row.1.now, row.2.now, row.3.now)) FILES_2
+
+unfoldable pub files_3 : List Row
+files_3 = map (λ row. (row.0.now, row.1.now, row.2.now, row.3.now)) FILES_3
+
+unfoldable pub files_4 : List Row
+files_4 = map (λ row. (row.0.now, row.1.now, row.2.now, row.3.now)) FILES_4
+
+unfoldable pub files_5 : List Row
+files_5 = map (λ row. (row.0.now, row.1.now, row.2.now, row.3.now)) FILES_5
+
+unfoldable pub files_6 : List Row
+files_6 = map (λ row. (row.0.now, row.1.now, row.2.now, row.3.now)) FILES_6
+
+unfoldable pub files_7 : List Row
+files_7 = map (λ row. (row.0.now, row.1.now, row.2.now, row.3.now)) FILES_7
+
+unfoldable pub files_8 : List Row
+files_8 = map (λ row. (row.0.now, row.1.now, row.2.now, row.3.now)) FILES_8
+
+unfoldable pub files_9 : List Row
+files_9 = map (λ row. (row.0.now, row.1.now, row.2.now, row.3.now)) FILES_9
+
+unfoldable pub files_10 : List Row
+files_10 = map (λ row. (row.0.now, row.1.now, row.2.now, row.3.now)) FILES_10
+
+unfoldable pub files_11 : List Row
+files_11 = map (λ row. (row.0.now, row.1.now, row.2.now, row.3.now)) FILES_11
+
+-- the first text, or where there is none the second
+abbrev pub before : Option Text → Option Text → Option Text
+before (Some text) second = Some text
+before None second = second
 
 -- the page that explains a code, or the text of a line
 abbrev pub error_page : Text → Option Text
-error_page word = asked_row word error_pages
+error_page word =
+    before (asked_row word errors_0)
+    (before (asked_row word errors_1)
+    (before (asked_row word errors_2)
+    (before (asked_row word errors_3)
+    (before (asked_row word errors_4)
+    (before (asked_row word errors_5)
+    (before (asked_row word errors_6)
+    (before (asked_row word errors_7)
+    (before (asked_row word errors_8)
+    (before (asked_row word errors_9)
+    (before (asked_row word errors_10)
+    (asked_row word errors_11)))))))))))
 
 -- the file of the library with this name
 abbrev pub library_file : Text → Option Text
-library_file name = asked_row name library_files
+library_file name =
+    before (asked_row name files_0)
+    (before (asked_row name files_1)
+    (before (asked_row name files_2)
+    (before (asked_row name files_3)
+    (before (asked_row name files_4)
+    (before (asked_row name files_5)
+    (before (asked_row name files_6)
+    (before (asked_row name files_7)
+    (before (asked_row name files_8)
+    (before (asked_row name files_9)
+    (before (asked_row name files_10)
+    (asked_row name files_11)))))))))))
 
 -- the list of the files of the library
 unfoldable pub library_list : Text

@@ -1,7 +1,7 @@
 //! The sections of docs/ERRORS.md. conformance/texts.py writes this file.
 
-/// The pages, each behind the words that ask for it.
-pub(crate) const ERRORS: [(&str, &str, &str, &str); 72] = [
+/// A part of the pages, each behind the words that ask for it.
+pub(crate) const ERRORS_0: [(&str, &str, &str, &str); 6] = [
     ("E01", "bad byte", "E01: bad byte", E01),
     ("E02", "literal not ended", "E02: literal not ended", E02),
     ("E03", "number too large", "E03: number too large", E03),
@@ -13,6 +13,10 @@ pub(crate) const ERRORS: [(&str, &str, &str, &str); 72] = [
     ),
     ("E05", "unknown escape", "E05: unknown escape", E05),
     ("E06", "unexpected token", "E06: unexpected token", E06),
+];
+
+/// A part of the pages, each behind the words that ask for it.
+pub(crate) const ERRORS_1: [(&str, &str, &str, &str); 6] = [
     ("E07", "nested too deep", "E07: nested too deep", E07),
     ("E08", "word not taken", "E08: word not taken", E08),
     (
@@ -34,6 +38,10 @@ pub(crate) const ERRORS: [(&str, &str, &str, &str); 72] = [
         E13,
     ),
     ("E14", "bound not met", "E14: bound not met", E14),
+];
+
+/// A part of the pages, each behind the words that ask for it.
+pub(crate) const ERRORS_2: [(&str, &str, &str, &str); 6] = [
     ("E15", "cycle", "E15: cycle", E15),
     ("E24", "no MAIN::main", "E24: no MAIN::main", E24),
     ("E18", "subtype cycle", "E18: subtype cycle", E18),
@@ -55,6 +63,10 @@ pub(crate) const ERRORS: [(&str, &str, &str, &str); 72] = [
         "E21: several conforming features",
         E21,
     ),
+];
+
+/// A part of the pages, each behind the words that ask for it.
+pub(crate) const ERRORS_3: [(&str, &str, &str, &str); 5] = [
     ("E11", "features conflict", "E11: features conflict", E11),
     (
         "E16",
@@ -70,6 +82,10 @@ pub(crate) const ERRORS: [(&str, &str, &str, &str); 72] = [
     ),
     ("E22", "stub left", "E22: stub left", E22),
     ("E30", "unknown name", "E30: unknown name", E30),
+];
+
+/// A part of the pages, each behind the words that ask for it.
+pub(crate) const ERRORS_4: [(&str, &str, &str, &str); 4] = [
     ("E31", "no feature fits", "E31: no feature fits", E31),
     (
         "E32",
@@ -84,6 +100,10 @@ pub(crate) const ERRORS: [(&str, &str, &str, &str); 72] = [
         "E41: no type from context",
         E41,
     ),
+];
+
+/// A part of the pages, each behind the words that ask for it.
+pub(crate) const ERRORS_5: [(&str, &str, &str, &str); 5] = [
     ("E43", "declared twice", "E43: declared twice", E43),
     ("E33", "wrong type", "E33: wrong type", E33),
     ("E39", "not assignable", "E39: not assignable", E39),
@@ -94,6 +114,10 @@ pub(crate) const ERRORS: [(&str, &str, &str, &str); 72] = [
         "E35: iter call outside a loop",
         E35,
     ),
+];
+
+/// A part of the pages, each behind the words that ask for it.
+pub(crate) const ERRORS_6: [(&str, &str, &str, &str); 6] = [
     (
         "E36",
         "iter call in self or once",
@@ -115,6 +139,10 @@ pub(crate) const ERRORS: [(&str, &str, &str, &str); 72] = [
         E44,
     ),
     ("E45", "bad bind", "E45: bad bind", E45),
+];
+
+/// A part of the pages, each behind the words that ask for it.
+pub(crate) const ERRORS_7: [(&str, &str, &str, &str); 7] = [
     (
         "E46",
         "condition not quiet",
@@ -132,6 +160,10 @@ pub(crate) const ERRORS: [(&str, &str, &str, &str); 72] = [
         E54,
     ),
     ("E55", "program too large", "E55: program too large", E55),
+];
+
+/// A part of the pages, each behind the words that ask for it.
+pub(crate) const ERRORS_8: [(&str, &str, &str, &str); 5] = [
     (
         "E56",
         "too many dispatch pairs",
@@ -147,6 +179,10 @@ pub(crate) const ERRORS: [(&str, &str, &str, &str); 72] = [
     ),
     ("void", "fault: void", "fault: void", VOID),
     ("index", "fault: index", "fault: index", INDEX),
+];
+
+/// A part of the pages, each behind the words that ask for it.
+pub(crate) const ERRORS_9: [(&str, &str, &str, &str); 6] = [
     (
         "no branch",
         "fault: no branch",
@@ -163,6 +199,10 @@ pub(crate) const ERRORS: [(&str, &str, &str, &str); 72] = [
     ("uncaught", "fault: uncaught", "fault: uncaught", UNCAUGHT),
     ("no room", "fault: no room", "fault: no room", NO_ROOM),
     ("too deep", "fault: too deep", "fault: too deep", TOO_DEEP),
+];
+
+/// A part of the pages, each behind the words that ask for it.
+pub(crate) const ERRORS_10: [(&str, &str, &str, &str); 8] = [
     ("frames", "fault: frames", "fault: frames", FRAMES),
     ("fuel spent", "fuel spent", "fuel spent", FUEL_SPENT),
     ("store fault", "store fault", "store fault", STORE_FAULT),
@@ -171,6 +211,10 @@ pub(crate) const ERRORS: [(&str, &str, &str, &str); 72] = [
     ("usage", "usage", "usage", USAGE),
     ("no page", "no page", "no page", NO_PAGE),
     ("no file", "no file", "no file", NO_FILE),
+];
+
+/// A part of the pages, each behind the words that ask for it.
+pub(crate) const ERRORS_11: [(&str, &str, &str, &str); 8] = [
     (
         "out of memory",
         "out of memory",

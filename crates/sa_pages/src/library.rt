@@ -1,21 +1,53 @@
 //! The files of lib/. conformance/texts.py writes this file.
 
-/// The files, each behind the words that ask for it.
-pub(crate) const FILES: [(&str, &str, &str, &str); 13] = [
-    ("array2", "array2.sa", "array2.sa", ARRAY2),
-    ("fixed", "fixed.sa", "fixed.sa", FIXED),
-    ("fmap", "fmap.sa", "fmap.sa", FMAP),
+/// A part of the files, each behind the words that ask for it.
+pub(crate) const FILES_0: [(&str, &str, &str, &str); 1] = [(
+    "array2",
+    "array2.sa",
+    "array2.sa",
+    ARRAY2,
+)];
+
+/// A part of the files, each behind the words that ask for it.
+pub(crate) const FILES_1: [(&str, &str, &str, &str); 1] = [(
+    "fixed", "fixed.sa", "fixed.sa", FIXED,
+)];
+
+/// A part of the files, each behind the words that ask for it.
+pub(crate) const FILES_2: [(&str, &str, &str, &str); 1] = [("fmap", "fmap.sa", "fmap.sa", FMAP)];
+
+/// A part of the files, each behind the words that ask for it.
+pub(crate) const FILES_3: [(&str, &str, &str, &str); 2] = [
     ("fstr", "fstr.sa", "fstr.sa", FSTR),
     ("in_lines", "in_lines.sa", "in_lines.sa", IN_LINES),
-    ("inti", "inti.sa", "inti.sa", INTI),
-    ("ints", "ints.sa", "ints.sa", INTS),
+];
+
+/// A part of the files, each behind the words that ask for it.
+pub(crate) const FILES_4: [(&str, &str, &str, &str); 1] = [("inti", "inti.sa", "inti.sa", INTI)];
+
+/// A part of the files, each behind the words that ask for it.
+pub(crate) const FILES_5: [(&str, &str, &str, &str); 0] = [];
+
+/// A part of the files, each behind the words that ask for it.
+pub(crate) const FILES_6: [(&str, &str, &str, &str); 1] = [("ints", "ints.sa", "ints.sa", INTS)];
+
+/// A part of the files, each behind the words that ask for it.
+pub(crate) const FILES_7: [(&str, &str, &str, &str); 2] = [
     ("list", "list.sa", "list.sa", LIST),
     ("queue", "queue.sa", "queue.sa", QUEUE),
-    ("rnd", "rnd.sa", "rnd.sa", RND),
-    ("sort", "sort.sa", "sort.sa", SORT),
-    ("text", "text.sa", "text.sa", TEXT),
-    ("tup", "tup.sa", "tup.sa", TUP),
 ];
+
+/// A part of the files, each behind the words that ask for it.
+pub(crate) const FILES_8: [(&str, &str, &str, &str); 1] = [("rnd", "rnd.sa", "rnd.sa", RND)];
+
+/// A part of the files, each behind the words that ask for it.
+pub(crate) const FILES_9: [(&str, &str, &str, &str); 1] = [("sort", "sort.sa", "sort.sa", SORT)];
+
+/// A part of the files, each behind the words that ask for it.
+pub(crate) const FILES_10: [(&str, &str, &str, &str); 1] = [("text", "text.sa", "text.sa", TEXT)];
+
+/// A part of the files, each behind the words that ask for it.
+pub(crate) const FILES_11: [(&str, &str, &str, &str); 1] = [("tup", "tup.sa", "tup.sa", TUP)];
 
 const ARRAY2: &str = r#"-- ARRAY2: an array of rows and columns, both counted from 0.
 --
