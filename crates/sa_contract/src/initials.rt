@@ -1,6 +1,14 @@
 //! The `initial`s of a `post`: in place of each stands a variable, which is declared at the start of the body with the value
 //! that is meant.
 
+ghost use Rattle.std.specs.Prelude.{◌≡◌, ◌++◌, [], ◌∷◌, IfOk, OnOk, length, nat_eq};
+ghost use Rattle.std.specs.Cmp.Lexicographic.{pointwise};
+ghost use Rattle.sa_contract.specs.Taken.{call_declared, call_replaced, initial_word, value_of, variable_declared};
+ghost use Rattle.sa_contract.specs.Taken.{declared_by, declared_by_argument, declared_by_arguments, declared_by_exprs};
+ghost use Rattle.sa_contract.specs.Taken.{value_in, variable_name, variable_read};
+ghost use Rattle.sa_contract.specs.Taken.{declared_by_option, declared_by_receiver, replaced, replaced_argument};
+ghost use Rattle.sa_contract.specs.Taken.{replaced_arguments, replaced_exprs, replaced_option, replaced_receiver};
+
 use crate::budget::Budget;
 use crate::copy::{copy_expr, copy_name, copy_optional_type, copy_type};
 use itoa::Buffer;
@@ -10,13 +18,17 @@ use std::alloc::{AllocError, Global};
 
 /// The test of a condition with a variable in place of each `initial`, whose declarations are put behind those in the list.
 /// The variables are numbered by their places in it.
+#[tactic(auto, using(crate::proofs::TakenAt::forms))]
 #[cycle(taking)]
 pub(crate) fn take_initials(
     alloc: Global,
     e: &Expr,
     declared: &mut Items<Stmt>,
     budget: &mut Budget,
-) -> Result<Expr, NoMemory> {
+) -> Result<Expr, NoMemory>
+    ensures form { IfOk result (λ form. form ≡ replaced e.now declared.old) }
+    ensures declarations { OnOk result (declared.new ≡ declared_by e.now declared.old) }
+{
     match e {
         Expr::Int(_, _)
         | Expr::Bool(_, _)
@@ -43,10 +55,7 @@ pub(crate) fn take_initials(
         Expr::Call(on, name, args, pos) => {
             let on = take_in_receiver(alloc, on, declared, budget)?;
             let args = take_in_args(alloc, args.as_slice(), declared, budget)?;
-            if is_initial(name) {
-                return declare_initial(alloc, args, *pos, declared);
-            }
-            Ok(Expr::Call(on, copy_name(alloc, name, budget)?, args, *pos))
+            taken_call(alloc, name, on, args, *pos, declared, budget)
         }
         Expr::Binary(op, left, right, pos) => {
             let left = take_in_boxed(alloc, left, declared, budget)?;
@@ -73,18 +82,25 @@ fn take_in_boxed(
     e: &Boxed<Expr>,
     declared: &mut Items<Stmt>,
     budget: &mut Budget,
-) -> Result<Boxed<Expr>, NoMemory> {
+) -> Result<Boxed<Expr>, NoMemory>
+    ensures form { IfOk result (λ form. form ≡ replaced e.now declared.old) }
+    ensures declarations { OnOk result (declared.new ≡ declared_by e.now declared.old) }
+{
     let taken = take_initials(alloc, e.get(), declared, budget)?;
     Ok(Boxed::new(alloc, taken)?)
 }
 
+#[tactic(auto, using(crate::proofs::TakenAt::options))]
 #[cycle(taking)]
 fn take_in_optional(
     alloc: Global,
     e: &Option<Boxed<Expr>>,
     declared: &mut Items<Stmt>,
     budget: &mut Budget,
-) -> Result<Option<Boxed<Expr>>, NoMemory> {
+) -> Result<Option<Boxed<Expr>>, NoMemory>
+    ensures form { IfOk result (λ form. form ≡ replaced_option e.now declared.old) }
+    ensures declarations { OnOk result (declared.new ≡ declared_by_option e.now declared.old) }
+{
     match e {
         None => Ok(None),
         Some(e) => {
@@ -94,13 +110,17 @@ fn take_in_optional(
     }
 }
 
+#[tactic(auto, using(crate::proofs::TakenAt::exprs))]
 #[cycle(taking)]
 fn take_in_exprs(
     alloc: Global,
     list: &[Expr],
     declared: &mut Items<Stmt>,
     budget: &mut Budget,
-) -> Result<Items<Expr>, NoMemory> {
+) -> Result<Items<Expr>, NoMemory>
+    ensures form { IfOk result (λ form. form ≡ replaced_exprs list.now declared.old) }
+    ensures declarations { OnOk result (declared.new ≡ declared_by_exprs list.now declared.old) }
+{
     let mut taken = Items::new(alloc);
     for e in list {
         taken.push(take_initials(alloc, e, declared, budget)?)?;
@@ -108,13 +128,17 @@ fn take_in_exprs(
     Ok(taken)
 }
 
+#[tactic(auto, using(crate::proofs::TakenAt::receivers))]
 #[cycle(taking)]
 fn take_in_receiver(
     alloc: Global,
     on: &Recv,
     declared: &mut Items<Stmt>,
     budget: &mut Budget,
-) -> Result<Recv, NoMemory> {
+) -> Result<Recv, NoMemory>
+    ensures form { IfOk result (λ form. form ≡ replaced_receiver on.now declared.old) }
+    ensures declarations { OnOk result (declared.new ≡ declared_by_receiver on.now declared.old) }
+{
     match on {
         Recv::Implied => Ok(Recv::Implied),
         Recv::Of(e) => Ok(Recv::Of(take_in_boxed(alloc, e, declared, budget)?)),
@@ -122,13 +146,17 @@ fn take_in_receiver(
     }
 }
 
+#[tactic(auto, using(crate::proofs::TakenAt::arguments))]
 #[cycle(taking)]
 fn take_in_args(
     alloc: Global,
     args: &[Given],
     declared: &mut Items<Stmt>,
     budget: &mut Budget,
-) -> Result<Items<Given>, NoMemory> {
+) -> Result<Items<Given>, NoMemory>
+    ensures form { IfOk result (λ form. form ≡ replaced_arguments args.now declared.old) }
+    ensures declarations { OnOk result (declared.new ≡ declared_by_arguments args.now declared.old) }
+{
     let mut taken = Items::new(alloc);
     for arg in args {
         taken.push(take_in_arg(alloc, arg, declared, budget)?)?;
@@ -136,13 +164,17 @@ fn take_in_args(
     Ok(taken)
 }
 
+#[tactic(auto, using(crate::proofs::TakenAt::argument))]
 #[cycle(taking)]
 fn take_in_arg(
     alloc: Global,
     arg: &Given,
     declared: &mut Items<Stmt>,
     budget: &mut Budget,
-) -> Result<Given, NoMemory> {
+) -> Result<Given, NoMemory>
+    ensures form { IfOk result (λ form. form ≡ replaced_argument arg.now declared.old) }
+    ensures declarations { OnOk result (declared.new ≡ declared_by_argument arg.now declared.old) }
+{
     match arg {
         Given::Value(mode, e) => {
             Ok(Given::Value(*mode, take_initials(alloc, e, declared, budget)?))
@@ -151,11 +183,32 @@ fn take_in_arg(
     }
 }
 
+/// A call of this name, of which the receiver and the arguments are done: the variable of an `initial`, or the call.
+fn taken_call(
+    alloc: Global,
+    name: &Name,
+    on: Recv,
+    args: Items<Given>,
+    pos: Pos,
+    declared: &mut Items<Stmt>,
+    budget: &mut Budget,
+) -> Result<Expr, NoMemory>
+    ensures form { IfOk result (λ form. form ≡ call_replaced name.now on args pos (length declared.old)) }
+    ensures declarations { OnOk result (declared.new ≡ call_declared name.now args pos declared.old) }
+{
+    if is_initial(name) {
+        return declare_initial(alloc, args, pos, declared);
+    }
+    Ok(Expr::Call(on, copy_name(alloc, name, budget)?, args, pos))
+}
+
 /// The word.
 const INITIAL: &[u8] = b"initial";
 
 /// Whether a call of this name is an `initial`. No feature has it, since it is a word.
-fn is_initial(name: &Name) -> bool {
+fn is_initial(name: &Name) -> bool
+    ensures { result ≡ pointwise nat_eq name.now initial_word }
+{
     name.as_slice() == INITIAL
 }
 
@@ -165,27 +218,59 @@ fn declare_initial(
     args: Items<Given>,
     pos: Pos,
     declared: &mut Items<Stmt>,
-) -> Result<Expr, NoMemory> {
+) -> Result<Expr, NoMemory>
+    ensures form { IfOk result (λ form. form ≡ variable_read (length declared.old) pos) }
+    ensures declarations { OnOk result
+        (declared.new ≡ declared.old ++ variable_declared (length declared.old) (value_of args) pos ∷ []) }
+{
     let number = declared.len();
+    let variable = initial_name(alloc, number)?;
+    declared.push(declaration(alloc, number, value_of(args), pos)?)?;
+    Ok(Expr::Call(Recv::Implied, variable, Items::new(alloc), pos))
+}
+
+/// The variable with this number, declared with the value.
+fn declaration(
+    alloc: Global,
+    number: usize,
+    value: Option<Expr>,
+    pos: Pos,
+) -> Result<Stmt, AllocError>
+    ensures { IfOk result (λ declared. declared ≡ variable_declared number value pos) }
+{
     let name = initial_name(alloc, number)?;
     let mut names = Items::new(alloc);
     names.push(Local { name, pos })?;
-    declared.push(Stmt::Declare(names, None, value_of(args)))?;
-    let name = initial_name(alloc, number)?;
-    Ok(Expr::Call(Recv::Implied, name, Items::new(alloc), pos))
+    Ok(Stmt::Declare(names, None, value))
 }
 
-/// The value of the argument.
-fn value_of(args: Items<Given>) -> Option<Expr> {
+/// The value of the last argument.
+#[tactic(auto, using(crate::proofs::TakenAt::values))]
+fn value_of(args: Items<Given>) -> Option<Expr>
+    ensures { result ≡ value_of args }
+{
     let mut args = args;
     match args.pop() {
-        Some(Given::Value(_, value)) => Some(value),
-        _ => None,
+        Some(last) => value_in(last),
+        None => None,
+    }
+}
+
+/// The value of an argument.
+#[tactic(auto, using(crate::proofs::TakenAt::values))]
+fn value_in(argument: Given) -> Option<Expr>
+    ensures { result ≡ value_in argument }
+{
+    match argument {
+        Given::Value(_, value) => Some(value),
+        Given::Left(_, _) => None,
     }
 }
 
 /// The name of the variable with this number, which no source can spell.
-fn initial_name(alloc: Global, number: usize) -> Result<Name, AllocError> {
+fn initial_name(alloc: Global, number: usize) -> Result<Name, AllocError>
+    ensures { IfOk result (λ name. name ≡ variable_name number) }
+{
     let mut name = Vec::from_slice(alloc, b"initial!")?;
     name.extend_from_slice(Buffer::new().format(number).as_bytes())?;
     Name::from_slice(alloc, name.as_slice())

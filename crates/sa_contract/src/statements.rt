@@ -1,5 +1,9 @@
 //! Statements in which each `return` and `yield` is checked first, in a body whose feature has something to keep.
 
+ghost use Rattle.std.specs.Prelude.{◌≡◌, IfOk, map};
+ghost use Rattle.sa_contract.specs.Leaving.{always, checked, checked_list, gives, leaving_arm_by, leaving_by, leaving_case_arm_by};
+ghost use Rattle.sa_contract.specs.Leaving.{leaving_type_arm_by, result_declared, result_local, result_read};
+
 use crate::asserts::{Kept, add_asserts};
 use crate::budget::Budget;
 use crate::copy::{copy_expr, copy_exprs, copy_optional_expr, copy_optional_type, copy_type};
@@ -15,7 +19,9 @@ enum Giving {
 }
 
 impl Giving {
-    fn form(self, value: Option<Expr>, pos: Pos) -> Stmt {
+    fn form(self, value: Option<Expr>, pos: Pos) -> Stmt
+        ensures { result ≡ gives self value pos }
+    {
         match self {
             Giving::Return => Stmt::Return(value, pos),
             Giving::Yield => Stmt::Yield(value, pos),
@@ -25,13 +31,16 @@ impl Giving {
 
 /// The statements, in which what the feature keeps is checked at each `return` and `yield`. It fails where memory runs out,
 /// or the budget.
+#[tactic(auto, using(crate::proofs::LeavingAt::lists))]
 #[cycle(statement)]
 pub(crate) fn check_leaving(
     alloc: Global,
     list: &[Stmt],
     kept: &Kept<'_>,
     budget: &mut Budget,
-) -> Result<Items<Stmt>, NoMemory> {
+) -> Result<Items<Stmt>, NoMemory>
+    ensures { IfOk result (λ woven. woven ≡ map (leaving_by kept.now) list.now) }
+{
     let mut woven = Items::new(alloc);
     for s in list {
         woven.push(statement(alloc, s, kept, budget)?)?;
@@ -39,13 +48,16 @@ pub(crate) fn check_leaving(
     Ok(woven)
 }
 
+#[tactic(auto, using(crate::proofs::LeavingAt::statements))]
 #[cycle(statement)]
 fn statement(
     alloc: Global,
     s: &Stmt,
     kept: &Kept<'_>,
     budget: &mut Budget,
-) -> Result<Stmt, NoMemory> {
+) -> Result<Stmt, NoMemory>
+    ensures { IfOk result (λ woven. woven ≡ leaving_by kept.now s.now) }
+{
     match s {
         Stmt::Return(value, pos) => checked_giving(
             alloc,
@@ -108,13 +120,16 @@ fn statement(
 }
 
 /// The same in the arms of an `if`.
+#[tactic(auto, using(crate::proofs::LeavingAt::lists))]
 #[cycle(statement)]
 fn arms(
     alloc: Global,
     list: &[Arm],
     kept: &Kept<'_>,
     budget: &mut Budget,
-) -> Result<Items<Arm>, NoMemory> {
+) -> Result<Items<Arm>, NoMemory>
+    ensures { IfOk result (λ woven. woven ≡ map (leaving_arm_by kept.now) list.now) }
+{
     let mut woven = Items::new(alloc);
     for one in list {
         woven.push(arm(alloc, one, kept, budget)?)?;
@@ -122,21 +137,27 @@ fn arms(
     Ok(woven)
 }
 
+#[tactic(auto, using(crate::proofs::LeavingAt::arms))]
 #[cycle(statement)]
-fn arm(alloc: Global, of: &Arm, kept: &Kept<'_>, budget: &mut Budget) -> Result<Arm, NoMemory> {
+fn arm(alloc: Global, of: &Arm, kept: &Kept<'_>, budget: &mut Budget) -> Result<Arm, NoMemory>
+    ensures { IfOk result (λ woven. woven ≡ leaving_arm_by kept.now of.now) }
+{
     let test = copy_expr(alloc, &of.test, budget)?;
     let body = check_leaving(alloc, of.body.as_slice(), kept, budget)?;
     Ok(Arm { test, body })
 }
 
 /// The same in the branches of a `case`.
+#[tactic(auto, using(crate::proofs::LeavingAt::lists))]
 #[cycle(statement)]
 fn case_arms(
     alloc: Global,
     list: &[CaseArm],
     kept: &Kept<'_>,
     budget: &mut Budget,
-) -> Result<Items<CaseArm>, NoMemory> {
+) -> Result<Items<CaseArm>, NoMemory>
+    ensures { IfOk result (λ woven. woven ≡ map (leaving_case_arm_by kept.now) list.now) }
+{
     let mut woven = Items::new(alloc);
     for one in list {
         woven.push(case_arm(alloc, one, kept, budget)?)?;
@@ -144,26 +165,32 @@ fn case_arms(
     Ok(woven)
 }
 
+#[tactic(auto, using(crate::proofs::LeavingAt::arms))]
 #[cycle(statement)]
 fn case_arm(
     alloc: Global,
     of: &CaseArm,
     kept: &Kept<'_>,
     budget: &mut Budget,
-) -> Result<CaseArm, NoMemory> {
+) -> Result<CaseArm, NoMemory>
+    ensures { IfOk result (λ woven. woven ≡ leaving_case_arm_by kept.now of.now) }
+{
     let values = copy_exprs(alloc, of.values.as_slice(), budget)?;
     let body = check_leaving(alloc, of.body.as_slice(), kept, budget)?;
     Ok(CaseArm { values, body })
 }
 
 /// The same in the branches of a `typecase` or a `protect`.
+#[tactic(auto, using(crate::proofs::LeavingAt::lists))]
 #[cycle(statement)]
 fn type_arms(
     alloc: Global,
     list: &[TypeArm],
     kept: &Kept<'_>,
     budget: &mut Budget,
-) -> Result<Items<TypeArm>, NoMemory> {
+) -> Result<Items<TypeArm>, NoMemory>
+    ensures { IfOk result (λ woven. woven ≡ map (leaving_type_arm_by kept.now) list.now) }
+{
     let mut woven = Items::new(alloc);
     for one in list {
         woven.push(type_arm(alloc, one, kept, budget)?)?;
@@ -171,20 +198,22 @@ fn type_arms(
     Ok(woven)
 }
 
+#[tactic(auto, using(crate::proofs::LeavingAt::arms))]
 #[cycle(statement)]
 fn type_arm(
     alloc: Global,
     of: &TypeArm,
     kept: &Kept<'_>,
     budget: &mut Budget,
-) -> Result<TypeArm, NoMemory> {
+) -> Result<TypeArm, NoMemory>
+    ensures { IfOk result (λ woven. woven ≡ leaving_type_arm_by kept.now of.now) }
+{
     let ty = copy_type(alloc, &of.ty, budget)?;
     let body = check_leaving(alloc, of.body.as_slice(), kept, budget)?;
     Ok(TypeArm { ty, body })
 }
 
-/// What stands for a `return` or a `yield` where something is kept: an `if` whose test is true. Its statements declare `result`
-/// with the value, if there is one, check what is kept, and give `result` back.
+/// What stands for a `return` or a `yield`: itself, where nothing is kept.
 fn checked_giving(
     alloc: Global,
     giving: Giving,
@@ -192,17 +221,42 @@ fn checked_giving(
     pos: Pos,
     kept: &Kept<'_>,
     budget: &mut Budget,
-) -> Result<Stmt, NoMemory> {
+) -> Result<Stmt, NoMemory>
+    ensures { IfOk result (λ woven. woven ≡ checked kept.now.conditions.now kept.now.result.now giving value.now pos) }
+{
     if kept.conditions.is_empty() {
         return Ok(giving.form(copy_optional_expr(alloc, value, budget)?, pos));
     }
-    let mut list = Items::new(alloc);
-    if let Some(value) = value {
-        list.push(result_declared(alloc, value, pos, kept.result, budget)?)?;
-    }
-    add_asserts(alloc, kept.conditions, &mut list, budget)?;
-    list.push(giving.form(result_read(alloc, value, pos)?, pos))?;
+    let list = checked_list(alloc, giving, value, pos, kept, budget)?;
     Ok(always(alloc, list, pos)?)
+}
+
+/// `result`, declared with the value, if there is one, the checks of what is kept, and `result` given back.
+fn checked_list(
+    alloc: Global,
+    giving: Giving,
+    value: &Option<Expr>,
+    pos: Pos,
+    kept: &Kept<'_>,
+    budget: &mut Budget,
+) -> Result<Items<Stmt>, NoMemory>
+    ensures { IfOk result (λ list. list ≡ checked_list kept.now.conditions.now kept.now.result.now giving value.now pos) }
+{
+    match value {
+        None => {
+            let mut list = Items::new(alloc);
+            add_asserts(alloc, kept.conditions, &mut list, budget)?;
+            list.push(giving.form(None, pos))?;
+            Ok(list)
+        }
+        Some(value) => {
+            let mut list = Items::new(alloc);
+            list.push(result_declared(alloc, value, pos, kept.result, budget)?)?;
+            add_asserts(alloc, kept.conditions, &mut list, budget)?;
+            list.push(giving.form(Some(result_read(alloc, pos)?), pos))?;
+            Ok(list)
+        }
+    }
 }
 
 /// `result`, declared with the value.
@@ -212,44 +266,53 @@ fn result_declared(
     pos: Pos,
     ty: &Option<Ty>,
     budget: &mut Budget,
-) -> Result<Stmt, NoMemory> {
+) -> Result<Stmt, NoMemory>
+    ensures { IfOk result (λ declared. declared ≡ result_declared ty.now value.now pos) }
+{
     let mut names = Items::new(alloc);
     names.push(result_name(alloc, pos)?)?;
     let ty = copy_optional_type(alloc, ty, budget)?;
     Ok(Stmt::Declare(names, ty, Some(copy_expr(alloc, value, budget)?)))
 }
 
-fn result_name(alloc: Global, pos: Pos) -> Result<Local, AllocError> {
+fn result_name(alloc: Global, pos: Pos) -> Result<Local, AllocError>
+    ensures { IfOk result (λ name. name ≡ result_local pos) }
+{
     let name = Name::from_slice(alloc, RESULT)?;
     Ok(Local { name, pos })
 }
 
-/// `result`, where there is a value.
-fn result_read(alloc: Global, value: &Option<Expr>, pos: Pos) -> Result<Option<Expr>, AllocError> {
-    if value.is_none() {
-        return Ok(None);
-    }
+/// `result`, as it is read.
+fn result_read(alloc: Global, pos: Pos) -> Result<Expr, AllocError>
+    ensures { IfOk result (λ read. read ≡ result_read pos) }
+{
     let name = Name::from_slice(alloc, RESULT)?;
-    Ok(Some(Expr::Call(Recv::Implied, name, Items::new(alloc), pos)))
+    Ok(Expr::Call(Recv::Implied, name, Items::new(alloc), pos))
 }
 
 /// The variable that a `post` names by the word.
 const RESULT: &[u8] = b"result";
 
 /// The statements in an `if` whose test is true.
-fn always(alloc: Global, body: Items<Stmt>, pos: Pos) -> Result<Stmt, AllocError> {
+fn always(alloc: Global, body: Items<Stmt>, pos: Pos) -> Result<Stmt, AllocError>
+    ensures { IfOk result (λ woven. woven ≡ always body pos) }
+{
     let test = Expr::Bool(true, pos);
     let mut list = Items::new(alloc);
     list.push(Arm { test, body })?;
     Ok(Stmt::If(list, Items::new(alloc), pos))
 }
 
-fn copy_local(alloc: Global, of: &Local) -> Result<Local, AllocError> {
+fn copy_local(alloc: Global, of: &Local) -> Result<Local, AllocError>
+    ensures { IfOk result (λ copy. copy ≡ of.now) }
+{
     let name = of.name.copy(alloc)?;
     Ok(Local { name, pos: of.pos })
 }
 
-fn copy_locals(alloc: Global, list: &[Local]) -> Result<Items<Local>, AllocError> {
+fn copy_locals(alloc: Global, list: &[Local]) -> Result<Items<Local>, AllocError>
+    ensures { IfOk result (λ copies. copies ≡ list.now) }
+{
     let mut copies = Items::new(alloc);
     for one in list {
         copies.push(copy_local(alloc, one)?)?;
