@@ -98,15 +98,3 @@ pub ruleset statements = (leaving-Declare, leaving-Assign, leaving-If, leaving-L
 pub ruleset arms = (leaving_arm-parts, leaving_case_arm-parts, leaving_type_arm-parts)
 
 pub ruleset lists = (map_more)
-
--- ---- a statement that has other statements for the case that no branch is taken
-
-module _ (conditions : List Condition) (ty : Option Ty) where
-  pub case-Some : (x : Stmt) (tested : Expr) (arms : List CaseArm) (other : Option (List Stmt)) (inside : List Stmt) (pos : Pos) → x ≡ s.Case tested arms other pos → other ≡ Some inside → leaving conditions ty x ≡ s.Case tested (map (leaving_case_arm conditions ty) arms) (Some (map (leaving conditions ty) inside)) pos
-  case-Some x tested arms other inside pos is is_other = rw (is, is_other, leaving-Case)
-
-  pub typecase-Some : (x : Stmt) (tested : Local) (arms : List TypeArm) (other : Option (List Stmt)) (inside : List Stmt) (pos : Pos) → x ≡ s.TypeCase tested arms other pos → other ≡ Some inside → leaving conditions ty x ≡ s.TypeCase tested (map (leaving_type_arm conditions ty) arms) (Some (map (leaving conditions ty) inside)) pos
-  typecase-Some x tested arms other inside pos is is_other = rw (is, is_other, leaving-TypeCase)
-
-  pub protect-Some : (x : Stmt) (body : List Stmt) (arms : List TypeArm) (other : Option (List Stmt)) (inside : List Stmt) (pos : Pos) → x ≡ s.Protect body arms other pos → other ≡ Some inside → leaving conditions ty x ≡ s.Protect (map (leaving conditions ty) body) (map (leaving_type_arm conditions ty) arms) (Some (map (leaving conditions ty) inside)) pos
-  protect-Some x body arms other inside pos is is_other = rw (is, is_other, leaving-Protect)

@@ -5,7 +5,7 @@ ghost use Rattle.std.specs.List.{flat_map};
 ghost use Rattle.std.specs.Option.{option_copied};
 ghost use Rattle.sa_contract.specs.AskedChecks.{body_checks, declared_at, places_of, position_of, positions_of};
 ghost use Rattle.sa_contract.specs.ContractTables.{plain_duties};
-ghost use Rattle.sa_contract.specs.Leaving.{leaving_by};
+ghost use Rattle.sa_contract.specs.Leaving.{leaving, leaving_by};
 ghost use Rattle.sa_contract.specs.WovenClasses.{end_checks, ends_without_value, invariant_kept, kept_conditions, post_declared};
 ghost use Rattle.sa_contract.specs.WovenClasses.{post_kept, pre_asserted, woven_body};
 
@@ -41,17 +41,30 @@ pub(crate) fn weave_body(
 {
     let mut declared = Items::new(alloc);
     let conditions = conditions_of(alloc, contract, &mut declared, budget)?;
-    let checks = BodyChecks {
-        conditions: positions_of(alloc, contract)?,
-        initials: words(alloc, declared.as_slice())?,
-    };
+    let checks = checks_of(alloc, contract, declared.as_slice())?;
+    let list = woven_list(alloc, feature, body, contract.pre, declared, conditions, budget)?;
+    Ok(WovenBody { list, checks })
+}
+
+/// The statements of the woven body, where these variables are declared at the start and these conditions are kept.
+fn woven_list(
+    alloc: Global,
+    feature: &Feature,
+    body: &[Stmt],
+    pre: Option<&Condition>,
+    declared: Items<Stmt>,
+    conditions: Items<Condition>,
+    budget: &mut Budget,
+) -> Result<Items<Stmt>, NoMemory>
+    ensures { IfOk result (λ list. list ≡ pre_asserted (option_copied pre.entry) ++ declared
+        ++ map (leaving conditions feature.now.result) body.now ++ end_checks feature.now conditions) }
+{
+    let start = start_of(alloc, pre, declared, budget)?;
     let kept = Kept {
         conditions: conditions.as_slice(),
         result: &feature.result,
     };
-    let start = start_of(alloc, contract.pre, declared, budget)?;
-    let list = checked_body(alloc, start, feature, body, &kept, budget)?;
-    Ok(WovenBody { list, checks })
+    checked_body(alloc, start, feature, body, &kept, budget)
 }
 
 /// What is asserted where the feature gives a value to its caller or ends without one: its `post`, with variables in place of
@@ -174,6 +187,23 @@ fn ends_without_value(feature: &Feature) -> bool
     ensures { result ≡ ends_without_value feature.now }
 {
     !feature.result.is_some() && !is_iter(&feature.name.name)
+}
+
+/// Where the checks are that are woven into the body, by the declarations of the variables for its `initial`s.
+fn checks_of(
+    alloc: Global,
+    contract: &FeatureContract<'_>,
+    declared: &[Stmt],
+) -> Result<BodyChecks, NoMemory>
+    ensures conditions { IfOk result (λ checks. checks.conditions ≡ positions_of (plain_duties contract.now)) }
+    ensures initials { IfOk result (λ checks. checks.initials ≡ flat_map declared_at declared.now) }
+{
+    let conditions = positions_of(alloc, contract)?;
+    let initials = words(alloc, declared)?;
+    Ok(BodyChecks {
+        conditions,
+        initials,
+    })
 }
 
 /// The positions of the conditions that are woven into the body: of the `pre`, the `post` and the invariant.

@@ -3,6 +3,7 @@
 
 ghost use Rattle.std.specs.Prelude.{◌≡◌, ◌++◌, [], ◌∷◌, IfOk, OnOk, length, nat_eq};
 ghost use Rattle.std.specs.Cmp.Lexicographic.{pointwise};
+ghost use Rattle.sa_tree.specs.declared.expr.Expr.TheVariants as expr;
 ghost use Rattle.sa_contract.specs.Taken.{call_declared, call_replaced, initial_word, value_of, variable_declared};
 ghost use Rattle.sa_contract.specs.Taken.{declared_by, declared_by_argument, declared_by_arguments, declared_by_exprs};
 ghost use Rattle.sa_contract.specs.Taken.{value_in, variable_name, variable_read};
@@ -12,7 +13,7 @@ ghost use Rattle.sa_contract.specs.Taken.{replaced_arguments, replaced_exprs, re
 use crate::budget::Budget;
 use crate::copy::{copy_expr, copy_name, copy_optional_type, copy_type};
 use itoa::Buffer;
-use sa_tree::{Expr, Given, Local, Name, NoMemory, Pos, Recv, Stmt};
+use sa_tree::{Expr, Given, Local, Name, NoMemory, Op, Pos, Recv, Stmt, Ty};
 use sqlite_items::{Boxed, Items};
 use std::alloc::{AllocError, Global};
 
@@ -44,9 +45,7 @@ pub(crate) fn take_initials(
             Ok(Expr::New(take_in_optional(alloc, count, declared, budget)?, *pos))
         }
         Expr::Create(ty, args, pos) => {
-            let ty = copy_optional_type(alloc, ty, budget)?;
-            let args = take_in_args(alloc, args.as_slice(), declared, budget)?;
-            Ok(Expr::Create(ty, args, *pos))
+            take_in_create(alloc, args.as_slice(), ty, *pos, declared, budget)
         }
         Expr::Items(items, pos) => {
             let items = take_in_exprs(alloc, items.as_slice(), declared, budget)?;
@@ -54,26 +53,93 @@ pub(crate) fn take_initials(
         }
         Expr::Call(on, name, args, pos) => {
             let on = take_in_receiver(alloc, on, declared, budget)?;
-            let args = take_in_args(alloc, args.as_slice(), declared, budget)?;
-            taken_call(alloc, name, on, args, *pos, declared, budget)
+            take_in_call(alloc, args.as_slice(), on, name, *pos, declared, budget)
         }
         Expr::Binary(op, left, right, pos) => {
             let left = take_in_boxed(alloc, left, declared, budget)?;
-            let right = take_in_boxed(alloc, right, declared, budget)?;
-            Ok(Expr::Binary(*op, left, right, *pos))
+            take_in_binary(alloc, right, *op, left, *pos, declared, budget)
         }
         Expr::Unary(op, of, pos) => {
             Ok(Expr::Unary(*op, take_in_boxed(alloc, of, declared, budget)?, *pos))
         }
         Expr::Index(of, at, pos) => {
             let of = take_in_optional(alloc, of, declared, budget)?;
-            let at = take_in_exprs(alloc, at.as_slice(), declared, budget)?;
-            Ok(Expr::Index(of, at, *pos))
+            take_in_index(alloc, at.as_slice(), of, *pos, declared, budget)
         }
         Expr::Bind(call, pos) => {
             Ok(Expr::Bind(take_in_boxed(alloc, call, declared, budget)?, *pos))
         }
     }
+}
+
+/// The `#` with these arguments.
+#[cycle(taking)]
+fn take_in_create(
+    alloc: Global,
+    args: &[Given],
+    ty: &Option<Ty>,
+    pos: Pos,
+    declared: &mut Items<Stmt>,
+    budget: &mut Budget,
+) -> Result<Expr, NoMemory>
+    ensures form { IfOk result (λ form. form ≡ expr.Create ty.now (replaced_arguments args.now declared.old) pos) }
+    ensures declarations { OnOk result (declared.new ≡ declared_by_arguments args.now declared.old) }
+{
+    let args = take_in_args(alloc, args, declared, budget)?;
+    Ok(Expr::Create(copy_optional_type(alloc, ty, budget)?, args, pos))
+}
+
+/// The call with these arguments, of which the receiver is done.
+#[cycle(taking)]
+fn take_in_call(
+    alloc: Global,
+    args: &[Given],
+    on: Recv,
+    name: &Name,
+    pos: Pos,
+    declared: &mut Items<Stmt>,
+    budget: &mut Budget,
+) -> Result<Expr, NoMemory>
+    ensures form { IfOk result (λ form. form ≡ call_replaced name.now on (replaced_arguments args.now declared.old) pos
+        (length (declared_by_arguments args.now declared.old))) }
+    ensures declarations { OnOk result (declared.new ≡ call_declared name.now (replaced_arguments args.now declared.old) pos
+        (declared_by_arguments args.now declared.old)) }
+{
+    let args = take_in_args(alloc, args, declared, budget)?;
+    taken_call(alloc, name, on, args, pos, declared, budget)
+}
+
+/// The operation with this right side, of which the left side is done.
+#[cycle(taking)]
+fn take_in_binary(
+    alloc: Global,
+    right: &Boxed<Expr>,
+    op: Op,
+    left: Boxed<Expr>,
+    pos: Pos,
+    declared: &mut Items<Stmt>,
+    budget: &mut Budget,
+) -> Result<Expr, NoMemory>
+    ensures form { IfOk result (λ form. form ≡ expr.Binary op left (replaced right.now declared.old) pos) }
+    ensures declarations { OnOk result (declared.new ≡ declared_by right.now declared.old) }
+{
+    Ok(Expr::Binary(op, left, take_in_boxed(alloc, right, declared, budget)?, pos))
+}
+
+/// The element at these indices, of which what has the elements is done.
+#[cycle(taking)]
+fn take_in_index(
+    alloc: Global,
+    at: &[Expr],
+    of: Option<Boxed<Expr>>,
+    pos: Pos,
+    declared: &mut Items<Stmt>,
+    budget: &mut Budget,
+) -> Result<Expr, NoMemory>
+    ensures form { IfOk result (λ form. form ≡ expr.Index of (replaced_exprs at.now declared.old) pos) }
+    ensures declarations { OnOk result (declared.new ≡ declared_by_exprs at.now declared.old) }
+{
+    Ok(Expr::Index(of, take_in_exprs(alloc, at, declared, budget)?, pos))
 }
 
 #[cycle(taking)]

@@ -1,6 +1,8 @@
 //! Statements in which each `return` and `yield` is checked first, in a body whose feature has something to keep.
 
 ghost use Rattle.std.specs.Prelude.{◌≡◌, IfOk, map};
+ghost use Rattle.std.specs.Option.{option_map};
+ghost use Rattle.sa_tree.specs.declared.stmt.Stmt.TheVariants as stmt;
 ghost use Rattle.sa_contract.specs.Leaving.{always, checked, checked_list, gives, leaving_arm_by, leaving_by, leaving_case_arm_by};
 ghost use Rattle.sa_contract.specs.Leaving.{leaving_type_arm_by, result_declared, result_local, result_read};
 
@@ -70,52 +72,113 @@ fn statement(
         Stmt::Yield(value, pos) => checked_giving(alloc, Giving::Yield, value, *pos, kept, budget),
         Stmt::If(list, rest, pos) => {
             let list = arms(alloc, list.as_slice(), kept, budget)?;
-            let rest = check_leaving(alloc, rest.as_slice(), kept, budget)?;
-            Ok(Stmt::If(list, rest, *pos))
+            check_if(alloc, rest.as_slice(), list, *pos, kept, budget)
         }
         Stmt::Loop(body, pos) => {
             Ok(Stmt::Loop(check_leaving(alloc, body.as_slice(), kept, budget)?, *pos))
         }
         Stmt::Case(tested, list, rest, pos) => {
-            let tested = copy_expr(alloc, tested, budget)?;
-            let list = case_arms(alloc, list.as_slice(), kept, budget)?;
-            let Some(rest) = rest else {
-                return Ok(Stmt::Case(tested, list, None, *pos));
-            };
-            let rest = check_leaving(alloc, rest.as_slice(), kept, budget)?;
-            Ok(Stmt::Case(tested, list, Some(rest), *pos))
+            let rest = otherwise(alloc, rest, kept, budget)?;
+            check_case(alloc, list.as_slice(), tested, rest, *pos, kept, budget)
         }
         Stmt::TypeCase(tested, list, rest, pos) => {
-            let tested = copy_local(alloc, tested)?;
-            let list = type_arms(alloc, list.as_slice(), kept, budget)?;
-            let Some(rest) = rest else {
-                return Ok(Stmt::TypeCase(tested, list, None, *pos));
-            };
-            let rest = check_leaving(alloc, rest.as_slice(), kept, budget)?;
-            Ok(Stmt::TypeCase(tested, list, Some(rest), *pos))
+            let rest = otherwise(alloc, rest, kept, budget)?;
+            check_typecase(alloc, list.as_slice(), tested, rest, *pos, kept, budget)
         }
         Stmt::Protect(body, list, rest, pos) => {
-            let body = check_leaving(alloc, body.as_slice(), kept, budget)?;
+            let rest = otherwise(alloc, rest, kept, budget)?;
             let list = type_arms(alloc, list.as_slice(), kept, budget)?;
-            let Some(rest) = rest else {
-                return Ok(Stmt::Protect(body, list, None, *pos));
-            };
-            let rest = check_leaving(alloc, rest.as_slice(), kept, budget)?;
-            Ok(Stmt::Protect(body, list, Some(rest), *pos))
+            check_protect(alloc, body.as_slice(), list, rest, *pos, kept, budget)
         }
         Stmt::Declare(names, ty, value) => {
-            let names = copy_locals(alloc, names.as_slice())?;
-            let ty = copy_optional_type(alloc, ty, budget)?;
-            Ok(Stmt::Declare(names, ty, copy_optional_expr(alloc, value, budget)?))
+            copy_declaration(alloc, names.as_slice(), ty, value, budget)
         }
-        Stmt::Assign(to, value, pos) => {
-            let to = copy_expr(alloc, to, budget)?;
-            Ok(Stmt::Assign(to, copy_expr(alloc, value, budget)?, *pos))
-        }
+        Stmt::Assign(to, value, pos) => copy_assignment(alloc, to, value, *pos, budget),
         Stmt::Quit(pos) => Ok(Stmt::Quit(*pos)),
         Stmt::Raise(value, pos) => Ok(Stmt::Raise(copy_expr(alloc, value, budget)?, *pos)),
         Stmt::Assert(test, pos) => Ok(Stmt::Assert(copy_expr(alloc, test, budget)?, *pos)),
         Stmt::Do(e) => Ok(Stmt::Do(copy_expr(alloc, e, budget)?)),
+    }
+}
+
+/// The `if` with these statements behind `else`, of which the arms are done.
+#[cycle(statement)]
+fn check_if(
+    alloc: Global,
+    rest: &[Stmt],
+    list: Items<Arm>,
+    pos: Pos,
+    kept: &Kept<'_>,
+    budget: &mut Budget,
+) -> Result<Stmt, NoMemory>
+    ensures { IfOk result (λ woven. woven ≡ stmt.If list (map (leaving_by kept.now) rest.now) pos) }
+{
+    Ok(Stmt::If(list, check_leaving(alloc, rest, kept, budget)?, pos))
+}
+
+/// The `case` with these branches, of which the statements behind `else` are done.
+#[cycle(statement)]
+fn check_case(
+    alloc: Global,
+    list: &[CaseArm],
+    tested: &Expr,
+    rest: Option<Items<Stmt>>,
+    pos: Pos,
+    kept: &Kept<'_>,
+    budget: &mut Budget,
+) -> Result<Stmt, NoMemory>
+    ensures { IfOk result (λ woven. woven ≡ stmt.Case tested.now (map (leaving_case_arm_by kept.now) list.now) rest pos) }
+{
+    let list = case_arms(alloc, list, kept, budget)?;
+    Ok(Stmt::Case(copy_expr(alloc, tested, budget)?, list, rest, pos))
+}
+
+/// The `typecase` with these branches, of which the statements behind `else` are done.
+#[cycle(statement)]
+fn check_typecase(
+    alloc: Global,
+    list: &[TypeArm],
+    tested: &Local,
+    rest: Option<Items<Stmt>>,
+    pos: Pos,
+    kept: &Kept<'_>,
+    budget: &mut Budget,
+) -> Result<Stmt, NoMemory>
+    ensures { IfOk result (λ woven. woven ≡ stmt.TypeCase tested.now (map (leaving_type_arm_by kept.now) list.now) rest pos) }
+{
+    let list = type_arms(alloc, list, kept, budget)?;
+    Ok(Stmt::TypeCase(copy_local(alloc, tested)?, list, rest, pos))
+}
+
+/// The `protect` with this body, of which all else is done.
+#[cycle(statement)]
+fn check_protect(
+    alloc: Global,
+    body: &[Stmt],
+    list: Items<TypeArm>,
+    rest: Option<Items<Stmt>>,
+    pos: Pos,
+    kept: &Kept<'_>,
+    budget: &mut Budget,
+) -> Result<Stmt, NoMemory>
+    ensures { IfOk result (λ woven. woven ≡ stmt.Protect (map (leaving_by kept.now) body.now) list rest pos) }
+{
+    Ok(Stmt::Protect(check_leaving(alloc, body, kept, budget)?, list, rest, pos))
+}
+
+/// The same in the statements for the case that no branch is taken, where there are any.
+#[cycle(statement)]
+fn otherwise(
+    alloc: Global,
+    rest: &Option<Items<Stmt>>,
+    kept: &Kept<'_>,
+    budget: &mut Budget,
+) -> Result<Option<Items<Stmt>>, NoMemory>
+    ensures { IfOk result (λ woven. woven ≡ option_map (map (leaving_by kept.now)) rest.now) }
+{
+    match rest {
+        None => Ok(None),
+        Some(rest) => Ok(Some(check_leaving(alloc, rest.as_slice(), kept, budget)?)),
     }
 }
 
@@ -301,6 +364,35 @@ fn always(alloc: Global, body: Items<Stmt>, pos: Pos) -> Result<Stmt, AllocError
     let mut list = Items::new(alloc);
     list.push(Arm { test, body })?;
     Ok(Stmt::If(list, Items::new(alloc), pos))
+}
+
+/// A declaration once more.
+fn copy_declaration(
+    alloc: Global,
+    names: &[Local],
+    ty: &Option<Ty>,
+    value: &Option<Expr>,
+    budget: &mut Budget,
+) -> Result<Stmt, NoMemory>
+    ensures { IfOk result (λ copy. copy ≡ stmt.Declare names.now ty.now value.now) }
+{
+    let names = copy_locals(alloc, names)?;
+    let ty = copy_optional_type(alloc, ty, budget)?;
+    Ok(Stmt::Declare(names, ty, copy_optional_expr(alloc, value, budget)?))
+}
+
+/// An assignment once more.
+fn copy_assignment(
+    alloc: Global,
+    to: &Expr,
+    value: &Expr,
+    pos: Pos,
+    budget: &mut Budget,
+) -> Result<Stmt, NoMemory>
+    ensures { IfOk result (λ copy. copy ≡ stmt.Assign to.now value.now pos) }
+{
+    let to = copy_expr(alloc, to, budget)?;
+    Ok(Stmt::Assign(to, copy_expr(alloc, value, budget)?, pos))
 }
 
 fn copy_local(alloc: Global, of: &Local) -> Result<Local, AllocError>
