@@ -10,7 +10,8 @@ use Rattle.sa_core.specs.declared.stmt.StmtCore.{StmtCore}
 use Rattle.sa_core.specs.declared.stmt.TestCore.{TestCore}
 use Rattle.sa_core.specs.Copy.{expr_of, stmt_of, test_of, arm_of, exprs_of, block_of, tests_of, arms_of}
 use Rattle.sa_core.specs.Tree.{Exprs, Stmts}
-use Rattle.sa_core.proofs.Copies.{test_of-parts, arm_of-parts}
+use Rattle.sa_core.specs.declared.stmt.StmtCore.TheVariants as s
+use Rattle.sa_core.proofs.Copies.{test_of-parts, arm_of-parts, protect_of-None, protect_of-Some}
 use Rattle.sa_contract.specs.AskedChecks.{Asked}
 use Rattle.sa_contract.specs.NotQuiet.{FeatureChecks, asserted_at, condition_of, loud, loud_exprs, loud_tests, first_in, first_in_block, first_in_tests, first_in_arms, first_in_feature, first_in_features}
 
@@ -60,6 +61,26 @@ module _ (w : FeatureChecks) where
       let step : first_in_arms w (arms_of (drop i xs)) ≡ option_or (first_in_block w (arm_of x).2) (first_in_arms w (arms_of (drop (i + 1) xs))) =
       rw (add-one, drop-cons xs i x, ← e) in
       step ∙ ap (λ (a : ℕ × ℕ × Stmts). option_or (first_in_block w a.2) (first_in_arms w (arms_of (drop (i + 1) xs)))) (arm_of-parts x)
+
+  -- a test behind which one check is loud, and a branch
+  pub test-found : (xs : List TestCore) (i : ℕ) (x : TestCore) (inside : List StmtCore) (found : Option Pos) → i < length xs → x ≡ get_or xs i x → inside ≡ x.body → found ≡ first_in_block w (block_of inside) → is_some found ≡ true → first_in_tests w (tests_of (drop i xs)) ≡ found
+  test-found xs i x inside found h e same is some =
+      first_in_tests-drop xs i x h e
+      ∙ ap (λ (o : Option Pos). option_or o (first_in_tests w (tests_of (drop (i + 1) xs)))) (sym (is ∙ ap (λ (body : List StmtCore). first_in_block w (block_of body)) same))
+      ∙ or-found found (first_in_tests w (tests_of (drop (i + 1) xs))) some
+
+  pub arm-found : (xs : List ArmCore) (i : ℕ) (x : ArmCore) (inside : List StmtCore) (found : Option Pos) → i < length xs → x ≡ get_or xs i x → inside ≡ x.body → found ≡ first_in_block w (block_of inside) → is_some found ≡ true → first_in_arms w (arms_of (drop i xs)) ≡ found
+  arm-found xs i x inside found h e same is some =
+      first_in_arms-drop xs i x h e
+      ∙ ap (λ (o : Option Pos). option_or o (first_in_arms w (arms_of (drop (i + 1) xs)))) (sym (is ∙ ap (λ (body : List StmtCore). first_in_block w (block_of body)) same))
+      ∙ or-found found (first_in_arms w (arms_of (drop (i + 1) xs))) some
+
+  -- a protect, with the statements of its `else` or without
+  pub protect-None : (x : StmtCore) (body : List StmtCore) (arms : List ArmCore) (other : Option (List StmtCore)) → x ≡ s.Protect body arms other → other ≡ None → first_in w (stmt_of x) ≡ option_or (first_in_block w (block_of body)) (first_in_arms w (arms_of arms))
+  protect-None x body arms other is is_other = ap (first_in w) (protect_of-None x body arms other is is_other)
+
+  pub protect-Some : (x : StmtCore) (body : List StmtCore) (arms : List ArmCore) (other : Option (List StmtCore)) (inside : List StmtCore) → x ≡ s.Protect body arms other → other ≡ Some inside → first_in w (stmt_of x) ≡ option_or (option_or (first_in_block w (block_of body)) (first_in_arms w (arms_of arms))) (first_in_block w (block_of inside))
+  protect-Some x body arms other inside is is_other = ap (first_in w) (protect_of-Some x body arms other inside is is_other)
 
   pub sole : (xs : List StmtCore) (x : StmtCore) → length xs ≡ 1 → x ≡ get_or xs 0 x → condition_of w (block_of xs) ≡ asserted_at w (stmt_of x)
   sole [] x one is = absurd (omega arith)

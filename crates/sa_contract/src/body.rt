@@ -42,7 +42,15 @@ pub(crate) fn weave_body(
     let mut declared = Items::new(alloc);
     let conditions = conditions_of(alloc, contract, &mut declared, budget)?;
     let checks = checks_of(alloc, contract, declared.as_slice())?;
-    let list = woven_list(alloc, feature, body, contract.pre, declared, conditions, budget)?;
+    let list = woven_list(
+        alloc,
+        feature,
+        body,
+        contract.pre,
+        declared,
+        conditions,
+        budget,
+    )?;
     Ok(WovenBody { list, checks })
 }
 

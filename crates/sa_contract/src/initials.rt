@@ -123,7 +123,12 @@ fn take_in_binary(
     ensures form { IfOk result (λ form. form ≡ expr.Binary op left (replaced right.now declared.old) pos) }
     ensures declarations { OnOk result (declared.new ≡ declared_by right.now declared.old) }
 {
-    Ok(Expr::Binary(op, left, take_in_boxed(alloc, right, declared, budget)?, pos))
+    Ok(Expr::Binary(
+        op,
+        left,
+        take_in_boxed(alloc, right, declared, budget)?,
+        pos,
+    ))
 }
 
 /// The element at these indices, of which what has the elements is done.
