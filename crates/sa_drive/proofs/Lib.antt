@@ -1,4 +1,5 @@
 pub mod EndLemmas
 pub mod ListingLemmas
 pub mod OutputLemmas
+pub mod QuietLemmas
 pub mod RunLemmas
