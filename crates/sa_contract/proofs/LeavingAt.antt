@@ -1,7 +1,6 @@
 -- Statements whose `return` and `yield` are checked, at each variant.
 use Rattle.std.proofs.Common.{◌≡◌, List, Option, None, Some, map, sym, ap, ◌∙◌}
 use Rattle.std.proofs.lemmas.List.{map_more}
-use Rattle.std.specs.Option.{option_map}
 use Rattle.sa_tree.specs.declared.contract.Condition.{Condition}
 use Rattle.sa_tree.specs.declared.expr.Expr.{Expr}
 use Rattle.sa_tree.specs.declared.pos.Pos.{Pos}
@@ -39,23 +38,29 @@ module _ (conditions : List Condition) (ty : Option Ty) where
   leaving-Loop body pos =
       ap (leaving conditions ty) (sym (s.rolls-Loop body pos)) ∙ leaving-roll (Stmt-F.Loop body pos) ∙ s.rolls-Loop (map (leaving conditions ty) body) pos
 
-  pub leaving-Case : (tested : Expr) (arms : List CaseArm) (other : Option (List Stmt)) (pos : Pos) → leaving conditions ty (s.Case tested arms other pos) ≡ s.Case tested (map (leaving_case_arm conditions ty) arms) (option_map (map (leaving conditions ty)) other) pos
-  leaving-Case tested arms None pos =
+  pub leaving-Case-None : (tested : Expr) (arms : List CaseArm) (pos : Pos) → leaving conditions ty (s.Case tested arms None pos) ≡ s.Case tested (map (leaving_case_arm conditions ty) arms) None pos
+  leaving-Case-None tested arms pos =
       ap (leaving conditions ty) (sym (s.rolls-Case tested arms None pos)) ∙ leaving-roll (Stmt-F.Case tested arms None pos) ∙ s.rolls-Case tested (map (leaving_case_arm conditions ty) arms) None pos
-  leaving-Case tested arms (Some inside) pos =
-      ap (leaving conditions ty) (sym (s.rolls-Case tested arms (Some inside) pos)) ∙ leaving-roll (Stmt-F.Case tested arms (Some inside) pos) ∙ s.rolls-Case tested (map (leaving_case_arm conditions ty) arms) (Some (map (leaving conditions ty) inside)) pos
 
-  pub leaving-TypeCase : (tested : Local) (arms : List TypeArm) (other : Option (List Stmt)) (pos : Pos) → leaving conditions ty (s.TypeCase tested arms other pos) ≡ s.TypeCase tested (map (leaving_type_arm conditions ty) arms) (option_map (map (leaving conditions ty)) other) pos
-  leaving-TypeCase tested arms None pos =
+  pub leaving-Case-Some : (tested : Expr) (arms : List CaseArm) (other : List Stmt) (pos : Pos) → leaving conditions ty (s.Case tested arms (Some other) pos) ≡ s.Case tested (map (leaving_case_arm conditions ty) arms) (Some (map (leaving conditions ty) other)) pos
+  leaving-Case-Some tested arms other pos =
+      ap (leaving conditions ty) (sym (s.rolls-Case tested arms (Some other) pos)) ∙ leaving-roll (Stmt-F.Case tested arms (Some other) pos) ∙ s.rolls-Case tested (map (leaving_case_arm conditions ty) arms) (Some (map (leaving conditions ty) other)) pos
+
+  pub leaving-TypeCase-None : (tested : Local) (arms : List TypeArm) (pos : Pos) → leaving conditions ty (s.TypeCase tested arms None pos) ≡ s.TypeCase tested (map (leaving_type_arm conditions ty) arms) None pos
+  leaving-TypeCase-None tested arms pos =
       ap (leaving conditions ty) (sym (s.rolls-TypeCase tested arms None pos)) ∙ leaving-roll (Stmt-F.TypeCase tested arms None pos) ∙ s.rolls-TypeCase tested (map (leaving_type_arm conditions ty) arms) None pos
-  leaving-TypeCase tested arms (Some inside) pos =
-      ap (leaving conditions ty) (sym (s.rolls-TypeCase tested arms (Some inside) pos)) ∙ leaving-roll (Stmt-F.TypeCase tested arms (Some inside) pos) ∙ s.rolls-TypeCase tested (map (leaving_type_arm conditions ty) arms) (Some (map (leaving conditions ty) inside)) pos
 
-  pub leaving-Protect : (body : List Stmt) (arms : List TypeArm) (other : Option (List Stmt)) (pos : Pos) → leaving conditions ty (s.Protect body arms other pos) ≡ s.Protect (map (leaving conditions ty) body) (map (leaving_type_arm conditions ty) arms) (option_map (map (leaving conditions ty)) other) pos
-  leaving-Protect body arms None pos =
+  pub leaving-TypeCase-Some : (tested : Local) (arms : List TypeArm) (other : List Stmt) (pos : Pos) → leaving conditions ty (s.TypeCase tested arms (Some other) pos) ≡ s.TypeCase tested (map (leaving_type_arm conditions ty) arms) (Some (map (leaving conditions ty) other)) pos
+  leaving-TypeCase-Some tested arms other pos =
+      ap (leaving conditions ty) (sym (s.rolls-TypeCase tested arms (Some other) pos)) ∙ leaving-roll (Stmt-F.TypeCase tested arms (Some other) pos) ∙ s.rolls-TypeCase tested (map (leaving_type_arm conditions ty) arms) (Some (map (leaving conditions ty) other)) pos
+
+  pub leaving-Protect-None : (body : List Stmt) (arms : List TypeArm) (pos : Pos) → leaving conditions ty (s.Protect body arms None pos) ≡ s.Protect (map (leaving conditions ty) body) (map (leaving_type_arm conditions ty) arms) None pos
+  leaving-Protect-None body arms pos =
       ap (leaving conditions ty) (sym (s.rolls-Protect body arms None pos)) ∙ leaving-roll (Stmt-F.Protect body arms None pos) ∙ s.rolls-Protect (map (leaving conditions ty) body) (map (leaving_type_arm conditions ty) arms) None pos
-  leaving-Protect body arms (Some inside) pos =
-      ap (leaving conditions ty) (sym (s.rolls-Protect body arms (Some inside) pos)) ∙ leaving-roll (Stmt-F.Protect body arms (Some inside) pos) ∙ s.rolls-Protect (map (leaving conditions ty) body) (map (leaving_type_arm conditions ty) arms) (Some (map (leaving conditions ty) inside)) pos
+
+  pub leaving-Protect-Some : (body : List Stmt) (arms : List TypeArm) (other : List Stmt) (pos : Pos) → leaving conditions ty (s.Protect body arms (Some other) pos) ≡ s.Protect (map (leaving conditions ty) body) (map (leaving_type_arm conditions ty) arms) (Some (map (leaving conditions ty) other)) pos
+  leaving-Protect-Some body arms other pos =
+      ap (leaving conditions ty) (sym (s.rolls-Protect body arms (Some other) pos)) ∙ leaving-roll (Stmt-F.Protect body arms (Some other) pos) ∙ s.rolls-Protect (map (leaving conditions ty) body) (map (leaving_type_arm conditions ty) arms) (Some (map (leaving conditions ty) other)) pos
 
   pub leaving-Return : (value : Option Expr) (pos : Pos) → leaving conditions ty (s.Return value pos) ≡ checked conditions ty giving.Return value pos
   leaving-Return value pos =
@@ -93,7 +98,7 @@ module _ (conditions : List Condition) (ty : Option Ty) where
   unfolding leaving leaving_arm leaving_case_arm leaving_type_arm
   leaving_type_arm-parts a = fold_out-TypeArm Stmt Arm CaseArm TypeArm (leaving_level conditions ty) arm_level case_arm_level type_arm_level a
 
-pub ruleset statements = (leaving-Declare, leaving-Assign, leaving-If, leaving-Loop, leaving-Case, leaving-TypeCase, leaving-Protect, leaving-Return, leaving-Yield, leaving-Quit, leaving-Raise, leaving-Assert, leaving-Do)
+pub ruleset statements = (leaving-Declare, leaving-Assign, leaving-If, leaving-Loop, leaving-Case-None, leaving-Case-Some, leaving-TypeCase-None, leaving-TypeCase-Some, leaving-Protect-None, leaving-Protect-Some, leaving-Return, leaving-Yield, leaving-Quit, leaving-Raise, leaving-Assert, leaving-Do)
 
 pub ruleset arms = (leaving_arm-parts, leaving_case_arm-parts, leaving_type_arm-parts)
 

@@ -1,7 +1,6 @@
 //! Statements in which each `return` and `yield` is checked first, in a body whose feature has something to keep.
 
-ghost use Rattle.std.specs.Prelude.{◌≡◌, IfOk, map};
-ghost use Rattle.std.specs.Option.{option_map};
+ghost use Rattle.std.specs.Prelude.{◌≡◌, IfOk, Some, map};
 ghost use Rattle.sa_tree.specs.declared.stmt.Stmt.TheVariants as stmt;
 ghost use Rattle.sa_contract.specs.Leaving.{always, checked, checked_list, gives, leaving_arm_by, leaving_by, leaving_case_arm_by};
 ghost use Rattle.sa_contract.specs.Leaving.{leaving_type_arm_by, result_declared, result_local, result_read};
@@ -78,17 +77,28 @@ fn statement(
             Ok(Stmt::Loop(check_leaving(alloc, body.as_slice(), kept, budget)?, *pos))
         }
         Stmt::Case(tested, list, rest, pos) => {
-            let rest = otherwise(alloc, rest, kept, budget)?;
-            check_case(alloc, list.as_slice(), tested, rest, *pos, kept, budget)
+            let list = case_arms(alloc, list.as_slice(), kept, budget)?;
+            match rest {
+                None => case_of(alloc, tested, list, None, *pos, budget),
+                Some(rest) => check_case(alloc, rest.as_slice(), tested, list, *pos, kept, budget),
+            }
         }
         Stmt::TypeCase(tested, list, rest, pos) => {
-            let rest = otherwise(alloc, rest, kept, budget)?;
-            check_typecase(alloc, list.as_slice(), tested, rest, *pos, kept, budget)
+            let list = type_arms(alloc, list.as_slice(), kept, budget)?;
+            match rest {
+                None => typecase_of(alloc, tested, list, None, *pos),
+                Some(rest) => {
+                    check_typecase(alloc, rest.as_slice(), tested, list, *pos, kept, budget)
+                }
+            }
         }
         Stmt::Protect(body, list, rest, pos) => {
-            let rest = otherwise(alloc, rest, kept, budget)?;
+            let body = check_leaving(alloc, body.as_slice(), kept, budget)?;
             let list = type_arms(alloc, list.as_slice(), kept, budget)?;
-            check_protect(alloc, body.as_slice(), list, rest, *pos, kept, budget)
+            match rest {
+                None => Ok(Stmt::Protect(body, list, None, *pos)),
+                Some(rest) => check_protect(alloc, rest.as_slice(), body, list, *pos, kept, budget),
+            }
         }
         Stmt::Declare(names, ty, value) => {
             copy_declaration(alloc, names.as_slice(), ty, value, budget)
@@ -116,70 +126,55 @@ fn check_if(
     Ok(Stmt::If(list, check_leaving(alloc, rest, kept, budget)?, pos))
 }
 
-/// The `case` with these branches, of which the statements behind `else` are done.
+/// The `case` with these statements behind `else`, of which the branches are done.
 #[cycle(statement)]
 fn check_case(
     alloc: Global,
-    list: &[CaseArm],
+    rest: &[Stmt],
     tested: &Expr,
-    rest: Option<Items<Stmt>>,
+    list: Items<CaseArm>,
     pos: Pos,
     kept: &Kept<'_>,
     budget: &mut Budget,
 ) -> Result<Stmt, NoMemory>
-    ensures { IfOk result (λ woven. woven ≡ stmt.Case tested.now (map (leaving_case_arm_by kept.now) list.now) rest pos) }
+    ensures { IfOk result (λ woven. woven ≡ stmt.Case tested.now list (Some (map (leaving_by kept.now) rest.now)) pos) }
 {
-    let list = case_arms(alloc, list, kept, budget)?;
-    Ok(Stmt::Case(copy_expr(alloc, tested, budget)?, list, rest, pos))
+    let rest = check_leaving(alloc, rest, kept, budget)?;
+    case_of(alloc, tested, list, Some(rest), pos, budget)
 }
 
-/// The `typecase` with these branches, of which the statements behind `else` are done.
+/// The `typecase` with these statements behind `else`, of which the branches are done.
 #[cycle(statement)]
 fn check_typecase(
     alloc: Global,
-    list: &[TypeArm],
+    rest: &[Stmt],
     tested: &Local,
-    rest: Option<Items<Stmt>>,
+    list: Items<TypeArm>,
     pos: Pos,
     kept: &Kept<'_>,
     budget: &mut Budget,
 ) -> Result<Stmt, NoMemory>
-    ensures { IfOk result (λ woven. woven ≡ stmt.TypeCase tested.now (map (leaving_type_arm_by kept.now) list.now) rest pos) }
+    ensures { IfOk result (λ woven. woven ≡ stmt.TypeCase tested.now list (Some (map (leaving_by kept.now) rest.now)) pos) }
 {
-    let list = type_arms(alloc, list, kept, budget)?;
-    Ok(Stmt::TypeCase(copy_local(alloc, tested)?, list, rest, pos))
+    let rest = check_leaving(alloc, rest, kept, budget)?;
+    typecase_of(alloc, tested, list, Some(rest), pos)
 }
 
-/// The `protect` with this body, of which all else is done.
+/// The `protect` with these statements behind `else`, of which all else is done.
 #[cycle(statement)]
 fn check_protect(
     alloc: Global,
-    body: &[Stmt],
+    rest: &[Stmt],
+    body: Items<Stmt>,
     list: Items<TypeArm>,
-    rest: Option<Items<Stmt>>,
     pos: Pos,
     kept: &Kept<'_>,
     budget: &mut Budget,
 ) -> Result<Stmt, NoMemory>
-    ensures { IfOk result (λ woven. woven ≡ stmt.Protect (map (leaving_by kept.now) body.now) list rest pos) }
+    ensures { IfOk result (λ woven. woven ≡ stmt.Protect body list (Some (map (leaving_by kept.now) rest.now)) pos) }
 {
-    Ok(Stmt::Protect(check_leaving(alloc, body, kept, budget)?, list, rest, pos))
-}
-
-/// The same in the statements for the case that no branch is taken, where there are any.
-#[cycle(statement)]
-fn otherwise(
-    alloc: Global,
-    rest: &Option<Items<Stmt>>,
-    kept: &Kept<'_>,
-    budget: &mut Budget,
-) -> Result<Option<Items<Stmt>>, NoMemory>
-    ensures { IfOk result (λ woven. woven ≡ option_map (map (leaving_by kept.now)) rest.now) }
-{
-    match rest {
-        None => Ok(None),
-        Some(rest) => Ok(Some(check_leaving(alloc, rest.as_slice(), kept, budget)?)),
-    }
+    let rest = check_leaving(alloc, rest, kept, budget)?;
+    Ok(Stmt::Protect(body, list, Some(rest), pos))
 }
 
 /// The same in the arms of an `if`.
@@ -364,6 +359,33 @@ fn always(alloc: Global, body: Items<Stmt>, pos: Pos) -> Result<Stmt, AllocError
     let mut list = Items::new(alloc);
     list.push(Arm { test, body })?;
     Ok(Stmt::If(list, Items::new(alloc), pos))
+}
+
+/// The `case` of all that is done, with what is tested once more.
+fn case_of(
+    alloc: Global,
+    tested: &Expr,
+    list: Items<CaseArm>,
+    rest: Option<Items<Stmt>>,
+    pos: Pos,
+    budget: &mut Budget,
+) -> Result<Stmt, NoMemory>
+    ensures { IfOk result (λ woven. woven ≡ stmt.Case tested.now list rest pos) }
+{
+    Ok(Stmt::Case(copy_expr(alloc, tested, budget)?, list, rest, pos))
+}
+
+/// The `typecase` of all that is done, with what is tested once more.
+fn typecase_of(
+    alloc: Global,
+    tested: &Local,
+    list: Items<TypeArm>,
+    rest: Option<Items<Stmt>>,
+    pos: Pos,
+) -> Result<Stmt, NoMemory>
+    ensures { IfOk result (λ woven. woven ≡ stmt.TypeCase tested.now list rest pos) }
+{
+    Ok(Stmt::TypeCase(copy_local(alloc, tested)?, list, rest, pos))
 }
 
 /// A declaration once more.
