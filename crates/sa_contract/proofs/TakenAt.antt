@@ -190,6 +190,15 @@ declared_by-Index None at pos before =
 declared_by-Index (Some inside) at pos before =
     ap (λ (k : Taking Expr). (k before).1) (ap taking (sym (e.rolls-Index (Some inside) at pos)) ∙ taking-roll (Expr-F.Index (Some inside) at pos))
 
+-- the parts of an element are done one behind the other
+pub index-taken : (form : Expr) (of put : Option Expr) (at inside : List Expr) (pos : Pos) (before after : List Stmt) → form ≡ e.Index of at pos → put ≡ replaced_option of before → after ≡ declared_by_option of before → inside ≡ at → e.Index put (replaced_exprs inside after) pos ≡ replaced form before
+index-taken form of put at inside pos before after is taken declared same =
+    ap (λ (d : Option Expr). e.Index d (replaced_exprs inside after) pos) taken
+    ∙ ap (λ (a : List Stmt). e.Index (replaced_option of before) (replaced_exprs inside a) pos) declared
+    ∙ ap (λ (xs : List Expr). e.Index (replaced_option of before) (replaced_exprs xs (declared_by_option of before)) pos) same
+    ∙ sym (replaced-Index of at pos before)
+    ∙ ap (λ (f : Expr). replaced f before) (sym is)
+
 pub replaced-Bind : (call : Expr) (pos : Pos) (before : List Stmt) → replaced (e.Bind call pos) before ≡ e.Bind (replaced call before) pos
 unfolding replaced replaced_argument replaced_receiver replaced_exprs replaced_arguments replaced_option declared_by declared_by_argument declared_by_receiver declared_by_exprs declared_by_arguments declared_by_option
 replaced-Bind call pos before =
