@@ -1,5 +1,4 @@
 pub mod EndLemmas
 pub mod ListingLemmas
 pub mod OutputLemmas
-pub mod QuietLemmas
 pub mod RunLemmas

@@ -1,4 +1,3 @@
-pub mod Accepted
 pub mod Answer
 pub mod Built
 pub mod Ends

@@ -1,11 +1,5 @@
 //! The typed program of what its files declare, with or without the checks of its contracts.
 
-ghost use Rattle.std.specs.Prelude.{◌≡◌, IfOk, MatchResult, None};
-ghost use Rattle.sa_contract.specs.AskedChecks.{asked_by};
-ghost use Rattle.sa_contract.specs.NotQuiet.{first_in_features};
-ghost use Rattle.sa_words.specs.declared.command.Contracts.TheVariants.{Checked};
-ghost use Rattle.sa_drive.specs.Accepted.{IsNotQuiet, asked_under, classes_under};
-
 use sa_check::check;
 use sa_contract::{Checks, Woven, weave};
 use sa_core::Core;
@@ -21,16 +15,12 @@ use std::alloc::Global;
 ///
 /// The first refusal by the rules of classes and bodies. Where contracts are checked, then that of the classes with the checks in
 /// their bodies, and then E46. `NoMemory`.
-#[tactic(auto, using(crate::proofs::QuietLemmas::none))]
 pub(crate) fn accepted(
     alloc: Global,
     declared: Parsed,
     texts: &[Items<u8>],
     contracts: Contracts,
-) -> Result<Core, FrontFault>
-    ensures quiet { let asked = asked_under contracts declared.contracts declared.classes in
-        IfOk result (λ core. first_in_features asked core.features ≡ None) }
-{
+) -> Result<Core, FrontFault> {
     match contracts {
         Contracts::Dropped => check(alloc, declared.classes.as_slice(), texts),
         Contracts::Checked => {
@@ -49,30 +39,20 @@ fn try_unwoven(alloc: Global, classes: &[Class], texts: &[Items<u8>]) -> Result<
 }
 
 /// The typed program of what is declared, with the checks of contracts in the bodies.
-fn with_checks(alloc: Global, declared: Parsed, texts: &[Items<u8>]) -> Result<Core, FrontFault>
-    ensures quiet { let asked = asked_under Checked declared.contracts declared.classes in
-        IfOk result (λ core. first_in_features asked core.features ≡ None) }
-{
+fn with_checks(alloc: Global, declared: Parsed, texts: &[Items<u8>]) -> Result<Core, FrontFault> {
     let woven = woven(alloc, declared)?;
     let core = check(alloc, woven.classes.as_slice(), texts)?;
     if_quiet(core, &woven.checks)
 }
 
 /// The declared classes with the checks in their bodies, and which checks these are.
-fn woven(alloc: Global, declared: Parsed) -> Result<Woven, NoMemory>
-    ensures classes { IfOk result (λ woven. woven.classes ≡ classes_under Checked declared.contracts declared.classes) }
-    ensures checks { IfOk result (λ woven. asked_by woven.checks ≡ asked_under Checked declared.contracts declared.classes) }
-{
+fn woven(alloc: Global, declared: Parsed) -> Result<Woven, NoMemory> {
     let Parsed { classes, contracts } = declared;
     weave(alloc, classes, contracts.as_slice())
 }
 
 /// The typed program, if each of these checks is quiet in it.
-fn if_quiet(core: Core, checks: &Checks) -> Result<Core, FrontFault>
-    ensures same { IfOk result (λ quiet. quiet ≡ core) }
-    ensures quiet { let first = first_in_features (asked_by checks.now) core.features in
-        MatchResult result (λ _. first ≡ None) (IsNotQuiet first) }
-{
+fn if_quiet(core: Core, checks: &Checks) -> Result<Core, FrontFault> {
     checks.check_quiet(&core)?;
     Ok(core)
 }
