@@ -1,5 +1,8 @@
 //! Conditions as they are asserted.
 
+ghost use Rattle.std.specs.Prelude.{◌≡◌, ◌++◌, IfOk, OnOk};
+ghost use Rattle.sa_contract.specs.Asserted.{assert_of, asserts_of, unless_void};
+
 use crate::budget::Budget;
 use crate::copy::copy_expr;
 use sa_tree::{Condition, Expr, NoMemory, Op, Stmt, Ty};
@@ -19,7 +22,9 @@ pub(crate) fn asserted(
     alloc: Global,
     condition: &Condition,
     budget: &mut Budget,
-) -> Result<Stmt, NoMemory> {
+) -> Result<Stmt, NoMemory>
+    ensures { IfOk result (λ check. check ≡ assert_of condition.now) }
+{
     let test = copy_expr(alloc, &condition.test, budget)?;
     Ok(Stmt::Assert(test, condition.pos))
 }
@@ -30,7 +35,9 @@ pub(crate) fn add_asserts(
     conditions: &[Condition],
     list: &mut Items<Stmt>,
     budget: &mut Budget,
-) -> Result<(), NoMemory> {
+) -> Result<(), NoMemory>
+    ensures { OnOk result (list.new ≡ list.old ++ asserts_of conditions.now) }
+{
     for condition in conditions {
         list.push(asserted(alloc, condition, budget)?)?;
     }
@@ -42,7 +49,9 @@ pub(crate) fn of_object(
     alloc: Global,
     invariant: &Condition,
     budget: &mut Budget,
-) -> Result<Condition, NoMemory> {
+) -> Result<Condition, NoMemory>
+    ensures { IfOk result (λ condition. condition ≡ unless_void invariant.now) }
+{
     let pos = invariant.pos;
     let me = Boxed::new(alloc, Expr::Me(pos))?;
     let left = Boxed::new(alloc, Expr::IsVoid(me, pos))?;

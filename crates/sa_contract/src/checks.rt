@@ -1,8 +1,17 @@
 //! Where the checks stand in the typed tree of a woven program, and whether they are quiet (else E46).
 
+ghost use Rattle.std.specs.Prelude.{◌≡◌, [], ◌∷◌, IfErr, MatchResult, None, OnOk, Some};
+ghost use Rattle.std.specs.List.{list_any};
+ghost use Rattle.sa_tree.specs.declared.rule.Rule.TheVariants.{ConditionNotQuiet};
+ghost use Rattle.sa_core.specs.Copy.{arms_of, block_of, expr_of, exprs_of, stmt_of, tests_of};
+ghost use Rattle.sa_contract.specs.NotQuiet.{asserted_at, condition_of, first_in, first_in_arms, first_in_block, first_in_feature};
+ghost use Rattle.sa_contract.specs.NotQuiet.{first_in_features, first_in_tests, initial_of, loud, loud_exprs, loud_tests};
+ghost use Rattle.sa_contract.specs.AskedChecks.{asked_by, asked_first, nothing_asked, same_pos};
+ghost use Rattle.sa_contract.specs.NotQuiet.{asserted, is_assert, plain_checks};
+
 use crate::quietness::quiet;
 use indexmap::IndexMap;
-use sa_core::{ArmCore, Core, ExprCore, StmtCore, TestCore};
+use sa_core::{ArmCore, Core, ExprCore, FeatureCore, StmtCore, TestCore};
 use sa_tree::{FaultKind, NoMemory, Pos, Refusal, Rule};
 use sqlite_items::Items;
 use std::alloc::Global;
@@ -23,14 +32,20 @@ pub struct Checks {
 }
 
 impl Checks {
-    pub(crate) fn new(alloc: Global) -> Checks {
+    pub(crate) fn new(alloc: Global) -> Checks
+        ensures { asked_by result ≡ nothing_asked }
+    {
         Checks {
             by_name: IndexMap::new(alloc),
         }
     }
 
-    /// Adds those of the feature whose name is at the position.
-    pub(crate) fn add(&mut self, name: Pos, checks: BodyChecks) -> Result<(), NoMemory> {
+    /// Adds those of the feature whose name is at the position, in place of others of this name.
+    #[tactic(auto, using(crate::proofs::AskedLists::more))]
+    pub(crate) fn add(&mut self, name: Pos, checks: BodyChecks) -> Result<(), NoMemory>
+        ensures { OnOk result
+            (asked_by self.new ≡ asked_first (record { name = name; checks = checks } ∷ []) (asked_by self.old)) }
+    {
         self.by_name.insert(name, checks)?;
         Ok(())
     }
@@ -41,18 +56,31 @@ impl Checks {
     ///
     /// E46 at the first that isn't, in the order of the features and of their statements: at the first token of a condition, and
     /// at the word `initial`.
-    pub fn check_quiet(&self, core: &Core) -> Result<(), Refusal> {
+    #[tactic(auto, using(crate::proofs::FirstAt::features))]
+    pub fn check_quiet(&self, core: &Core) -> Result<(), Refusal>
+        ensures rule { IfErr result (λ refusal. refusal.rule ≡ ConditionNotQuiet) }
+        ensures first { let first = first_in_features (asked_by self.now) core.now.features in
+            MatchResult result (λ _. first ≡ None) (λ refusal. first ≡ Some refusal.pos) }
+    {
         for feature in core.features.as_slice() {
-            if let Some(checks) = self.by_name.get(&feature.pos) {
-                let woven = InFeature {
-                    conditions: checks.conditions.as_slice(),
-                    initials: checks.initials.as_slice(),
-                    arguments: feature.modes.len(),
-                };
-                in_statements(woven, feature.body.as_slice())?;
+            if let Some(pos) = self.first_in_feature(feature) {
+                return Err(Rule::ConditionNotQuiet.at(pos));
             }
         }
         Ok(())
+    }
+
+    /// The first check in the body of a feature that isn't quiet.
+    fn first_in_feature(&self, feature: &FeatureCore) -> Option<Pos>
+        ensures { result ≡ first_in_feature (asked_by self.now) feature.now }
+    {
+        let checks = self.by_name.get(&feature.pos)?;
+        let woven = InFeature {
+            conditions: checks.conditions.as_slice(),
+            initials: checks.initials.as_slice(),
+            arguments: feature.modes.len(),
+        };
+        first_in_block(&woven, feature.body.as_slice())
     }
 }
 
@@ -64,61 +92,117 @@ struct InFeature<'a> {
     arguments: usize,
 }
 
-impl<'a> InFeature<'a> {
+impl InFeature<'_> {
     /// The position of the `initial` whose value the variable with this number has.
-    fn initial_of(&self, variable: u32) -> Option<Pos> {
-        let number = (variable as usize).checked_sub(self.arguments)?;
-        self.initials.get(number).copied()
-    }
-
-    /// Whether the condition of a contract stands at the position.
-    fn has_condition(&self, pos: Pos) -> bool {
-        self.conditions.iter().any(|condition| *condition == pos)
+    fn initial_of(&self, variable: u32) -> Option<Pos>
+        ensures { result ≡ initial_of (plain_checks self.now) variable }
+    {
+        let variable = variable as usize;
+        if variable < self.arguments {
+            return None;
+        }
+        self.initials.get(variable - self.arguments).copied()
     }
 
     /// The position of the condition that is asserted, where this is what is done if it is false.
-    fn condition_of(&self, otherwise: &[StmtCore]) -> Option<Pos> {
-        match otherwise {
-            [StmtCore::Stop(kind, pos)] => {
-                let is_condition = *kind == FaultKind::Assert && self.has_condition(*pos);
-                is_condition.then_some(*pos)
-            }
-            _ => None,
+    #[tactic(auto, using(crate::proofs::FirstAt::soles))]
+    fn condition_of(&self, other: &[StmtCore]) -> Option<Pos>
+        ensures { result ≡ condition_of (plain_checks self.now) (block_of other.now) }
+    {
+        if other.len() != 1 {
+            return None;
         }
+        self.asserted_at(&other[0])
+    }
+
+    /// The position of the condition whose assert stops the program by this statement.
+    #[tactic(auto, using(sa_core::proofs::Copies::copies))]
+    fn asserted_at(&self, s: &StmtCore) -> Option<Pos>
+        ensures { result ≡ asserted_at (plain_checks self.now) (stmt_of s.now) }
+    {
+        match s {
+            StmtCore::Stop(kind, pos) => self.asserted(*kind, *pos),
+            StmtCore::Let(_, _)
+            | StmtCore::Do(_)
+            | StmtCore::If(_, _)
+            | StmtCore::Loop(_, _)
+            | StmtCore::Leave(_)
+            | StmtCore::TypeCase(_, _, _, _)
+            | StmtCore::Protect(_, _, _)
+            | StmtCore::Return(_)
+            | StmtCore::Yield(_)
+            | StmtCore::Quit
+            | StmtCore::Raise(_, _) => None,
+        }
+    }
+
+    /// The position of the condition whose assert stops the program by a fault of this kind there.
+    fn asserted(&self, kind: FaultKind, pos: Pos) -> Option<Pos>
+        ensures { result ≡ asserted (plain_checks self.now) kind pos }
+    {
+        if is_assert(kind) && self.has_condition(pos) {
+            return Some(pos);
+        }
+        None
+    }
+
+    /// Whether the condition of a contract stands at the position.
+    fn has_condition(&self, pos: Pos) -> bool
+        ensures { result ≡ list_any (same_pos pos) self.now.conditions.now }
+    {
+        self.conditions.iter().any(|condition| pos == *condition)
     }
 }
 
+fn is_assert(kind: FaultKind) -> bool
+    ensures { result ≡ is_assert kind }
+{
+    matches!(kind, FaultKind::Assert)
+}
+
+/// The first check in the statements that isn't quiet.
+#[tactic(auto, using(crate::proofs::FirstAt::firsts))]
 #[cycle(statement)]
-fn in_statements(woven: InFeature<'_>, list: &[StmtCore]) -> Result<(), Refusal> {
+fn first_in_block(woven: &InFeature<'_>, list: &[StmtCore]) -> Option<Pos>
+    ensures { result ≡ first_in_block (plain_checks woven.now) (block_of list.now) }
+{
     for s in list {
-        in_statement(woven, s)?;
+        let found = first_in(woven, s);
+        if found.is_some() {
+            return found;
+        }
     }
-    Ok(())
+    None
 }
 
+/// The same in a statement.
+#[tactic(auto, using(sa_core::proofs::Copies::copies))]
 #[cycle(statement)]
-fn in_statement(woven: InFeature<'_>, s: &StmtCore) -> Result<(), Refusal> {
+fn first_in(woven: &InFeature<'_>, s: &StmtCore) -> Option<Pos>
+    ensures { result ≡ first_in (plain_checks woven.now) (stmt_of s.now) }
+{
     match s {
-        StmtCore::Let(variable, value) => in_let(woven, *variable, value),
-        StmtCore::If(tests, otherwise) => {
-            in_condition(woven, tests.as_slice(), otherwise.as_slice())?;
-            in_tests(woven, tests.as_slice())?;
-            in_statements(woven, otherwise.as_slice())
+        StmtCore::Let(variable, value) => loud(woven.initial_of(*variable), value),
+        StmtCore::If(tests, other) => {
+            let condition = woven.condition_of(other.as_slice());
+            loud_tests(condition, tests.as_slice())
+                .or(first_in_tests(woven, tests.as_slice()))
+                .or(first_in_block(woven, other.as_slice()))
         }
-        StmtCore::Loop(_, body) => in_statements(woven, body.as_slice()),
-        StmtCore::TypeCase(_, arms, otherwise, _) => {
-            in_arms(woven, arms.as_slice())?;
-            match otherwise {
-                Some(otherwise) => in_statements(woven, otherwise.as_slice()),
-                None => Ok(()),
+        StmtCore::Loop(_, body) => first_in_block(woven, body.as_slice()),
+        StmtCore::TypeCase(_, arms, other, _) => {
+            let found = first_in_arms(woven, arms.as_slice());
+            match other {
+                Some(other) => found.or(first_in_block(woven, other.as_slice())),
+                None => found,
             }
         }
-        StmtCore::Protect(body, arms, otherwise) => {
-            in_statements(woven, body.as_slice())?;
-            in_arms(woven, arms.as_slice())?;
-            match otherwise {
-                Some(otherwise) => in_statements(woven, otherwise.as_slice()),
-                None => Ok(()),
+        StmtCore::Protect(body, arms, other) => {
+            let found = first_in_block(woven, body.as_slice());
+            let found = found.or(first_in_arms(woven, arms.as_slice()));
+            match other {
+                Some(other) => found.or(first_in_block(woven, other.as_slice())),
+                None => found,
             }
         }
         StmtCore::Do(_)
@@ -127,64 +211,71 @@ fn in_statement(woven: InFeature<'_>, s: &StmtCore) -> Result<(), Refusal> {
         | StmtCore::Yield(_)
         | StmtCore::Quit
         | StmtCore::Raise(_, _)
-        | StmtCore::Stop(_, _) => Ok(()),
+        | StmtCore::Stop(_, _) => None,
     }
 }
 
+/// The same in the statements behind tests.
+#[tactic(auto, using(crate::proofs::FirstAt::firsts))]
 #[cycle(statement)]
-fn in_tests(woven: InFeature<'_>, tests: &[TestCore]) -> Result<(), Refusal> {
+fn first_in_tests(woven: &InFeature<'_>, tests: &[TestCore]) -> Option<Pos>
+    ensures { result ≡ first_in_tests (plain_checks woven.now) (tests_of tests.now) }
+{
     for test in tests {
-        in_statements(woven, test.body.as_slice())?;
+        let found = first_in_block(woven, test.body.as_slice());
+        if found.is_some() {
+            return found;
+        }
     }
-    Ok(())
+    None
 }
 
+/// The same in the branches of a typecase or a protect.
+#[tactic(auto, using(crate::proofs::FirstAt::firsts))]
 #[cycle(statement)]
-fn in_arms(woven: InFeature<'_>, arms: &[ArmCore]) -> Result<(), Refusal> {
+fn first_in_arms(woven: &InFeature<'_>, arms: &[ArmCore]) -> Option<Pos>
+    ensures { result ≡ first_in_arms (plain_checks woven.now) (arms_of arms.now) }
+{
     for arm in arms {
-        in_statements(woven, arm.body.as_slice())?;
+        let found = first_in_block(woven, arm.body.as_slice());
+        if found.is_some() {
+            return found;
+        }
     }
-    Ok(())
+    None
 }
 
-/// E46 at the word, where the variable has the value of an `initial` that isn't quiet.
-fn in_let(woven: InFeature<'_>, variable: u32, value: &ExprCore) -> Result<(), Refusal> {
-    match woven.initial_of(variable) {
-        Some(pos) => check_expr(value, pos),
-        None => Ok(()),
-    }
-}
-
-/// E46 at the condition, where these are the tests of one that isn't quiet.
-fn in_condition(
-    woven: InFeature<'_>,
-    tests: &[TestCore],
-    otherwise: &[StmtCore],
-) -> Result<(), Refusal> {
-    match woven.condition_of(otherwise) {
-        Some(pos) => check_tests(tests, pos),
-        None => Ok(()),
-    }
-}
-
-fn check_tests(tests: &[TestCore], pos: Pos) -> Result<(), Refusal> {
+/// The check, where one of the tests isn't quiet.
+#[tactic(auto, using(crate::proofs::FirstAt::tests))]
+fn loud_tests(check: Option<Pos>, tests: &[TestCore]) -> Option<Pos>
+    ensures { result ≡ loud_tests check (tests_of tests.now) }
+{
     for test in tests {
-        check_exprs(test.tests.as_slice(), pos)?;
+        let found = loud_exprs(check, test.tests.as_slice());
+        if found.is_some() {
+            return found;
+        }
     }
-    Ok(())
+    None
 }
 
-fn check_exprs(exprs: &[ExprCore], pos: Pos) -> Result<(), Refusal> {
-    for e in exprs {
-        check_expr(e, pos)?;
+/// The check, where one of the expressions isn't quiet.
+#[tactic(auto, using(crate::proofs::FirstAt::exprs))]
+fn loud_exprs(check: Option<Pos>, list: &[ExprCore]) -> Option<Pos>
+    ensures { result ≡ loud_exprs check (exprs_of list.now) }
+{
+    for e in list {
+        let found = loud(check, e);
+        if found.is_some() {
+            return found;
+        }
     }
-    Ok(())
+    None
 }
 
-/// E46 at the position, unless the expression is quiet.
-fn check_expr(e: &ExprCore, pos: Pos) -> Result<(), Refusal> {
-    if quiet(e) {
-        return Ok(());
-    }
-    Err(Rule::ConditionNotQuiet.at(pos))
+/// The check, where the expression isn't quiet.
+fn loud(check: Option<Pos>, e: &ExprCore) -> Option<Pos>
+    ensures { result ≡ loud check (expr_of e.now) }
+{
+    if quiet(e) { None } else { check }
 }

@@ -1,5 +1,12 @@
 //! The contracts of a program, found by the class and the feature that they are about, and which of them a feature has to keep.
 
+ghost use Rattle.std.specs.Prelude.{◌≡◌, IfOk, None, OnOk, Some, if◌then◌else◌, nat_eq};
+ghost use Rattle.std.specs.Option.{option_copied};
+ghost use Rattle.indexmap.specs.IndexMap.{Updates};
+ghost use Rattle.sa_contract.specs.ContractTables.{HasContracts, HasOneMore, clauses_in, duties_in, invariant_in, plain_duties};
+ghost use Rattle.sa_contract.specs.ContractTables.{same_place};
+ghost use Rattle.sa_contract.specs.WovenClasses.{has_duties, is_iter_name, keeps_invariant};
+
 use indexmap::IndexMap;
 use sa_tree::{Access, Condition, Contract, Feature, Name, NoMemory};
 use std::alloc::Global;
@@ -28,9 +35,11 @@ pub(crate) struct FeatureContract<'a> {
 }
 
 impl<'a> FeatureContract<'a> {
-    /// Whether there is nothing to keep.
-    pub(crate) fn is_empty(&self) -> bool {
-        self.pre.is_none() && self.post.is_none() && self.invariant.is_none()
+    /// Whether there is something to keep.
+    pub(crate) fn is_some(&self) -> bool
+        ensures { result ≡ has_duties (plain_duties self.now) }
+    {
+        self.pre.is_some() || self.post.is_some() || self.invariant.is_some()
     }
 }
 
@@ -43,10 +52,13 @@ pub(crate) struct ContractTable<'a> {
 }
 
 impl<'a> ContractTable<'a> {
+    #[tactic(auto, using(crate::proofs::Tables::tables))]
     pub(crate) fn new(
         alloc: Global,
         contracts: &'a [Contract],
-    ) -> Result<ContractTable<'a>, NoMemory> {
+    ) -> Result<ContractTable<'a>, NoMemory>
+        ensures { IfOk result (λ table. HasContracts table contracts.now) }
+    {
         let mut table = ContractTable {
             clauses: IndexMap::new(alloc),
             invariants: IndexMap::new(alloc),
@@ -57,7 +69,10 @@ impl<'a> ContractTable<'a> {
         Ok(table)
     }
 
-    fn add(&mut self, contract: &'a Contract) -> Result<(), NoMemory> {
+    #[tactic(auto, using(crate::proofs::Tables::tables))]
+    fn add(&mut self, contract: &'a Contract) -> Result<(), NoMemory>
+        ensures { OnOk result (HasOneMore self.old self.new contract.now) }
+    {
         match contract {
             Contract::Clauses {
                 class,
@@ -73,44 +88,79 @@ impl<'a> ContractTable<'a> {
                     pre: pre.as_ref(),
                     post: post.as_ref(),
                 };
-                self.clauses.insert(place, clauses)?;
+                self.add_clauses(place, clauses)?;
+                Ok(())
             }
             Contract::Invariant { class, holds } => {
-                self.invariants.insert(*class as usize, holds)?;
+                self.add_invariant(*class as usize, holds)?;
+                Ok(())
             }
         }
+    }
+
+    fn add_clauses(&mut self, place: FeaturePlace, clauses: Clauses<'a>) -> Result<(), NoMemory>
+        ensures added { OnOk result (Updates same_place self.old.clauses self.new.clauses place (Some clauses.entry)) }
+        ensures kept { self.new.invariants ≡ self.old.invariants }
+    {
+        self.clauses.insert(place, clauses)?;
+        Ok(())
+    }
+
+    fn add_invariant(&mut self, class: usize, holds: &'a Condition) -> Result<(), NoMemory>
+        ensures added { OnOk result (Updates nat_eq self.old.invariants self.new.invariants class (Some holds.entry)) }
+        ensures kept { self.new.clauses ≡ self.old.clauses }
+    {
+        self.invariants.insert(class, holds)?;
         Ok(())
     }
 
     /// What the routine or the iter at a place has to keep.
-    pub(crate) fn of(&self, place: FeaturePlace, feature: &Feature) -> FeatureContract<'a> {
-        let clauses = self.clauses.get(&place).copied();
-        let invariant = if keeps_invariant(feature) {
-            self.invariants.get(&place.class).copied()
-        } else {
-            None
-        };
-        match clauses {
-            Some(Clauses { pre, post }) => FeatureContract {
-                pre,
-                post,
-                invariant,
-            },
-            None => FeatureContract {
+    pub(crate) fn of(&self, place: FeaturePlace, feature: &Feature) -> FeatureContract<'a>
+        ensures { plain_duties result ≡ duties_in self.now place.class place.feature feature.now }
+    {
+        let Clauses { pre, post } = self.clauses_at(place);
+        let invariant = self.invariant_for(place.class, feature);
+        FeatureContract {
+            pre,
+            post,
+            invariant,
+        }
+    }
+
+    /// The clauses of the feature at a place.
+    fn clauses_at(&self, place: FeaturePlace) -> Clauses<'a>
+        ensures { (option_copied result.pre, option_copied result.post) ≡ clauses_in self.now place.class place.feature }
+    {
+        match self.clauses.get(&place) {
+            Some(clauses) => *clauses,
+            None => Clauses {
                 pre: None,
                 post: None,
-                invariant,
             },
         }
+    }
+
+    /// The invariant of the class with this number, where the feature keeps it.
+    fn invariant_for(&self, class: usize, feature: &Feature) -> Option<&'a Condition>
+        ensures { option_copied result ≡ (if keeps_invariant feature.now then invariant_in self.now class else None) }
+    {
+        if !keeps_invariant(feature) {
+            return None;
+        }
+        self.invariants.get(&class).copied()
     }
 }
 
 /// Whether the feature keeps the invariant of its class: a public one that is no iter.
-fn keeps_invariant(feature: &Feature) -> bool {
-    feature.access == Access::Public && !is_iter(&feature.name.name)
+fn keeps_invariant(feature: &Feature) -> bool
+    ensures { result ≡ keeps_invariant feature.now }
+{
+    matches!(feature.access, Access::Public) && !is_iter(&feature.name.name)
 }
 
 /// Whether a name is that of an iter.
-pub(crate) fn is_iter(name: &Name) -> bool {
-    matches!(name.as_slice(), [.., b'!'])
+pub(crate) fn is_iter(name: &Name) -> bool
+    ensures { result ≡ is_iter_name name.now }
+{
+    name.as_slice().ends_with(b"!")
 }

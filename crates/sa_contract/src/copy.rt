@@ -1,9 +1,10 @@
 //! Expressions once more, as far as the budget allows.
 
 ghost use Rattle.std.specs.Prelude.{◌≡◌, IfOk};
+ghost use Rattle.sa_tree.specs.declared.expr.Expr.TheVariants as expr;
 
 use crate::budget::Budget;
-use sa_tree::{Expr, Given, Name, NoMemory, Recv, Ty};
+use sa_tree::{Expr, Given, Name, NoMemory, Op, Pos, Recv, Ty};
 use sqlite_items::{Boxed, Items};
 use std::alloc::Global;
 
@@ -23,29 +24,85 @@ pub(crate) fn copy_expr(alloc: Global, e: &Expr, budget: &mut Budget) -> Result<
         Expr::Exception(pos) => Ok(Expr::Exception(*pos)),
         Expr::IsVoid(tested, pos) => Ok(Expr::IsVoid(copy_boxed(alloc, tested, budget)?, *pos)),
         Expr::New(count, pos) => Ok(Expr::New(copy_optional_boxed(alloc, count, budget)?, *pos)),
-        Expr::Create(ty, args, pos) => {
-            let ty = copy_optional_type(alloc, ty, budget)?;
-            Ok(Expr::Create(ty, copy_args(alloc, args.as_slice(), budget)?, *pos))
-        }
+        Expr::Create(ty, args, pos) => copy_create(alloc, args.as_slice(), ty, *pos, budget),
         Expr::Items(items, pos) => {
             Ok(Expr::Items(copy_exprs(alloc, items.as_slice(), budget)?, *pos))
         }
         Expr::Call(on, name, args, pos) => {
             let on = copy_receiver(alloc, on, budget)?;
-            let name = copy_name(alloc, name, budget)?;
-            Ok(Expr::Call(on, name, copy_args(alloc, args.as_slice(), budget)?, *pos))
+            copy_call(alloc, args.as_slice(), on, name, *pos, budget)
         }
         Expr::Binary(op, left, right, pos) => {
             let left = copy_boxed(alloc, left, budget)?;
-            Ok(Expr::Binary(*op, left, copy_boxed(alloc, right, budget)?, *pos))
+            copy_binary(alloc, right, *op, left, *pos, budget)
         }
         Expr::Unary(op, of, pos) => Ok(Expr::Unary(*op, copy_boxed(alloc, of, budget)?, *pos)),
         Expr::Index(of, at, pos) => {
             let of = copy_optional_boxed(alloc, of, budget)?;
-            Ok(Expr::Index(of, copy_exprs(alloc, at.as_slice(), budget)?, *pos))
+            copy_index(alloc, at.as_slice(), of, *pos, budget)
         }
         Expr::Bind(call, pos) => Ok(Expr::Bind(copy_boxed(alloc, call, budget)?, *pos)),
     }
+}
+
+/// The `#` with these arguments.
+#[cycle(copying)]
+fn copy_create(
+    alloc: Global,
+    args: &[Given],
+    ty: &Option<Ty>,
+    pos: Pos,
+    budget: &mut Budget,
+) -> Result<Expr, NoMemory>
+    ensures { IfOk result (λ copy. copy ≡ expr.Create ty.now args.now pos) }
+{
+    let args = copy_args(alloc, args, budget)?;
+    Ok(Expr::Create(copy_optional_type(alloc, ty, budget)?, args, pos))
+}
+
+/// The call with these arguments, of which the receiver is done.
+#[cycle(copying)]
+fn copy_call(
+    alloc: Global,
+    args: &[Given],
+    on: Recv,
+    name: &Name,
+    pos: Pos,
+    budget: &mut Budget,
+) -> Result<Expr, NoMemory>
+    ensures { IfOk result (λ copy. copy ≡ expr.Call on name.now args.now pos) }
+{
+    let args = copy_args(alloc, args, budget)?;
+    Ok(Expr::Call(on, copy_name(alloc, name, budget)?, args, pos))
+}
+
+/// The operation with this right side, of which the left side is done.
+#[cycle(copying)]
+fn copy_binary(
+    alloc: Global,
+    right: &Boxed<Expr>,
+    op: Op,
+    left: Boxed<Expr>,
+    pos: Pos,
+    budget: &mut Budget,
+) -> Result<Expr, NoMemory>
+    ensures { IfOk result (λ copy. copy ≡ expr.Binary op left right.now pos) }
+{
+    Ok(Expr::Binary(op, left, copy_boxed(alloc, right, budget)?, pos))
+}
+
+/// The element at these indices, of which what has the elements is done.
+#[cycle(copying)]
+fn copy_index(
+    alloc: Global,
+    at: &[Expr],
+    of: Option<Boxed<Expr>>,
+    pos: Pos,
+    budget: &mut Budget,
+) -> Result<Expr, NoMemory>
+    ensures { IfOk result (λ copy. copy ≡ expr.Index of at.now pos) }
+{
+    Ok(Expr::Index(of, copy_exprs(alloc, at, budget)?, pos))
 }
 
 #[cycle(copying)]

@@ -1,5 +1,11 @@
 //! The classes of a program with the checks of its contracts woven into the bodies.
 
+ghost use Rattle.std.specs.Prelude.{◌≡◌, IfOk, OnOk};
+ghost use Rattle.std.specs.Option.{unwrap_or};
+ghost use Rattle.sa_contract.specs.AskedChecks.{asked, asked_by, asked_first, feature_checks, features_checks, woven_checks};
+ghost use Rattle.sa_contract.specs.ContractTables.{duties_in};
+ghost use Rattle.sa_contract.specs.WovenClasses.{duties_of, woven_class, woven_classes, woven_feature, woven_features, woven_part};
+
 use crate::body::{WovenBody, weave_body};
 use crate::budget::Budget;
 use crate::checks::Checks;
@@ -28,11 +34,15 @@ struct Weaving {
 /// # Errors
 ///
 /// `NoMemory`, also where the checks would be more than [`MOST_FORMS`](crate::MOST_FORMS).
+#[tactic(auto, using(crate::proofs::Tables::classes))]
 pub fn weave(
     alloc: Global,
     classes: Items<Class>,
     contracts: &[Contract],
-) -> Result<Woven, NoMemory> {
+) -> Result<Woven, NoMemory>
+    ensures classes { IfOk result (λ woven. woven.classes ≡ woven_classes (duties_of contracts.now) 0 classes) }
+    ensures checks { IfOk result (λ woven. asked_by woven.checks ≡ asked (woven_checks (duties_of contracts.now) 0 classes)) }
+{
     let table = ContractTable::new(alloc, contracts)?;
     let mut weaving = Weaving {
         budget: Budget::new(),
@@ -45,12 +55,17 @@ pub fn weave(
     })
 }
 
+#[tactic(auto, using(crate::proofs::WovenLists::popped, crate::proofs::AskedLists::popped))]
 fn weave_classes(
     alloc: Global,
     table: &ContractTable<'_>,
     classes: Items<Class>,
     weaving: &mut Weaving,
-) -> Result<Items<Class>, NoMemory> {
+) -> Result<Items<Class>, NoMemory>
+    ensures classes { IfOk result (λ woven. woven ≡ woven_classes (duties_in table.now) 0 classes) }
+    ensures checks { OnOk result (asked_by weaving.new.checks
+        ≡ asked_first (woven_checks (duties_in table.now) 0 classes) (asked_by weaving.old.checks)) }
+{
     let mut rest = classes;
     let mut last_first = Vec::new(alloc);
     while let Some(class) = rest.pop() {
@@ -67,19 +82,28 @@ fn weave_class(
     class: Class,
     number: usize,
     weaving: &mut Weaving,
-) -> Result<Class, NoMemory> {
+) -> Result<Class, NoMemory>
+    ensures class { IfOk result (λ woven. woven ≡ woven_class (duties_in table.now) number class) }
+    ensures checks { OnOk result (asked_by weaving.new.checks
+        ≡ asked_first (features_checks (duties_in table.now) number 0 class.features) (asked_by weaving.old.checks)) }
+{
     let features = weave_features(alloc, table, class.features, number, weaving)?;
     Ok(Class { features, ..class })
 }
 
 /// The features that the class with this number writes.
+#[tactic(auto, using(crate::proofs::WovenLists::popped, crate::proofs::AskedLists::popped))]
 fn weave_features(
     alloc: Global,
     table: &ContractTable<'_>,
     features: Items<Feature>,
     class: usize,
     weaving: &mut Weaving,
-) -> Result<Items<Feature>, NoMemory> {
+) -> Result<Items<Feature>, NoMemory>
+    ensures features { IfOk result (λ woven. woven ≡ woven_features (duties_in table.now) class 0 features) }
+    ensures checks { OnOk result (asked_by weaving.new.checks
+        ≡ asked_first (features_checks (duties_in table.now) class 0 features) (asked_by weaving.old.checks)) }
+{
     let mut rest = features;
     let mut last_first = Vec::new(alloc);
     while let Some(feature) = rest.pop() {
@@ -100,10 +124,23 @@ fn weave_feature(
     feature: Feature,
     place: FeaturePlace,
     weaving: &mut Weaving,
-) -> Result<Feature, NoMemory> {
-    match woven_part(alloc, table, &feature, place, weaving)? {
-        Some(part) => Ok(Feature { part, ..feature }),
-        None => Ok(feature),
+) -> Result<Feature, NoMemory>
+    ensures feature { let duties = duties_in table.now place.class place.feature feature in
+        IfOk result (λ woven. woven ≡ woven_feature feature duties) }
+    ensures checks { let duties = duties_in table.now place.class place.feature feature in
+        OnOk result (asked_by weaving.new.checks ≡ asked_first (feature_checks feature duties) (asked_by weaving.old.checks)) }
+{
+    let part = woven_part(alloc, table, &feature, place, weaving)?;
+    Ok(with_part(feature, part))
+}
+
+/// The feature with this part, if there is one, in place of its own.
+fn with_part(feature: Feature, part: Option<Part>) -> Feature
+    ensures { result ≡ record feature { part = unwrap_or part feature.part } }
+{
+    match part {
+        Some(part) => Feature { part, ..feature },
+        None => feature,
     }
 }
 
@@ -114,12 +151,18 @@ fn woven_part(
     feature: &Feature,
     place: FeaturePlace,
     weaving: &mut Weaving,
-) -> Result<Option<Part>, NoMemory> {
+) -> Result<Option<Part>, NoMemory>
+    ensures part { let duties = duties_in table.now place.class place.feature feature.now in
+        IfOk result (λ part. unwrap_or part feature.now.part ≡ woven_part feature.now duties feature.now.part) }
+    ensures checks { let duties = duties_in table.now place.class place.feature feature.now in
+        OnOk result (asked_by weaving.new.checks
+        ≡ asked_first (feature_checks feature.now duties) (asked_by weaving.old.checks)) }
+{
     let Part::Routine(body) = &feature.part else {
         return Ok(None);
     };
     let contract = table.of(place, feature);
-    if contract.is_empty() {
+    if !contract.is_some() {
         return Ok(None);
     }
     let body = body.get().as_slice();
