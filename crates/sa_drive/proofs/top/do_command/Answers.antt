@@ -30,6 +30,3 @@ returns-in-Version-clause-does g c = rw c.in-Version.is (c.version.ensures.does,
 
 pub returns-in-Explain-clause-does : goal.returns-in-Explain-clause-does
 returns-in-Explain-clause-does g c = rw c.in-Explain.is (c.explain.ensures.does, ((refl, refl), c.explain.ensures.listening))
-
-pub returns-in-Library-clause-does : goal.returns-in-Library-clause-does
-returns-in-Library-clause-does g c = rw c.in-Library.is (c.library.ensures.does, ((refl, refl), c.library.ensures.listening))
