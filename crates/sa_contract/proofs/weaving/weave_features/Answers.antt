@@ -16,4 +16,4 @@ loop-feature-preserved c = record {
 
 pub returns-clause-checks : goal.returns-clause-checks
 returns-clause-checks c =
-    sym (c.loop-feature.invariant.checks ∙ ap (λ (list : List Feature). asked_first (features_checks (duties_in c.args.table.now) c.args.class 0 list) (asked_by c.loop-feature.weaving.checks)) c.in_default.ensures)
+    sym (c.loop-feature.invariant.checks ∙ ap (λ (list : List Feature). asked_first (features_checks (duties_in c.args.table.now) c.args.class 0 list) (asked_by c.loop-feature.weaving.checks)) c.in_default.ensures.0)
