@@ -9,6 +9,7 @@ mod check;
 mod checkers;
 mod compile;
 mod exec;
+mod explained;
 mod lines;
 mod listing;
 mod module;

@@ -1,15 +1,15 @@
 //! The top call.
 
-ghost use Rattle.std.specs.Prelude.{◌≡◌, ◌≢◌, ◌&&◌, [], None, Some, is_some, map, string_bytes};
+ghost use Rattle.std.specs.Prelude.{◌≡◌, ◌≢◌, ◌⊎◌, ◌&&◌, [], None, Some, is_some, map, string_bytes};
 ghost use Rattle.sa_outside.specs.Output.{Grew};
 ghost use Rattle.sa_trace.specs.Handing.{Sink as Taken, sink};
 ghost use Rattle.sa_trace.specs.declared.sinks.Listening.TheVariants as listening;
-ghost use Rattle.sa_words.specs.Line.{line_in, line_of};
+ghost use Rattle.sa_words.specs.Line.{detail_of, line_in, line_of};
 ghost use Rattle.sa_drive.specs.Answer.{Does, IsTellable, Obeys, PrintsNone, ReadsNone};
 ghost use Rattle.sa_drive.specs.Answer.{RunsNone, WritesNone, asks_stats, has_steps, module_file};
 ghost use Rattle.sa_drive.specs.Ends.{ComesBeforeOutput};
 ghost use Rattle.sa_drive.specs.Lines.{IsPlaced};
-ghost use Rattle.sa_drive.specs.Report.{IsExitOf};
+ghost use Rattle.sa_drive.specs.Report.{IsExitOf, IsExplained};
 ghost use Rattle.sa_drive.specs.Seen.{between, outside, part};
 ghost use Rattle.sa_drive.specs.declared.outcome.Outcome.{Outcome as Outcomes};
 
@@ -19,6 +19,7 @@ use crate::cause::{Cause, Exit};
 use crate::check::check;
 use crate::compile::no_sources;
 use crate::exec::exec;
+use crate::explained::tell_more;
 use crate::listing::listing;
 use crate::outcome::Outcome;
 use crate::print::print_generated;
@@ -27,7 +28,7 @@ use crate::run::run;
 use crate::selftest::selftest;
 use crate::told::run_told;
 use sa_outside::{Sink, Source, WriteFiles};
-use sa_words::{Command, Trace, WordsFault, command_of};
+use sa_words::{Command, Detail, Trace, WordsFault, command_of, detail_of};
 use sqlite_items::Items;
 use std::alloc::Global;
 
@@ -41,13 +42,15 @@ pub fn sather<S: WriteFiles, I: Source, O: Sink, E: Sink>(
     err: &mut E,
 ) -> Exit
     // What the words ask for was done with an outcome, by the definition of each command, up to some state of err. The exit has its
-    // cause, or out of memory, its status and its module, and from there on err took its lines.
-    ensures answer { (outcome : Outcomes) × (middle : Taken) ×
+    // cause, or out of memory, its status and its module, and from there on err took its lines, and behind them an explanation
+    // where the words ask for one.
+    ensures answer { (outcome : Outcomes) × (middle : Taken) × (told : Taken) ×
         Obeys (outside (part S.files S.faults store.old store.new) (part I.input I.faults input.old input.new)
         (part O.output O.faults out.old out.new) (between (sink (E.output err.old) (E.faults err.old)) middle))
         (line_in (map string_bytes words.now)) outcome
         × IsTellable (line_in (map string_bytes words.now)) outcome
-        × IsExitOf outcome (between middle (sink (E.output err.new) (E.faults err.new))) result }
+        × IsExitOf outcome (between middle told) result
+        × IsExplained (line_in (map string_bytes words.now)) (between told (sink (E.output err.new) (E.faults err.new))) }
 
     // A command that runs no module on the input takes nothing from it, and has the status 0 at `Done`.
     ensures input { RunsNone (line_in (map string_bytes words.now)) → input.new ≡ input.old }
@@ -63,8 +66,9 @@ pub fn sather<S: WriteFiles, I: Source, O: Sink, E: Sink>(
     ensures output { Grew (O.output out.old) (O.output out.new) }
     ensures untouched { ComesBeforeOutput result.cause → (out.new ≡ out.old) × (input.new ≡ input.old) }
 {
-    let outcome = obey(alloc, words, store, input, out, err);
+    let Obeyed { outcome, detail } = obey(alloc, words, store, input, out, err);
     let cause = report(alloc, &outcome, err);
+    tell_more(alloc, detail, &outcome, cause, err);
     let status = match cause {
         Cause::Done => outcome.done,
         _ => cause.status(),
@@ -76,6 +80,13 @@ pub fn sather<S: WriteFiles, I: Source, O: Sink, E: Sink>(
     }
 }
 
+/// What came of the words, and how much is to be told of it.
+#[derive(Drop)]
+struct Obeyed<'a> {
+    outcome: Outcome<'a>,
+    detail: Detail,
+}
+
 /// Does what the words ask for, but for the lines on err.
 fn obey<'a, S: WriteFiles, I: Source, O: Sink, E: Sink>(
     alloc: Global,
@@ -84,27 +95,40 @@ fn obey<'a, S: WriteFiles, I: Source, O: Sink, E: Sink>(
     input: &mut I,
     out: &mut O,
     err: &mut E,
-) -> Outcome<'a>
+) -> Obeyed<'a>
     ensures obeys { Obeys (outside (part S.files S.faults store.old store.new) (part I.input I.faults input.old input.new)
         (part O.output O.faults out.old out.new) (part E.output E.faults err.old err.new))
-        (line_in (map string_bytes words.now)) result }
-    ensures file { result.cause ≢ Cause.NoMemory → result.file.now ≡ module_file (line_in (map string_bytes words.now)) }
-    ensures steps { is_some result.steps ≡ (asks_stats (line_in (map string_bytes words.now)) && has_steps result.cause) }
-    ensures placed { IsPlaced result.sources result.cause }
+        (line_in (map string_bytes words.now)) result.outcome }
+    ensures detail { (result.detail ≡ detail_of (line_in (map string_bytes words.now))) ⊎ (result.detail ≡ Detail.Brief) }
+    ensures file { result.outcome.cause ≢ Cause.NoMemory → result.outcome.file.now ≡ module_file (line_in (map string_bytes words.now)) }
+    ensures steps { is_some result.outcome.steps ≡ (asks_stats (line_in (map string_bytes words.now)) && has_steps result.outcome.cause) }
+    ensures placed { IsPlaced result.outcome.sources result.outcome.cause }
     ensures input { RunsNone (line_in (map string_bytes words.now)) → input.new ≡ input.old }
-    ensures done { RunsNone (line_in (map string_bytes words.now)) → result.cause ≡ Cause.Done → result.done ≡ 0 }
+    ensures done { RunsNone (line_in (map string_bytes words.now)) → result.outcome.cause ≡ Cause.Done → result.outcome.done ≡ 0 }
     ensures files { WritesNone (line_in (map string_bytes words.now)) → S.files store.new ≡ S.files store.old }
     ensures store { ReadsNone (line_in (map string_bytes words.now)) → store.new ≡ store.old }
     ensures silent { PrintsNone (line_in (map string_bytes words.now)) → out.new ≡ out.old }
     ensures output { Grew (O.output out.old) (O.output out.new) }
-    ensures untouched { ComesBeforeOutput result.cause → (out.new ≡ out.old) × (input.new ≡ input.old) }
+    ensures untouched { ComesBeforeOutput result.outcome.cause → (out.new ≡ out.old) × (input.new ≡ input.old) }
 {
     let command = match command_of(alloc, words) {
         Ok(command) => command,
-        Err(WordsFault::Usage) => return without_command(alloc, Cause::Usage),
-        Err(WordsFault::NoMemory) => return without_command(alloc, Cause::NoMemory),
+        Err(WordsFault::Usage) => return briefly(without_command(alloc, Cause::Usage)),
+        Err(WordsFault::NoMemory) => return briefly(without_command(alloc, Cause::NoMemory)),
     };
-    do_command(alloc, command, store, input, out, err)
+    let detail = detail_of(&command);
+    let outcome = do_command(alloc, command, store, input, out, err);
+    Obeyed { outcome, detail }
+}
+
+/// An outcome whose lines are all that is told of it.
+fn briefly(outcome: Outcome<'_>) -> Obeyed<'_>
+    ensures { result ≡ record { outcome = outcome; detail = Detail.Brief } }
+{
+    Obeyed {
+        outcome,
+        detail: Detail::Brief,
+    }
 }
 
 /// Does what a command asks for.

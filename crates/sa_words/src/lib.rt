@@ -5,13 +5,15 @@
 #![tactic(auto)]
 
 mod command;
+mod detail;
 mod fault;
 mod number;
 mod program;
 mod read;
 mod subcommand;
 
-pub use command::{Assemble, Build, Check, Command, Contracts, Exec, Listing, Run, Trace};
+pub use command::{Assemble, Build, Check, Command, Contracts, Detail, Exec, Listing, Run, Trace};
+pub use detail::detail_of;
 pub use fault::WordsFault;
 pub use read::command_of;
 pub use subcommand::ROOM;
