@@ -2,8 +2,10 @@
 //! and what to do.
 #![tactic(auto)]
 
+mod around;
 mod calls;
 mod classes;
+mod elsewhere;
 mod explain;
 mod faults;
 mod general;
