@@ -1,9 +1,10 @@
 # Completion of the words of sather in bash.
 _sather() {
   local word=${COMP_WORDS[COMP_CWORD]} before=${COMP_WORDS[COMP_CWORD - 1]} options='' endings='*.sa'
+  local commands='run build check exec gen selftest listing assemble help version explain lib'
   COMPREPLY=()
   if [ "$COMP_CWORD" -eq 1 ]; then
-    mapfile -t COMPREPLY < <(compgen -W 'run build check exec gen selftest listing assemble' -- "$word")
+    mapfile -t COMPREPLY < <(compgen -W "$commands" -- "$word")
     return
   fi
   case ${COMP_WORDS[1]} in
@@ -13,6 +14,10 @@ _sather() {
     exec) options='--fuel --stats --explain' endings='*.wasm' ;;
     listing) endings='*.wasm' ;;
     assemble) options='-o' endings='*' ;;
+    help)
+      mapfile -t COMPREPLY < <(compgen -W "$commands" -- "$word")
+      return
+      ;;
     *) return ;;
   esac
   case $before in

@@ -3,8 +3,9 @@
 
 Compares what ./install puts beside the program with the program, and tries ./install.
 
-- The commands of the synopsis in man/sather.1 are those of the usage line, in its order, and each command takes the options that
+- The synopsis in man/sather.1 begins with the commands of the usage line, in its order, and each command takes the options that
   the synopsis gives it and no others; the options of the page are those of the synopsis, and its statuses those of docs/.
+- `sather help` has a line for each command of the synopsis, and `sather help COMMAND` one for each of its options.
 - The completions of bash and zsh offer these commands, and for each command these options.
 - What is put below a folder runs, also beside a class of the library, and is gone when it is taken out again, while what was there
   before stays.
@@ -24,6 +25,7 @@ BASH = os.path.join(report.TOP, 'completions', 'sather.bash')
 ZSH = os.path.join(report.TOP, 'completions', '_sather')
 USAGE = 124
 VALUES = {'--fuel': ['1000'], '--room': ['64'], '--stats': [], '--contracts': [], '--trace': [], '-o': ['out']}
+OWN = {'gen': ['3'], 'selftest': ['3'], 'help': ['run'], 'version': [], 'explain': ['E33'], 'lib': ['fmap']}
 HELLO = b'class MAIN is main is #OUT + "Hello\\n"; end; end;'
 # Prints what bash offers for the last of the words.
 IN_BASH = 'source "$0"; COMP_WORDS=("$@"); COMP_CWORD=$(($# - 1)); _sather; printf "%s\\n" "${COMPREPLY[@]}"'
@@ -43,17 +45,38 @@ def synopsis():
 
 
 def usage_differs(program):
-    """Where the commands of the usage line are others than those of the synopsis, or None."""
+    """Where the commands of the usage line are others than the first ones of the synopsis, or None."""
     with report.folder_with({}) as folder:
         line = report.run([program], folder).lines.decode()
     told = re.split(', | or ', line.removeprefix('usage: sather ').rstrip('\n'))
-    return None if told == list(synopsis()) else 'the usage line has %s, and the synopsis %s' % (told, list(synopsis()))
+    if told != list(synopsis())[:len(told)]:
+        return 'the usage line has %s, and the synopsis %s' % (told, list(synopsis()))
+    return None
+
+
+def help_of(program, *words):
+    """What stands at the beginnings of the lines that are set in in what `help` prints."""
+    left = report.run([program, 'help', *words], report.TOP)
+    return re.findall(r'^  (?:sather )?(\S+)', left.output.decode(), re.M) if left.status == 0 else []
+
+
+def help_differs(program):
+    """Where `help` has other commands than the synopsis, or the help of a command other options, or None."""
+    commands = help_of(program)[:len(synopsis())]
+    if commands != list(synopsis()):
+        return 'help has the commands %s' % commands
+    for command, options in synopsis().items():
+        found = [word for word in help_of(program, command) if word.startswith('-')]
+        if sorted(found) != sorted(options):
+            return '%s: help has the options %s, and the synopsis %s' % (command, found, options)
+        if command not in help_of(program, command):
+            return '%s: its help has no example' % command
+    return None
 
 
 def options_differ(program, command):
     """Which options the command takes against the synopsis, or the other way round, or None."""
-    own = ['3'] if command in ('gen', 'selftest') else ['f.sa']
-    taken = []
+    own, taken = OWN.get(command, ['f.sa']), []
     with report.folder_with({'f.sa': HELLO}) as folder:
         for option, value in VALUES.items():
             needed = ['-o', 'out'] if command in ('build', 'assemble') and option != '-o' else []
@@ -65,7 +88,7 @@ def options_differ(program, command):
 
 def page_differs():
     """Where the sections of the man page differ from its synopsis and from the statuses of docs/, or None."""
-    names = {'COMMANDS': list(synopsis()), 'OPTIONS': list(VALUES)}
+    names = {'COMMANDS': list(synopsis()), 'OPTIONS': [*VALUES, '-h', '-V']}
     for section, wanted in names.items():
         found = [line.split()[0] for line in re.findall(r'^\.TP\n(.*)', sections()[section], re.M)]
         if found != wanted:
@@ -127,6 +150,7 @@ def install_differs():
 def tries(program, told):
     """The tries: what is tried, and a call that gives what is wrong."""
     yield 'the commands of the man page are those of the usage line', functools.partial(usage_differs, program)
+    yield 'help has the commands and options of the man page', functools.partial(help_differs, program)
     for command in synopsis():
         yield 'the man page has the options of %s' % command, functools.partial(options_differ, program, command)
     yield 'the man page tells each command, option and status', page_differs

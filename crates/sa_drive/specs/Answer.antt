@@ -2,12 +2,14 @@
 use Rattle.std.specs.Prelude.{codes, ◌≡◌, ◌≢◌, ◌≤◌, ◌^◌, ◌-◌, ◌⊎◌, ◌&&◌, ⊤, ℕ, Bool}
 use Rattle.std.specs.Prelude.{true, false, List, [], length, Option, None, Some, is_some}
 use Rattle.sa_gen.specs.Generated.{generated}
+use Rattle.sa_help.specs.Texts.{help_text, version_text}
 use Rattle.sa_outside.specs.Files.{Files, Lacks}
 use Rattle.sa_outside.specs.Input.{Input}
+use Rattle.sa_pages.specs.Pages.{error_page, library_file, library_list}
 use Rattle.sa_read.specs.Read.{HasFile, HasLonger}
 use Rattle.sa_statement.specs.Runnable.{SpellsRunnable}
 use Rattle.sa_trace.specs.declared.sinks.Listening.TheVariants as listening
-use Rattle.sa_words.specs.Line.{Assemble, Build, Check, Exec, Gen, Line, Listing, Run, Selftest}
+use Rattle.sa_words.specs.Line.{Assemble, Build, Check, Exec, Explain, Gen, Help, Library, Line, Listing, Run, Selftest, Version}
 use Rattle.sa_words.specs.declared.command.Trace.TheVariants as tracing
 use Rattle.sa_drive.specs.Ends.{IsOfModule, IsPrinted, IsWritten}
 use Rattle.sa_drive.specs.Files.{ComesOfFiles, ComesOfGenerated, IsTakenGenerated, IsTakenProgram}
@@ -113,6 +115,20 @@ IsAssembled store name file outcome =
 abbrev pub IsGenerated : Part (List ℕ) → ℕ → Outcome → Type 0
 IsGenerated out classes outcome = HasNoModule outcome × IsPrinted out (generated classes) outcome.cause
 
+-- this text was printed
+abbrev pub IsShown : Part (List ℕ) → (text : List ℕ) → Outcome → Type 0
+IsShown out text outcome = HasNoModule outcome × IsPrinted out text outcome.cause
+
+-- the text that was asked for was printed, or there is none, for which this cause is given, and nothing is printed
+abbrev pub IsFound : Part (List ℕ) → (text : Option (List ℕ)) → (lacking : Cause) → Outcome → Type 0
+IsFound out (Some text) lacking outcome = IsShown out text outcome
+IsFound out None lacking outcome = HasNoModule outcome × (outcome.cause ≡ lacking) × IsKept out
+
+-- the file of the library with this name was printed, or without a name the list of its files
+abbrev pub IsLibrary : Part (List ℕ) → (name : Option (List ℕ)) → Outcome → Type 0
+IsLibrary out None outcome = IsShown out library_list outcome
+IsLibrary out (Some name) outcome = IsFound out (library_file name) cause.NoLibraryFile outcome
+
 -- an input of no bytes that never fails, of which this is left
 abbrev pub empty_input : Input → Part Input
 empty_input left = record { before = Some (record { left = []; ends = 0 }); after = Some left; faults_before = 0; faults_after = 0 }
@@ -156,6 +172,10 @@ Does outside (Gen classes) outcome = IsGenerated outside.out classes outcome × 
 Does outside (Selftest classes) outcome = IsTested outside.out classes outcome × IsSilent outside.err outcome
 Does outside (Listing file) outcome = IsListed outside.store outside.out file outcome × IsSilent outside.err outcome
 Does outside (Assemble out file) outcome = IsAssembled outside.store out file outcome × IsSilent outside.err outcome
+Does outside (Help topic) outcome = IsShown outside.out (help_text topic) outcome × IsSilent outside.err outcome
+Does outside Version outcome = IsShown outside.out version_text outcome × IsSilent outside.err outcome
+Does outside (Explain word) outcome = IsFound outside.out (error_page word) cause.NoPage outcome × IsSilent outside.err outcome
+Does outside (Library name) outcome = IsLibrary outside.out name outcome × IsSilent outside.err outcome
 
 -- nothing was done, for this cause
 pub record DoesNothing (outside : Outside) (outcome : Outcome) (ends : Cause) : Type 0 where
@@ -208,6 +228,10 @@ abbrev pub ReadsNone : Option Line → Type 0
 ReadsNone None = ⊤
 ReadsNone (Some (Gen classes)) = ⊤
 ReadsNone (Some (Selftest classes)) = ⊤
+ReadsNone (Some (Help topic)) = ⊤
+ReadsNone (Some Version) = ⊤
+ReadsNone (Some (Explain word)) = ⊤
+ReadsNone (Some (Library name)) = ⊤
 ReadsNone _ = ⊥
 
 -- the command writes no file

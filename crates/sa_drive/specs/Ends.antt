@@ -47,6 +47,8 @@ ComesBeforeOutput (cause.Invalid func) = ⊤
 ComesBeforeOutput (cause.Unlinked import) = ⊤
 ComesBeforeOutput cause.Segment = ⊤
 ComesBeforeOutput (cause.NotListing line) = ⊤
+ComesBeforeOutput cause.NoPage = ⊤
+ComesBeforeOutput cause.NoLibraryFile = ⊤
 ComesBeforeOutput _ = ⊥
 
 -- the cause of an answer of a module that was run with this fuel

@@ -10,7 +10,8 @@ use Rattle.sa_tree.specs.Rules.{rule_text}
 use Rattle.sa_tree.specs.Faults.{fault_text}
 use Rattle.sa_drive.specs.declared.cause.Cause.{Cause}
 use Rattle.sa_drive.specs.declared.cause.Cause.TheVariants.{Done, Refused, Fault, Stopped, Spent, StoreFault, InFault, OutFault, Usage}
-use Rattle.sa_drive.specs.declared.cause.Cause.TheVariants.{Malformed, Invalid, Unlinked, Segment, Trap, TooDeep, NotListing, NoMemory}
+use Rattle.sa_drive.specs.declared.cause.Cause.TheVariants.{Malformed, Invalid, Unlinked, Segment, Trap, TooDeep, NotListing}
+use Rattle.sa_drive.specs.declared.cause.Cause.TheVariants.{NoPage, NoLibraryFile, NoMemory}
 
 -- the line of a place, from 1
 abbrev pub line_number : Sources → Pos → ℕ
@@ -50,6 +51,8 @@ line_of_cause sources file Segment = about_file file (codes "segment")
 line_of_cause sources file (Trap kind) = about_file file (codes "trap")
 line_of_cause sources file TooDeep = about_file file (codes "too deep")
 line_of_cause sources file (NotListing line) = listing_line file line
+line_of_cause sources file NoPage = codes "no page: explain takes a code, as E33, or the text of a line, as index or store fault\n"
+line_of_cause sources file NoLibraryFile = codes "no file: lib takes a name that sather lib lists\n"
 line_of_cause sources file NoMemory = codes "out of memory\n"
 
 -- the position is in one of these texts, whose lines can be counted

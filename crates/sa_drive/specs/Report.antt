@@ -37,13 +37,13 @@ EndsWith listening.Failed err outcome ends = (ends ≡ outcome.cause) × IsUntou
 EndsWith listening.NoMemory err outcome ends = (ends ≡ cause.NoMemory) × IsUntouched err
 
 -- behind the lines err took an explanation, or a front of it, where one is asked for, and nothing where none is
-abbrev pub Explains : Detail → (err : Part (List ℕ)) → Type 0
-Explains Brief err = IsUntouched err
-Explains Explained err = Grew err.before err.after
+abbrev pub TellsMore : Detail → (err : Part (List ℕ)) → Type 0
+TellsMore Brief err = IsUntouched err
+TellsMore Explained err = Grew err.before err.after
 
 -- by what the command asks for
 abbrev pub IsExplained : Option Line → (err : Part (List ℕ)) → Type 0
-IsExplained line err = Explains (detail_of line) err
+IsExplained line err = TellsMore (detail_of line) err
 
 -- the exit has the cause that stands, its status and the outcome's module
 pub record IsExitOf (outcome : Outcome) (err : Part (List ℕ)) (exit : Exit) : Type 0 where

@@ -2,7 +2,8 @@
 use Rattle.std.specs.Prelude.{ℕ}
 use Rattle.sa_drive.specs.declared.cause.Cause.{Cause}
 use Rattle.sa_drive.specs.declared.cause.Cause.TheVariants.{Done, Refused, Fault, Stopped, Spent, StoreFault, InFault, OutFault, Usage}
-use Rattle.sa_drive.specs.declared.cause.Cause.TheVariants.{Malformed, Invalid, Unlinked, Segment, Trap, TooDeep, NotListing, NoMemory}
+use Rattle.sa_drive.specs.declared.cause.Cause.TheVariants.{Malformed, Invalid, Unlinked, Segment, Trap, TooDeep, NotListing}
+use Rattle.sa_drive.specs.declared.cause.Cause.TheVariants.{NoPage, NoLibraryFile, NoMemory}
 
 abbrev pub status_of : Cause → ℕ
 status_of Done = 0
@@ -14,6 +15,8 @@ status_of StoreFault = 123
 status_of InFault = 123
 status_of OutFault = 123
 status_of Usage = 124
+status_of NoPage = 124
+status_of NoLibraryFile = 124
 status_of NoMemory = 125
 status_of Malformed = 126
 status_of (Invalid func) = 126

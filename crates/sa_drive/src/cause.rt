@@ -43,6 +43,10 @@ pub enum Cause {
     TooDeep,
     /// The text is no listing of a module, from the line with this number on.
     NotListing(u32),
+    /// The word that was to be explained has no page.
+    NoPage,
+    /// The library has no file of the name.
+    NoLibraryFile,
     /// Memory ran out.
     NoMemory,
 }
@@ -68,7 +72,7 @@ impl Cause {
             Cause::Fault(_, _) | Cause::Stopped(_, _) => 121,
             Cause::Spent(_) => 122,
             Cause::StoreFault | Cause::InFault | Cause::OutFault => 123,
-            Cause::Usage => 124,
+            Cause::Usage | Cause::NoPage | Cause::NoLibraryFile => 124,
             Cause::NoMemory => 125,
             Cause::Malformed
             | Cause::Invalid(_)

@@ -1,6 +1,6 @@
 //! What is told of a cause behind its lines, where the command asks for it.
 
-ghost use Rattle.sa_drive.specs.Report.{Explains};
+ghost use Rattle.sa_drive.specs.Report.{TellsMore};
 ghost use Rattle.sa_drive.specs.Seen.{part};
 
 use crate::cause::Cause;
@@ -22,7 +22,7 @@ pub fn tell_more<E: Sink>(
     cause: Cause,
     err: &mut E,
 )
-    ensures { Explains detail (part E.output E.faults err.old err.new) }
+    ensures { TellsMore detail (part E.output E.faults err.old err.new) }
 {
     match detail {
         Detail::Brief => {}
@@ -35,7 +35,7 @@ pub fn tell_more<E: Sink>(
 
 /// Puts on err what explains a cause of an outcome.
 fn put_explanation<E: Sink>(alloc: Global, outcome: &Outcome<'_>, cause: Cause, err: &mut E)
-    ensures { Explains Detail.Explained (part E.output E.faults err.old err.new) }
+    ensures { TellsMore Detail.Explained (part E.output E.faults err.old err.new) }
 {
     if let Ok(text) = explanation(alloc, outcome, cause) {
         let _answer = err.put(text.as_slice());

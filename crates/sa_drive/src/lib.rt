@@ -19,6 +19,7 @@ mod print;
 mod report;
 mod run;
 mod selftest;
+mod texts;
 mod told;
 mod top;
 

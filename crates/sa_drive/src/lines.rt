@@ -68,6 +68,14 @@ fn line(alloc: Global, sources: &Sources, file: &str, cause: &Cause) -> Result<V
         Cause::Trap(_) => about_file(alloc, file, "trap", ""),
         Cause::TooDeep => about_file(alloc, file, "too deep", ""),
         Cause::NotListing(line) => listing_line(alloc, file, *line),
+        Cause::NoPage => Vec::from_slice(
+            alloc,
+            b"no page: explain takes a code, as E33, or the text of a line, as index or store fault\n",
+        ),
+        Cause::NoLibraryFile => Vec::from_slice(
+            alloc,
+            b"no file: lib takes a name that sather lib lists\n",
+        ),
         Cause::NoMemory => Vec::from_slice(alloc, NO_MEMORY),
     }
 }

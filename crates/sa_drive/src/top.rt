@@ -26,6 +26,7 @@ use crate::print::print_generated;
 use crate::report::report;
 use crate::run::run;
 use crate::selftest::selftest;
+use crate::texts::{explain, help, library, version};
 use crate::told::run_told;
 use sa_outside::{Sink, Source, WriteFiles};
 use sa_words::{Command, Detail, Trace, WordsFault, command_of, detail_of};
@@ -165,6 +166,10 @@ fn do_command<'a, S: WriteFiles, I: Source, O: Sink, E: Sink>(
         Command::Selftest(classes) => selftest(alloc, classes, out),
         Command::Listing(line) => listing(alloc, &line, store, out),
         Command::Assemble(line) => assemble(alloc, &line, store),
+        Command::Help(topic) => help(alloc, topic, out),
+        Command::Version => version(alloc, out),
+        Command::Explain(word) => explain(alloc, word, out),
+        Command::Library(name) => library(alloc, name, out),
     }
 }
 

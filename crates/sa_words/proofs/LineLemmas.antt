@@ -11,7 +11,7 @@ use Rattle.clap.specs.declared.parser.matches.SubCommand.{SubCommand}
 use Rattle.clap.specs.declared.parser.matches.ArgMatches.TheViews.{out-ArgMatches, out-SubCommand}
 use Rattle.clap.specs.Faults.{fault_of}
 use Rattle.sa_words.specs.Program.{program}
-use Rattle.sa_words.specs.Line.{Line, are_taken, line_in, line_of, named_line}
+use Rattle.sa_words.specs.Line.{Line, are_taken, line_of, named_line, plain_line_in}
 use Rattle.sa_words.specs.declared.command.Command.{Command}
 use Rattle.sa_words.specs.declared.fault.WordsFault.{WordsFault}
 
@@ -28,7 +28,7 @@ pub taken : (words : List Text) → length words ≤ 65535 → fault_of program 
 taken words few free = rw free (grind (arith, nat_tests, few))
 
 -- the line of words that are taken, by the subcommand that they name
-pub line_named : (words : List Text) (name : Text) (rows : List Row) → are_taken words ≡ true → subcommand_of program words ≡ Some (name, rows) → line_in words ≡ named_line name rows
+pub line_named : (words : List Text) (name : Text) (rows : List Row) → are_taken words ≡ true → subcommand_of program words ≡ Some (name, rows) → plain_line_in words ≡ named_line name rows
 line_named words name rows all found = rw (all, found) refl
 
 -- a command that is found gives the line

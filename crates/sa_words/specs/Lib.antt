@@ -1,3 +1,4 @@
+pub mod Help
 pub mod Line
 pub mod Numbers
 pub mod Program

@@ -1,6 +1,7 @@
 -- Which command a line of words is.
-use Rattle.std.specs.Prelude.{◌^◌, ◌-◌, ◌&&◌, ℕ, Bool, false, List, [], Option, None, Some, codes}
+use Rattle.std.specs.Prelude.{◌^◌, ◌-◌, ◌&&◌, ℕ, Bool, false, List, [], ◌∷◌, Option, None, Some, codes}
 use Rattle.std.specs.Prelude.{length, map, if◌then◌else◌, nat_le, option_map, option_and_then, unwrap_or}
+use Rattle.std.specs.List.{list_any}
 use Rattle.std.specs.Option.{option_map_or}
 use Rattle.std.specs.Str.{bytes_eq}
 use Rattle.clap.specs.Words.{Row, Text, all_of, first_of, subcommand_of}
@@ -14,6 +15,9 @@ use Rattle.sa_words.specs.declared.command.Contracts.{Contracts}
 use Rattle.sa_words.specs.declared.command.Contracts.TheVariants.{Dropped, Checked}
 use Rattle.sa_words.specs.declared.command.Detail.{Detail}
 use Rattle.sa_words.specs.declared.command.Detail.TheVariants.{Brief, Explained}
+use Rattle.sa_words.specs.Help.{asked_topic, asks_help, asks_version, topic_named}
+use Rattle.sa_words.specs.declared.command.Topic.{Topic}
+use Rattle.sa_words.specs.declared.command.Topic.TheVariants as topic
 use Rattle.sa_words.specs.declared.command.Trace.{Trace}
 use Rattle.sa_words.specs.declared.command.Trace.TheVariants.{Silent, Told}
 
@@ -27,6 +31,10 @@ pub data Line : Type 0 where
   Selftest : (classes : ℕ) → Line
   Listing : (file : Text) → Line
   Assemble : (out : Text) → (file : Text) → Line
+  Help : Topic → Line
+  Version : Line
+  Explain : (word : Text) → Line
+  Library : (name : Option Text) → Line
 
 -- what a command says
 abbrev pub line_of : Command → Line
@@ -38,6 +46,10 @@ line_of (command.Gen classes) = Gen classes
 line_of (command.Selftest classes) = Selftest classes
 line_of (command.Listing listing) = Listing listing.«module».now
 line_of (command.Assemble assemble) = Assemble assemble.out.now assemble.file.now
+line_of (command.Help topic) = Help topic
+line_of command.Version = Version
+line_of (command.Explain word) = Explain word.now
+line_of (command.Library name) = Library (option_map (λ text. text.now) name)
 
 -- how much a command asks to be told of the cause of its end
 abbrev pub detail_of : Option Line → Detail
@@ -80,10 +92,15 @@ run_in rows =
     (λ fuel. option_map (λ room. Run fuel room (stats_in rows) (contracts_in rows) (trace_in rows) (detail_in rows) (files_in rows)) (room_in rows))
     (fuel_in rows)
 
+-- the file that is written, which is none of those that are read
+abbrev pub out_in : (read : List Text) → List Row → Option Text
+out_in read rows =
+    option_and_then (λ out. if list_any (bytes_eq out) read then None else Some out) (first_of (codes "out") rows)
+
 abbrev pub build_in : List Row → Option Line
 build_in rows =
     option_and_then
-    (λ room. option_map (λ out. Build room (contracts_in rows) (detail_in rows) out (files_in rows)) (first_of (codes "out") rows)) (room_in rows)
+    (λ room. option_map (λ out. Build room (contracts_in rows) (detail_in rows) out (files_in rows)) (out_in (files_in rows) rows)) (room_in rows)
 
 abbrev pub check_in : List Row → Line
 check_in rows = Check (contracts_in rows) (detail_in rows) (files_in rows)
@@ -100,7 +117,25 @@ listing_in rows = option_map Listing (first_of (codes "module") rows)
 
 abbrev pub assemble_in : List Row → Option Line
 assemble_in rows =
-    option_and_then (λ out. option_map (λ file. Assemble out file) (first_of (codes "file") rows)) (first_of (codes "out") rows)
+    option_and_then (λ file. option_map (λ out. Assemble out file) (out_in (file ∷ []) rows)) (first_of (codes "file") rows)
+
+-- what help is about: a command, or all of them where none is named
+abbrev pub help_in : List Row → Option Line
+help_in rows = option_map_or (λ name. option_map Help (topic_named name)) (first_of (codes "command") rows) (Some (Help topic.All))
+
+abbrev pub explain_in : List Row → Option Line
+explain_in rows = option_map Explain (first_of (codes "word") rows)
+
+abbrev pub library_in : List Row → Line
+library_in rows = Library (first_of (codes "name") rows)
+
+-- the command of this name with these matches, where it is one that prints a text
+abbrev pub telling_line : Text → List Row → Option Line
+telling_line name rows =
+    if bytes_eq name (codes "help") then help_in rows
+    else (if bytes_eq name (codes "version") then Some Version
+    else (if bytes_eq name (codes "explain") then explain_in rows
+    else (if bytes_eq name (codes "lib") then Some (library_in rows) else None)))
 
 -- the command of this name with these matches
 abbrev pub named_line : Text → List Row → Option Line
@@ -112,13 +147,19 @@ named_line name rows =
     else (if bytes_eq name (codes "gen") then option_map Gen (classes_in rows)
     else (if bytes_eq name (codes "selftest") then option_map Selftest (classes_in rows)
     else (if bytes_eq name (codes "listing") then listing_in rows
-    else (if bytes_eq name (codes "assemble") then assemble_in rows else None)))))))
+    else (if bytes_eq name (codes "assemble") then assemble_in rows else telling_line name rows)))))))
 
 -- there are at most 65,535 words, and `clap` finds no fault in them
 abbrev pub are_taken : List Text → Bool
 are_taken words = nat_le (length words) 65535 && is_empty (fault_of program words)
 
--- the command that the words are
+-- the command that `clap` reads the words as
+abbrev pub plain_line_in : List Text → Option Line
+plain_line_in words =
+    if are_taken words then option_and_then (λ found. named_line found.0 found.1) (subcommand_of program words) else None
+
+-- the command that the words are: words that ask for help or for the version by an option, and else a command by `clap`
 abbrev pub line_in : List Text → Option Line
 line_in words =
-    if are_taken words then option_and_then (λ found. named_line found.0 found.1) (subcommand_of program words) else None
+    if asks_help words then option_map Help (asked_topic words)
+    else (if asks_version words then Some Version else plain_line_in words)

@@ -27,6 +27,18 @@ module_file = record (new_rule (codes "module")) { required = true }
 abbrev pub listing_file : Rule
 listing_file = record (new_rule (codes "file")) { required = true }
 
+-- the command that help is about
+abbrev pub topic : Rule
+topic = new_rule (codes "command")
+
+-- the word that is explained
+abbrev pub word : Rule
+word = record (new_rule (codes "word")) { required = true }
+
+-- the name of a file of the library
+abbrev pub library_name : Rule
+library_name = new_rule (codes "name")
+
 -- how many classes a generated program has
 abbrev pub classes : Rule
 classes = record (new_rule (codes "classes")) { required = true }
@@ -67,7 +79,19 @@ listing = with_rule (new_app (codes "listing")) module_file
 abbrev pub assemble : App
 assemble = with_rule (with_rule (new_app (codes "assemble")) out) listing_file
 
--- a command without arguments of its own: a subcommand is needed, and `help` is none
+abbrev pub help : App
+help = with_rule (new_app (codes "help")) topic
+
+abbrev pub version : App
+version = new_app (codes "version")
+
+abbrev pub explain : App
+explain = with_rule (new_app (codes "explain")) word
+
+abbrev pub library : App
+library = with_rule (new_app (codes "lib")) library_name
+
+-- a command without arguments of its own: a subcommand is needed, and `clap` has no `help` of its own
 abbrev pub sather : App
 sather =
     let plain = new_app (codes "sather") in
@@ -79,8 +103,15 @@ sather =
       };
     }
 
-abbrev pub program : App
-program =
+-- the commands that do something with programs and modules
+abbrev pub working : App
+working =
     let compiling = with_subcommand (with_subcommand (with_subcommand sather run.top) build.top) check.top in
     let running = with_subcommand (with_subcommand (with_subcommand compiling exec.top) gen.top) selftest.top in
     with_subcommand (with_subcommand running listing.top) assemble.top
+
+-- these commands, and those that print a text
+abbrev pub program : App
+program =
+    let helping = with_subcommand (with_subcommand working help.top) version.top in
+    with_subcommand (with_subcommand helping explain.top) library.top

@@ -13,6 +13,32 @@ pub enum Command<'a> {
     Selftest(u32),
     Listing(Listing<'a>),
     Assemble(Assemble<'a>),
+    /// The help on this topic is asked for.
+    Help(Topic),
+    /// The version is asked for.
+    Version,
+    /// The page that explains this word is asked for.
+    Explain(&'a str),
+    /// The file of the library with this name is asked for, or without a name the list of its files.
+    Library(Option<&'a str>),
+}
+
+/// What help is about: all commands, or the one of this name.
+#[derive(Clone, Copy, Debug, PartialEq, Eq, Hash)]
+pub enum Topic {
+    All,
+    Run,
+    Build,
+    Check,
+    Exec,
+    Gen,
+    Selftest,
+    Listing,
+    Assemble,
+    Help,
+    Version,
+    Explain,
+    Library,
 }
 
 /// What is done with the contracts of a program.

@@ -1,18 +1,20 @@
 //! The words of a command line: which command they are, with its numbers and names.
 //!
-//! `clap` reads the words, by the description in `program.rt`; the numbers are read here, since they are decimal digits
-//! alone and have limits of their own.
+//! `clap` reads the words, by the description in `program.rt`, unless they ask for help or for the version by an option. The numbers
+//! are read here, since they are decimal digits alone and have limits of their own.
 #![tactic(auto)]
 
 mod command;
 mod detail;
 mod fault;
+mod help;
 mod number;
 mod program;
 mod read;
 mod subcommand;
+mod telling;
 
-pub use command::{Assemble, Build, Check, Command, Contracts, Detail, Exec, Listing, Run, Trace};
+pub use command::{Assemble, Build, Check, Command, Contracts, Detail, Exec, Listing, Run, Topic, Trace};
 pub use detail::detail_of;
 pub use fault::WordsFault;
 pub use read::command_of;

@@ -58,6 +58,30 @@ fn listing_file<'a>(alloc: Global) -> Arg<'a>
     Arg::new(alloc, "file").required(true)
 }
 
+/// The command that help is about.
+fn topic<'a>(alloc: Global) -> Arg<'a>
+    ensures rule { rule_of result ≡ line.topic }
+    ensures own { result.global ≡ false }
+{
+    Arg::new(alloc, "command")
+}
+
+/// The word that is explained.
+fn word<'a>(alloc: Global) -> Arg<'a>
+    ensures rule { rule_of result ≡ line.word }
+    ensures own { result.global ≡ false }
+{
+    Arg::new(alloc, "word").required(true)
+}
+
+/// The name of a file of the library.
+fn library_name<'a>(alloc: Global) -> Arg<'a>
+    ensures rule { rule_of result ≡ line.library_name }
+    ensures own { result.global ≡ false }
+{
+    Arg::new(alloc, "name")
+}
+
 /// How many classes a generated program has.
 fn classes<'a>(alloc: Global) -> Arg<'a>
     ensures rule { rule_of result ≡ line.classes }
@@ -158,6 +182,35 @@ fn assemble<'a>(alloc: Global) -> Result<Command<'a>, AllocError>
         .arg(listing_file(alloc))
 }
 
+/// `help [COMMAND]`
+fn help<'a>(alloc: Global) -> Result<Command<'a>, AllocError>
+    ensures { IfOk result (λ c. (app_of c ≡ line.help) × ((out-Command c).has_globals ≡ false)) }
+{
+    Command::new(alloc, "help").arg(topic(alloc))
+}
+
+/// `version`
+fn version<'a>(alloc: Global) -> Command<'a>
+    ensures app { app_of result ≡ line.version }
+    ensures own { (out-Command result).has_globals ≡ false }
+{
+    Command::new(alloc, "version")
+}
+
+/// `explain WORD`
+fn explain<'a>(alloc: Global) -> Result<Command<'a>, AllocError>
+    ensures { IfOk result (λ c. (app_of c ≡ line.explain) × ((out-Command c).has_globals ≡ false)) }
+{
+    Command::new(alloc, "explain").arg(word(alloc))
+}
+
+/// `lib [NAME]`
+fn library<'a>(alloc: Global) -> Result<Command<'a>, AllocError>
+    ensures { IfOk result (λ c. (app_of c ≡ line.library) × ((out-Command c).has_globals ≡ false)) }
+{
+    Command::new(alloc, "lib").arg(library_name(alloc))
+}
+
 /// A command of the program's name without arguments of its own, of which a subcommand is needed.
 fn sather<'a>(alloc: Global) -> Command<'a>
     ensures app { app_of result ≡ line.sather }
@@ -169,9 +222,9 @@ fn sather<'a>(alloc: Global) -> Command<'a>
         .subcommand_required(true)
 }
 
-/// The program's command line.
-pub(crate) fn program<'a>(alloc: Global) -> Result<Command<'a>, AllocError>
-    ensures { IfOk result (λ c. app_of c ≡ line.program) }
+/// The commands that do something with programs and modules.
+fn working<'a>(alloc: Global) -> Result<Command<'a>, AllocError>
+    ensures { IfOk result (λ c. app_of c ≡ line.working) }
 {
     sather(alloc)
         .subcommand(run(alloc)?)?
@@ -182,4 +235,15 @@ pub(crate) fn program<'a>(alloc: Global) -> Result<Command<'a>, AllocError>
         .subcommand(selftest(alloc)?)?
         .subcommand(listing(alloc)?)?
         .subcommand(assemble(alloc)?)
+}
+
+/// The program's command line: these commands, and those that print a text.
+pub(crate) fn program<'a>(alloc: Global) -> Result<Command<'a>, AllocError>
+    ensures { IfOk result (λ c. app_of c ≡ line.program) }
+{
+    working(alloc)?
+        .subcommand(help(alloc)?)?
+        .subcommand(version(alloc))?
+        .subcommand(explain(alloc)?)?
+        .subcommand(library(alloc)?)
 }

@@ -3,11 +3,12 @@
 ghost use Rattle.std.specs.Prelude.{◌≡◌, ◌≢◌, [], None, Some, IfOk, IsErrOf, map, string_bytes};
 ghost use Rattle.clap.specs.Words.{subcommand_of, subcommand_rows_of};
 ghost use Rattle.clap.specs.Faults.{fault_of};
-ghost use Rattle.sa_words.specs.Line.{line_in, line_of};
+ghost use Rattle.sa_words.specs.Line.{line_in, line_of, plain_line_in};
 ghost use Rattle.sa_words.specs.Program as line;
 
 use crate::command::Command;
 use crate::fault::WordsFault;
+use crate::help::{asked_topic, asks_help, asks_version};
 use crate::program::program;
 use crate::subcommand::named;
 use clap::ArgMatches;
@@ -21,11 +22,26 @@ const MOST_WORDS: usize = 65_535;
 ///
 /// # Errors
 ///
-/// `Usage` where they are no command: more than 65,535 words, words that `clap` finds a fault in, or a number out of its
-/// range; and `NoMemory`.
+/// `Usage` where they are no command: help is asked for of none, or there are more than 65,535 words, or words that `clap` finds a
+/// fault in, or a number is out of its range, or the file that is written is one that is read; and `NoMemory`.
 pub fn command_of<'a>(alloc: Global, words: &'a [String]) -> Result<Command<'a>, WordsFault>
     ensures taken { IfOk result (λ command. line_in (map string_bytes words.now) ≡ Some (line_of command)) }
     ensures usage { IsErrOf result WordsFault.Usage → line_in (map string_bytes words.now) ≡ None }
+{
+    if asks_help(words) {
+        let topic = asked_topic(words).ok_or(WordsFault::Usage)?;
+        return Ok(Command::Help(topic));
+    }
+    if asks_version(words) {
+        return Ok(Command::Version);
+    }
+    plain_command_of(alloc, words)
+}
+
+/// What the words ask for, as `clap` reads them.
+fn plain_command_of<'a>(alloc: Global, words: &'a [String]) -> Result<Command<'a>, WordsFault>
+    ensures taken { IfOk result (λ command. plain_line_in (map string_bytes words.now) ≡ Some (line_of command)) }
+    ensures usage { IsErrOf result WordsFault.Usage → plain_line_in (map string_bytes words.now) ≡ None }
 {
     if words.len() > MOST_WORDS {
         return Err(WordsFault::Usage);
@@ -49,7 +65,7 @@ fn matches<'a>(alloc: Global, words: &'a [String]) -> Result<ArgMatches<'a>, Wor
     }
 }
 
-/// The fault that an error of `clap` stands for. `--help` is none of the commands, and so the usage too.
+/// The fault that an error of `clap` stands for. What it takes for a request of help, as `-hx`, is the usage too.
 fn fault(kind: ErrorKind) -> WordsFault
     ensures { result ≡ WordsFault.Usage → kind ≢ ErrorKind.OutOfMemory }
 {

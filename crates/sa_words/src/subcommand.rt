@@ -3,10 +3,11 @@
 ghost use Rattle.std.specs.Prelude.{◌≡◌, IfOk, Some, map, option_map};
 ghost use Rattle.clap.specs.Words.{all_of, first_of, found_of, rows_of};
 ghost use Rattle.sa_words.specs.Line.{assemble_in, build_in, check_in, classes_in, contracts_in, detail_in, exec_in, files_in, fuel_in};
-ghost use Rattle.sa_words.specs.Line.{is_given, line_of, listing_in, named_line, room_in, run_in, stats_in, trace_in, Gen, Selftest};
+ghost use Rattle.sa_words.specs.Line.{is_given, line_of, listing_in, named_line, out_in, room_in, run_in, stats_in, trace_in, Gen, Selftest};
 
 use crate::command::{Assemble, Build, Check, Command, Contracts, Detail, Exec, Listing, Run, Trace};
 use crate::number::{number_in, number_or};
+use crate::telling::telling;
 use clap::ArgMatches;
 use std::alloc::{AllocError, Global};
 
@@ -24,7 +25,7 @@ const MOST_ROOM: u64 = 1_048_576;
 const MOST_CLASSES: u64 = 500;
 
 /// The value of the argument with this name, or its first one.
-fn value<'a>(matches: &ArgMatches<'a>, name: &str) -> Option<&'a str>
+pub(crate) fn value<'a>(matches: &ArgMatches<'a>, name: &str) -> Option<&'a str>
     ensures { option_map (λ text. text.now) result ≡ first_of name.now (rows_of (found_of matches.now)) }
 {
     matches.get_str(name)
@@ -132,11 +133,20 @@ fn run<'a>(alloc: Global, matches: &ArgMatches<'a>) -> Result<Option<Command<'a>
     })))
 }
 
+/// The name of the file that is written, if it is none of those that are read.
+fn out<'a>(matches: &ArgMatches<'a>, read: &[&str]) -> Option<&'a str>
+    ensures { option_map (λ out. out.now) result ≡ out_in (map (λ file. file.now) read.now) (rows_of (found_of matches.now)) }
+{
+    let out = value(matches, "out")?;
+    let is_read = read.iter().any(|file| out == *file);
+    (!is_read).then_some(out)
+}
+
 fn build<'a>(alloc: Global, matches: &ArgMatches<'a>) -> Result<Option<Command<'a>>, AllocError>
     ensures { IfOk result (λ command. option_map line_of command ≡ build_in (rows_of (found_of matches.now))) }
 {
     let files = files(alloc, matches)?;
-    let (Some(room), Some(out)) = (room(matches), value(matches, "out")) else {
+    let (Some(room), Some(out)) = (room(matches), out(matches, files.as_slice())) else {
         return Ok(None);
     };
     Ok(Some(Command::Build(Build {
@@ -202,12 +212,12 @@ fn listing<'a>(matches: &ArgMatches<'a>) -> Option<Command<'a>>
 fn assemble<'a>(matches: &ArgMatches<'a>) -> Option<Command<'a>>
     ensures { option_map line_of result ≡ assemble_in (rows_of (found_of matches.now)) }
 {
-    let out = value(matches, "out")?;
     let file = value(matches, "file")?;
+    let out = out(matches, &[file])?;
     Some(Command::Assemble(Assemble { out, file }))
 }
 
-/// The command of this name with these matches, or none where a number is out of its range.
+/// The command of this name with these matches, or none where they give none.
 pub(crate) fn named<'a>(
     alloc: Global,
     name: &str,
@@ -224,6 +234,6 @@ pub(crate) fn named<'a>(
         "selftest" => Ok(selftest(matches)),
         "listing" => Ok(listing(matches)),
         "assemble" => Ok(assemble(matches)),
-        _ => Ok(None),
+        _ => Ok(telling(name, matches)),
     }
 }

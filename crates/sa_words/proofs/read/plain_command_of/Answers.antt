@@ -2,7 +2,7 @@ use Rattle.std.proofs.Common.{◌∙◌, sym, arith}
 use Rattle.std.specs.Prelude.{string_bytes}
 use Rattle.std.proofs.lemmas.List.{length-map}
 use Rattle.sa_words.proofs.LineLemmas.{line_found, line_named, named_rows, taken}
-use Rattle.sa_words.proofs.read.command_of.Goals as goal
+use Rattle.sa_words.proofs.read.plain_command_of.Goals as goal
 
 pub returns-clause-taken : goal.returns-clause-taken
 returns-clause-taken c =
