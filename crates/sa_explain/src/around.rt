@@ -152,7 +152,8 @@ fn missing_semicolon(
     if place == Inside::Class && !is_between_features(tokens, at) {
         return Ok(());
     }
-    if let Some(word) = open_condition(tokens, at) {
+    let is_behind = tokens.has_line_feed(before, at) || !tokens.is_feature_name(at);
+    if is_behind && let Some(word) = open_condition(tokens, at) {
         said.say(&[
             Part::Words("The condition behind "),
             Part::Code(tokens.bytes(word)),
@@ -284,7 +285,11 @@ fn mark_open(scene: Scene<'_>, open: Open, said: &mut Said) {
 /// Where the `end` may be missing: at an `else if`, or before one that stands elsewhere than what it closes.
 fn where_to_end(scene: Scene<'_>, opened: &Opened, said: &mut Said) -> Result<(), AllocError> {
     let tokens = scene.tokens;
-    if let Some(place) = last_else_if(tokens, scene.feature, scene.at) {
+    let from = match opened.crooked {
+        Some(closed) => closed.open.at,
+        None => scene.feature,
+    };
+    if let Some(place) = last_else_if(tokens, from, scene.at) {
         said.mark = Span {
             start: tokens.start(place.saturating_sub(1)),
             end: tokens.end(place),

@@ -2,29 +2,36 @@
 
 use crate::said::{Part, Said, Span};
 use crate::scene::Scene;
-use sa_lex::{Sign, TokenKind};
+use sa_lex::{Sign, TokenKind, Word};
 use std::alloc::AllocError;
 
 /// Signs of other languages that are two signs here: `==`, `+=`, `++`, `<>`, `//`.
 pub(crate) fn doubled(scene: Scene<'_>, said: &mut Said) -> Result<(), AllocError> {
-    let tokens = scene.tokens;
-    let Some(before) = scene.at.checked_sub(1) else {
-        return Ok(());
-    };
-    if tokens.end(before) != tokens.start(scene.at) {
-        return Ok(());
+    two_signs(scene, scene.at.saturating_sub(1), said)?;
+    if said.is_silent() {
+        two_signs(scene, scene.at, said)?;
     }
+    Ok(())
+}
+
+/// The sign at a token and the one directly behind it.
+fn two_signs(scene: Scene<'_>, at: usize, said: &mut Said) -> Result<(), AllocError> {
+    let tokens = scene.tokens;
+    let next = at.saturating_add(1);
     let (Some(TokenKind::Sign(one)), Some(TokenKind::Sign(other))) =
-        (tokens.kind(before), tokens.kind(scene.at))
+        (tokens.kind(at), tokens.kind(next))
     else {
         return Ok(());
     };
+    if tokens.end(at) != tokens.start(next) {
+        return Ok(());
+    }
     let Some(words) = of_two_signs(*one, *other) else {
         return Ok(());
     };
     said.mark = Span {
-        start: tokens.start(before),
-        end: tokens.end(scene.at),
+        start: tokens.start(at),
+        end: tokens.end(next),
     };
     said.say_words(words.wrong)?;
     said.say_words(words.remedy)
@@ -70,7 +77,7 @@ fn of_two_signs(one: Sign, other: Sign) -> Option<Elsewhere> {
 pub(crate) fn foreign(scene: Scene<'_>, said: &mut Said) -> Result<(), AllocError> {
     let tokens = scene.tokens;
     let before = tokens.bytes_back(scene.at, 1);
-    if tokens.is_class_name(scene.at.saturating_sub(1)) && tokens.is_lower(scene.at) {
+    if is_type_first(scene) {
         said.say_words("A declaration has the name first, then `:` and the type.")?;
         return said.say(&[
             Part::Words("Write `"),
@@ -84,9 +91,8 @@ pub(crate) fn foreign(scene: Scene<'_>, said: &mut Said) -> Result<(), AllocErro
         return Ok(());
     };
     said.say(&[
-        Part::Words("There is no statement "),
         Part::Code(before),
-        Part::Words(" here."),
+        Part::Words(" is no word of this language."),
     ])?;
     said.say_words(remedy)
 }
@@ -103,6 +109,23 @@ fn statement_here(word: &[u8]) -> Option<&'static str> {
         b"try" => "Write `protect .. when FAULT then .. end;`.",
         b"throw" => "Write `raise x;`.",
         b"print" | b"println" | b"printf" | b"puts" => "Write `#OUT + x;`.",
+        b"elseif" | b"elif" | b"elsewhen" => "Write `elsif`.",
+        b"otherwise" | b"default" => "Write `else`.",
+        b"not" => "Write `~` for \"not\".",
+        b"import" | b"using" => "Name the files of a program one after the other in the command.",
         _ => return None,
     })
+}
+
+/// Whether a statement begins by a type and a name in one line, as a declaration does elsewhere.
+fn is_type_first(scene: Scene<'_>) -> bool {
+    let tokens = scene.tokens;
+    let ty = scene.at.saturating_sub(1);
+    tokens.is_class_name(ty)
+        && tokens.is_lower(scene.at)
+        && !tokens.has_line_feed(ty, scene.at)
+        && (tokens.is_sign_back(ty, 1, Sign::Semicolon)
+            || tokens.is_word_back(ty, 1, Word::Is)
+            || tokens.is_word_back(ty, 1, Word::Loop)
+            || tokens.is_word_back(ty, 1, Word::Then))
 }

@@ -14,6 +14,9 @@ pub(crate) fn unexpected(scene: Scene<'_>, said: &mut Said) -> Result<(), NoMemo
     let opened = opened_before(scene.alloc, scene.tokens, scene.at)?;
     near_by(scene, said)?;
     if said.is_silent() {
+        foreign(scene, said)?;
+    }
+    if said.is_silent() {
         open_around(scene, &opened, said)?;
     }
     if said.is_silent() {
@@ -138,10 +141,6 @@ fn beside(scene: Scene<'_>, said: &mut Said) -> Result<(), AllocError> {
             Part::Words(" begins none."),
         ])?;
         return said.say_words("Write `class NAME is .. end;` around what stands here.");
-    }
-    foreign(scene, said)?;
-    if !said.is_silent() {
-        return Ok(());
     }
     said.say(&[
         Part::Code(scene.name()),

@@ -117,13 +117,20 @@ fn between(
 
 /// A condition that is no BOOL.
 fn condition(scene: Scene<'_>, of: &str, said: &mut Said) -> Result<(), AllocError> {
-    let value = scene.at.saturating_add(1);
+    let next = scene.at.saturating_add(1);
+    let value = if scene.tokens.is_sign(next, Sign::LeftParen) {
+        next.saturating_add(1)
+    } else {
+        next
+    };
     said.say(&[
-        Part::Words("The condition of "),
+        Part::Words("Each condition of "),
         Part::Words(of),
-        Part::Words(" is a BOOL, and the one that stands here isn't."),
+        Part::Words(" is a BOOL, and one that stands here isn't."),
     ])?;
-    if let Some(found) = value_at(scene, value) {
+    if let Some(found) = value_at(scene, value)
+        && found.class != b"BOOL".as_slice()
+    {
         said.say(&[
             Part::Code(scene.tokens.bytes(value)),
             Part::Words(" is of type "),
