@@ -8,7 +8,11 @@ use sa_lex::{Sign, TokenKind, Word};
 use std::alloc::AllocError;
 
 /// What the parts tell that are open around the token.
-pub(crate) fn open_around(scene: Scene<'_>, opened: &Opened, said: &mut Said) -> Result<(), AllocError> {
+pub(crate) fn open_around(
+    scene: Scene<'_>,
+    opened: &Opened,
+    said: &mut Said,
+) -> Result<(), AllocError> {
     let tokens = scene.tokens;
     let Some(open) = opened.innermost() else {
         return outside_classes(scene, opened.closed, said);
@@ -16,7 +20,11 @@ pub(crate) fn open_around(scene: Scene<'_>, opened: &Opened, said: &mut Said) ->
     if is_opening(tokens.kind(open.at)) {
         return in_bracket(scene, open, said);
     }
-    let place = if opened.list.len() > 1 { Inside::Body } else { Inside::Class };
+    let place = if opened.list.len() > 1 {
+        Inside::Body
+    } else {
+        Inside::Class
+    };
     missing_semicolon(scene, place, said)?;
     if said.is_silent() && place == Inside::Class {
         bare_attribute(scene, said)?;
@@ -89,9 +97,7 @@ fn outside_classes(
 fn begins_class(tokens: Tokens<'_>, at: usize) -> bool {
     matches!(
         tokens.kind(at),
-        Some(TokenKind::Word(
-            Word::Class | Word::Abstract | Word::Immutable | Word::Partial
-        ))
+        Some(TokenKind::Word(Word::Class | Word::Abstract | Word::Immutable | Word::Partial))
     ) && tokens.is_word_back(at, 1, Word::End)
 }
 
@@ -101,7 +107,10 @@ fn in_bracket(scene: Scene<'_>, open: Open, said: &mut Said) -> Result<(), Alloc
     let leaves = match tokens.kind(scene.at) {
         None => true,
         Some(TokenKind::Word(_)) => true,
-        Some(TokenKind::Sign(sign)) => matches!(sign, Sign::Semicolon | Sign::Assign | Sign::Declare),
+        Some(TokenKind::Sign(sign)) => matches!(
+            sign,
+            Sign::Semicolon | Sign::Assign | Sign::Declare
+        ),
         Some(_) => false,
     };
     if !leaves && !is_closing(tokens.kind(scene.at)) {
@@ -136,11 +145,7 @@ enum Inside {
 }
 
 /// A statement or a feature that begins behind one that hasn't ended.
-fn missing_semicolon(
-    scene: Scene<'_>,
-    place: Inside,
-    said: &mut Said,
-) -> Result<(), AllocError> {
+fn missing_semicolon(scene: Scene<'_>, place: Inside, said: &mut Said) -> Result<(), AllocError> {
     let tokens = scene.tokens;
     let at = scene.at;
     let Some(before) = at.checked_sub(1) else {
@@ -187,11 +192,7 @@ fn is_between_features(tokens: Tokens<'_>, at: usize) -> bool {
             && (tokens.is_word(next, Word::Is) || tokens.is_sign(next, Sign::Colon)))
 }
 
-fn semicolon_behind(
-    tokens: Tokens<'_>,
-    before: usize,
-    said: &mut Said,
-) -> Result<(), AllocError> {
+fn semicolon_behind(tokens: Tokens<'_>, before: usize, said: &mut Said) -> Result<(), AllocError> {
     said.mark = Span {
         start: tokens.end(before).saturating_sub(1),
         end: tokens.end(before),
@@ -214,20 +215,22 @@ fn open_condition(tokens: Tokens<'_>, before: usize) -> Option<usize> {
         let at = before - 1 - back;
         match tokens.kind(at) {
             Some(TokenKind::Word(Word::If | Word::Elsif | Word::When)) => return Some(at),
-            Some(TokenKind::Word(
-                Word::Then
-                | Word::Else
-                | Word::Is
-                | Word::Loop
-                | Word::End
-                | Word::Protect
-                | Word::Return
-                | Word::Yield
-                | Word::Raise
-                | Word::Assert
-                | Word::Case
-                | Word::Typecase,
-            )) => return None,
+            Some(
+                TokenKind::Word(
+                    Word::Then
+                    | Word::Else
+                    | Word::Is
+                    | Word::Loop
+                    | Word::End
+                    | Word::Protect
+                    | Word::Return
+                    | Word::Yield
+                    | Word::Raise
+                    | Word::Assert
+                    | Word::Case
+                    | Word::Typecase,
+                ),
+            ) => return None,
             Some(TokenKind::Sign(Sign::Semicolon | Sign::Assign | Sign::Declare)) => return None,
             _ => {}
         }
@@ -378,4 +381,3 @@ fn stray_word(scene: Scene<'_>, open: Open, said: &mut Said) -> Result<(), Alloc
     ])?;
     said.say_words("Look for an `end` too many or too few before it.")
 }
-

@@ -18,7 +18,9 @@ pub(crate) fn call_without_fit(scene: Scene<'_>, said: &mut Said) -> Result<(), 
         Some(TokenKind::Sign(sign)) => comparison_or_operator(scene, *sign, said)?,
         Some(TokenKind::Lower | TokenKind::IterName) => feature_without_fit(scene, said)?,
         Some(TokenKind::Word(Word::New)) => {
-            said.say_words("`new` takes the number of elements just where the class has an array part, by an include of AREF or ARRAY.")?;
+            said.say_words(
+                "`new` takes the number of elements just where the class has an array part, by an include of AREF or ARRAY.",
+            )?;
             said.say_words("Write `new(n)` there, and `new` elsewhere.")?;
         }
         _ => {}
@@ -27,11 +29,7 @@ pub(crate) fn call_without_fit(scene: Scene<'_>, said: &mut Said) -> Result<(), 
 }
 
 /// An operator, or `=` in place of `:=`.
-fn comparison_or_operator(
-    scene: Scene<'_>,
-    sign: Sign,
-    said: &mut Said,
-) -> Result<(), AllocError> {
+fn comparison_or_operator(scene: Scene<'_>, sign: Sign, said: &mut Said) -> Result<(), AllocError> {
     if sign == Sign::Equal && stands_alone(scene.tokens, scene.at) {
         said.say_words("`=` compares two values, and a statement doesn't take what it gives.")?;
         return said.say_words("To assign write `:=`.");
@@ -66,9 +64,7 @@ fn begins_list(kind: Option<&TokenKind>) -> bool {
         kind,
         Some(
             TokenKind::Sign(Sign::Semicolon)
-                | TokenKind::Word(
-                    Word::Is | Word::Loop | Word::Then | Word::Else | Word::Protect
-                )
+                | TokenKind::Word(Word::Is | Word::Loop | Word::Then | Word::Else | Word::Protect)
         )
     )
 }
@@ -110,7 +106,9 @@ fn assignment_without_fit(scene: Scene<'_>, said: &mut Said) -> Result<(), Alloc
         said.say(&[
             Part::Words("An assignment to "),
             Part::Code(name),
-            Part::Words(" calls a routine of this name with the value, and none takes one argument."),
+            Part::Words(
+                " calls a routine of this name with the value, and none takes one argument.",
+            ),
         ])?;
         return said.say_words("An `attr` or a `shared` can be assigned.");
     }
@@ -120,9 +118,7 @@ fn assignment_without_fit(scene: Scene<'_>, said: &mut Said) -> Result<(), Alloc
 /// Whether the class that the place is in writes or includes a feature of this name.
 fn is_written_here(scene: Scene<'_>, name: &[u8]) -> bool {
     match scene.table.class_at(scene.pos) {
-        Some(class) => {
-            !class.includes.is_empty() || count_in(class, name, Quality::Any) > 0
-        }
+        Some(class) => { !class.includes.is_empty() || count_in(class, name, Quality::Any) > 0 }
         None => true,
     }
 }
@@ -274,7 +270,9 @@ fn is_leaving(name: &[u8]) -> bool {
 fn leaving(scene: Scene<'_>, said: &mut Said) -> Result<(), AllocError> {
     said.say(&[
         Part::Code(scene.name()),
-        Part::Words(" is a statement of its own that gives nothing: `while!` and `until!` take one BOOL, and `break!` takes nothing."),
+        Part::Words(
+            " is a statement of its own that gives nothing: `while!` and `until!` take one BOOL, and `break!` takes nothing.",
+        ),
     ])?;
     said.say_words("Write `while!(a < b);`, `until!(a = b);` or `break!;`.")
 }
@@ -304,11 +302,10 @@ fn unused_value(scene: Scene<'_>, said: &mut Said) -> Result<(), AllocError> {
         Part::Code(name),
         Part::Words(" gives a value, which a statement doesn't take: it has to be used."),
     ])?;
-    if matches!(
-        scene.tokens.kind(scene.at),
-        Some(TokenKind::IterName)
-    ) {
-        return said.say_words("Put it into a variable, as `x ::= ..;`, or print it; to go round so often alone write `10.times!;`.");
+    if matches!(scene.tokens.kind(scene.at), Some(TokenKind::IterName)) {
+        return said.say_words(
+            "Put it into a variable, as `x ::= ..;`, or print it; to go round so often alone write `10.times!;`.",
+        );
     }
     said.say_words("Put it into a variable, as `x ::= ..;`, or print it.")
 }

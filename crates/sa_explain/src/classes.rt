@@ -39,7 +39,9 @@ pub(crate) fn about_features(
 fn refused_word(scene: Scene<'_>, said: &mut Said) -> Result<(), AllocError> {
     said.say(&[
         Part::Code(scene.name()),
-        Part::Words(" is a word of parallel Sather, which this compiler doesn't take, so it is no name either."),
+        Part::Words(
+            " is a word of parallel Sather, which this compiler doesn't take, so it is no name either.",
+        ),
     ])?;
     said.say_words("Choose another name.")
 }
@@ -120,17 +122,15 @@ fn kept_out(scene: Scene<'_>, class: &Class, said: &mut Said) -> Result<(), Allo
                 Part::Code(name),
                 Part::Words(" is a class, but it can't stand here."),
             ])?;
-            said.say_words("The classes BOOL, INT, CHAR, STR, OUT, IN and SYS aren't included, and a parameter hides a class of its name.")
+            said.say_words(
+                "The classes BOOL, INT, CHAR, STR, OUT, IN and SYS aren't included, and a parameter hides a class of its name.",
+            )
         }
     }
 }
 
 /// A name that no class has.
-fn unknown_class<'a>(
-    scene: Scene<'a>,
-    name: &'a [u8],
-    said: &mut Said,
-) -> Result<(), AllocError> {
+fn unknown_class<'a>(scene: Scene<'a>, name: &'a [u8], said: &mut Said) -> Result<(), AllocError> {
     said.say(&[
         Part::Words("There is no class "),
         Part::Code(name),
@@ -156,7 +156,8 @@ fn known_elsewhere(name: &[u8]) -> Option<&'static str> {
         b"FLT" | b"FLTD" | b"FLTX" | b"FLOAT" | b"DOUBLE" | b"REAL" => {
             "There are whole numbers alone: count the parts, as tenths in an INT, and put the point in where it is printed."
         }
-        b"INTEGER" | b"LONG" | b"SHORT" | b"NUMBER" | b"INTI" => "A whole number is an INT, up to 2147483647.",
+        b"INTEGER" | b"LONG" | b"SHORT" | b"NUMBER" | b"INTI" =>
+            "A whole number is an INT, up to 2147483647.",
         b"BOOLEAN" => "The class of `true` and `false` is BOOL.",
         b"CHARACTER" | b"BYTE" => "A byte is a CHAR.",
         b"LIST" | b"VECTOR" => "A list that grows is an FLIST, as `FLIST{INT}`.",
@@ -177,7 +178,11 @@ fn parameter_count(scene: Scene<'_>, said: &mut Said) -> Result<(), AllocError> 
     match class.params.as_slice() {
         [] => {
             said.say(&[Part::Code(name), Part::Words(" has no parameters.")])?;
-            said.say(&[Part::Words("Write "), Part::Code(name), Part::Words(" alone.")])
+            said.say(&[
+                Part::Words("Write "),
+                Part::Code(name),
+                Part::Words(" alone."),
+            ])
         }
         [_] => {
             said.say(&[
@@ -219,7 +224,9 @@ fn not_abstract(scene: Scene<'_>, said: &mut Said) -> Result<(), AllocError> {
 fn no_main(scene: Scene<'_>, said: &mut Said) -> Result<(), AllocError> {
     let Some(class) = scene.table.class(b"MAIN".as_slice()) else {
         said.say_words("There is no class MAIN, at whose routine `main` a program begins.")?;
-        return said.say_words("Write `class MAIN is main is .. end; end;`, or name its file in the command.");
+        return said.say_words(
+            "Write `class MAIN is main is .. end; end;`, or name its file in the command.",
+        );
     };
     if class.kind != Kind::Reference || !class.params.is_empty() {
         said.say_words("MAIN is neither immutable nor partial, and has no parameters.")?;
@@ -243,7 +250,9 @@ fn main_of_another_form(
     said: &mut Said,
 ) -> Result<(), AllocError> {
     if count_in(class, b"main".as_slice(), Quality::Any) > 1 {
-        said.say_words("MAIN has several features `main`, and one of them alone can be run, without arguments.")?;
+        said.say_words(
+            "MAIN has several features `main`, and one of them alone can be run, without arguments.",
+        )?;
         return said.say_words("Give the others another name.");
     }
     let at = scene.tokens.number_at(main.name.pos.at as usize);
@@ -252,7 +261,9 @@ fn main_of_another_form(
     }
     if !main.formals.is_empty() {
         said.say_words("`main` takes no arguments: the words of a command don't reach a program.")?;
-        return said.say_words("Write `main is`, and read what the program has to know from its input, as by `#IN.get_str`.");
+        return said.say_words(
+            "Write `main is`, and read what the program has to know from its input, as by `#IN.get_str`.",
+        );
     }
     if !matches!(main.part, FeaturePart::Routine(_)) {
         said.say_words("`main` of MAIN is no routine with a body.")?;
@@ -280,9 +291,13 @@ fn conflict(scene: Scene<'_>, said: &mut Said) -> Result<(), AllocError> {
         Part::Code(name),
         Part::Words(" in line "),
         Part::Number(scene.table.line(first.name.pos)),
-        Part::Words(" too, and no call could tell features of one name and the same arguments apart."),
+        Part::Words(
+            " too, and no call could tell features of one name and the same arguments apart.",
+        ),
     ])?;
-    said.say_words("Take one of them away, or give it another name. An attribute is a routine that reads it.")
+    said.say_words(
+        "Take one of them away, or give it another name. An attribute is a routine that reads it.",
+    )
 }
 
 /// A change of a feature that isn't there.
@@ -298,7 +313,9 @@ fn no_such_change(scene: Scene<'_>, said: &mut Said) -> Result<(), AllocError> {
             Part::Code(near),
             Part::Words("? The old name stands on the left of `->`, the new one on its right."),
         ]),
-        None => said.say_words("The old name stands on the left of `->`, the new one on its right."),
+        None => said.say_words(
+            "The old name stands on the left of `->`, the new one on its right.",
+        ),
     }
 }
 
@@ -381,6 +398,8 @@ fn says_lacking(
             Part::Plain(plain_name(ty).unwrap_or(b"type".as_slice())),
             Part::Words("."),
         ]),
-        None => said.say_words("Write it with the arguments of the signature, and without a result."),
+        None => said.say_words(
+            "Write it with the arguments of the signature, and without a result.",
+        ),
     }
 }

@@ -18,9 +18,10 @@ pub(crate) fn doubled(scene: Scene<'_>, said: &mut Said) -> Result<(), AllocErro
 fn two_signs(scene: Scene<'_>, at: usize, said: &mut Said) -> Result<(), AllocError> {
     let tokens = scene.tokens;
     let next = at.saturating_add(1);
-    let (Some(TokenKind::Sign(one)), Some(TokenKind::Sign(other))) =
-        (tokens.kind(at), tokens.kind(next))
-    else {
+    let (Some(TokenKind::Sign(one)), Some(TokenKind::Sign(other))) = (
+        tokens.kind(at),
+        tokens.kind(next),
+    ) else {
         return Ok(());
     };
     if tokens.end(at) != tokens.start(next) {
@@ -54,10 +55,11 @@ fn of_two_signs(one: Sign, other: Sign) -> Option<Elsewhere> {
             "There is no `==` here: `=` compares, and `:=` assigns.",
             "Write `=`.",
         ),
-        (Sign::Plus | Sign::Minus | Sign::Star | Sign::Slash | Sign::Percent, Sign::Equal) => elsewhere(
-            "No sign computes and assigns in one here.",
-            "Write `x := x + 1` for what is `x += 1` elsewhere.",
-        ),
+        (Sign::Plus | Sign::Minus | Sign::Star | Sign::Slash | Sign::Percent, Sign::Equal) =>
+            elsewhere(
+                "No sign computes and assigns in one here.",
+                "Write `x := x + 1` for what is `x += 1` elsewhere.",
+            ),
         (Sign::Plus, Sign::Plus) => elsewhere("There is no `++` here.", "Write `x := x + 1`."),
         (Sign::Less, Sign::Greater) => elsewhere("\"Not equal\" is `/=` here.", "Write `/=`."),
         (Sign::Slash, Sign::Slash | Sign::Star) => elsewhere(
@@ -102,7 +104,8 @@ fn statement_here(word: &[u8]) -> Option<&'static str> {
     Some(match word {
         b"while" => "Write `loop while!(a < b); .. end;`.",
         b"until" | b"repeat" | b"do" => "Write `loop .. until!(a = b); end;`.",
-        b"for" | b"foreach" => "Write `loop i ::= 1.upto!(10); .. end;`, or with `a.elt!` for the elements of an array.",
+        b"for" | b"foreach" =>
+            "Write `loop i ::= 1.upto!(10); .. end;`, or with `a.elt!` for the elements of an array.",
         b"switch" => "Write `case x when 1 then .. else .. end;`.",
         b"var" | b"let" => "Write `x ::= 3;`, or `x:INT;`.",
         b"def" | b"function" | b"func" | b"fn" => "Write `name(x:INT):INT is .. end;`.",

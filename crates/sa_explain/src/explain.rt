@@ -185,10 +185,12 @@ fn classes_of(alloc: Global, sources: &Sources) -> Result<Items<Class>, NoMemory
         return Ok(Items::new(alloc));
     }
     match parse_program(alloc, texts) {
-        Ok(Parsed {
-            classes,
-            contracts: _contracts,
-        }) => Ok(classes),
+        Ok(
+            Parsed {
+                classes,
+                contracts: _contracts,
+            },
+        ) => Ok(classes),
         Err(_) => Ok(Items::new(alloc)),
     }
 }

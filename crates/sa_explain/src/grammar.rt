@@ -150,4 +150,3 @@ fn beside(scene: Scene<'_>, said: &mut Said) -> Result<(), AllocError> {
     ])?;
     said.say_words("The mistake is at this token or before it.")
 }
-

@@ -34,7 +34,9 @@ fn evaluated_once(scene: Scene<'_>, said: &mut Said) -> Result<(), AllocError> {
         Part::Code(b"once".as_slice()),
         Part::Words(": that is evaluated once, when the iter starts."),
     ])?;
-    said.say_words("Take its value into a variable first and loop inside, or give the iter itself as `bind(..)`.")
+    said.say_words(
+        "Take its value into a variable first and loop inside, or give the iter itself as `bind(..)`.",
+    )
 }
 
 /// `yield` and `quit` in a routine, `return` in an iter.
@@ -52,10 +54,7 @@ fn out_of_place(scene: Scene<'_>, said: &mut Said) -> Result<(), AllocError> {
     let Some(name) = scene.feature_name() else {
         return Ok(());
     };
-    if !matches!(
-        scene.tokens.kind(scene.feature),
-        Some(TokenKind::Lower)
-    ) {
+    if !matches!(scene.tokens.kind(scene.feature), Some(TokenKind::Lower)) {
         return Ok(());
     }
     said.say(&[
@@ -74,10 +73,7 @@ fn out_of_place(scene: Scene<'_>, said: &mut Said) -> Result<(), AllocError> {
 }
 
 fn in_protect(scene: Scene<'_>, said: &mut Said) -> Result<(), AllocError> {
-    if matches!(
-        scene.tokens.kind(scene.at),
-        Some(TokenKind::IterName)
-    ) {
+    if matches!(scene.tokens.kind(scene.at), Some(TokenKind::IterName)) {
         said.say(&[
             Part::Words("Between "),
             Part::Code(scene.name()),
@@ -85,7 +81,9 @@ fn in_protect(scene: Scene<'_>, said: &mut Said) -> Result<(), AllocError> {
             Part::Code(b"protect".as_slice()),
             Part::Words(", which would be left when the iter is resumed."),
         ])?;
-        return said.say_words("Take its value before the `protect`, or put the `protect` around the whole loop.");
+        return said.say_words(
+            "Take its value before the `protect`, or put the `protect` around the whole loop.",
+        );
     }
     said.say(&[
         Part::Code(scene.name()),

@@ -118,9 +118,19 @@ fn about_literal(behind: &[u8], said: &mut Said) -> Result<(), AllocError> {
         said.say_words("A character is one byte, and here is none; the empty text is `\"\"`.")?;
         return said.say_words("Write `\"\"`, or a byte between the quotes.");
     }
-    let inside = if len <= inside.len() { &inside[..len] } else { inside };
-    said.say_words("A character is one byte between single quotes; a text stands between double quotes.")?;
-    said.say(&[Part::Words("Write `\""), Part::Plain(inside), Part::Words("\"`.")])
+    let inside = if len <= inside.len() {
+        &inside[..len]
+    } else {
+        inside
+    };
+    said.say_words(
+        "A character is one byte between single quotes; a text stands between double quotes.",
+    )?;
+    said.say(&[
+        Part::Words("Write `\""),
+        Part::Plain(inside),
+        Part::Words("\"`."),
+    ])
 }
 
 fn first(bytes: &[u8]) -> u8 {
@@ -153,13 +163,19 @@ fn quoted_len(bytes: &[u8]) -> Option<usize> {
 fn about_number(behind: &[u8], said: &mut Said) -> Result<(), AllocError> {
     let len = number_len(behind);
     mark_bytes(said, len);
-    let spelled = if len <= behind.len() { &behind[..len] } else { behind };
+    let spelled = if len <= behind.len() {
+        &behind[..len]
+    } else {
+        behind
+    };
     if has_fraction(spelled) {
         said.say(&[
             Part::Code(spelled),
             Part::Words(" has a fraction, and there are whole numbers alone: no FLT."),
         ])?;
-        return said.say_words("Count the parts, as tenths in an INT, and put the point in where it is printed.");
+        return said.say_words(
+            "Count the parts, as tenths in an INT, and put the point in where it is printed.",
+        );
     }
     Ok(())
 }
@@ -174,7 +190,10 @@ fn number_len(bytes: &[u8]) -> usize {
 
 /// Whether a point stands among digits, and the number is a decimal one.
 fn has_fraction(spelled: &[u8]) -> bool {
-    spelled.contains(&b'.') && spelled.iter().all(|byte| byte.is_ascii_digit() || *byte == b'.')
+    spelled.contains(&b'.')
+        && spelled
+            .iter()
+            .all(|byte| byte.is_ascii_digit() || *byte == b'.')
 }
 
 fn about_escape(behind: &[u8], said: &mut Said) -> Result<(), AllocError> {
@@ -186,7 +205,9 @@ fn about_escape(behind: &[u8], said: &mut Said) -> Result<(), AllocError> {
         let escape = [b'\\', *byte];
         said.say(&[
             Part::Code(escape.as_slice()),
-            Part::Words(" is no escape: there are \\a \\b \\f \\n \\r \\t \\v \\\\ \\' \\\", and one to three octal digits."),
+            Part::Words(
+                " is no escape: there are \\a \\b \\f \\n \\r \\t \\v \\\\ \\' \\\", and one to three octal digits.",
+            ),
         ])?;
         return said.say(&[
             Part::Words("A backslash itself is written twice: `\\"),

@@ -48,10 +48,7 @@ fn line_around(text: &[u8], place: usize) -> Span
         .rev()
         .take_while(|byte| **byte != b'\n')
         .count();
-    let back = behind
-        .iter()
-        .take_while(|byte| **byte != b'\n')
-        .count();
+    let back = behind.iter().take_while(|byte| **byte != b'\n').count();
     Span {
         start: place.saturating_sub(front),
         end: place.saturating_add(back),
@@ -81,12 +78,7 @@ fn tab_or_shown(byte: u8) -> u8 {
 }
 
 /// Adds a blank for each character before the marked span, and a `^` for each of the span, at least one.
-fn put_marks(
-    to: &mut Vec<u8>,
-    text: &[u8],
-    shown: Span,
-    mark: Span,
-) -> Result<(), AllocError> {
+fn put_marks(to: &mut Vec<u8>, text: &[u8], shown: Span, mark: Span) -> Result<(), AllocError> {
     for at in shown.start..mark.start {
         if let Some(byte) = text.get(at)
             && begins_character(*byte)

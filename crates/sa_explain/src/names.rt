@@ -5,9 +5,9 @@ use crate::operators::unknown_operator;
 use crate::said::{Part, Said};
 use crate::scene::Scene;
 use crate::table::Quality;
-use crate::values::{class_named_at, declared_before, declares, receiver_before};
+use crate::values::{class_named_at, declares, receiver_before};
 use sa_lex::{Sign, TokenKind, Word};
-use sa_tree::{Rule, NoMemory};
+use sa_tree::{NoMemory, Rule};
 use std::alloc::AllocError;
 
 /// Says what has no feature of the name at the place, and which name is near.
@@ -19,7 +19,9 @@ pub(crate) fn unknown_name(scene: Scene<'_>, said: &mut Said) -> Result<(), NoMe
         Some(TokenKind::Lower | TokenKind::IterName) => unknown_feature(scene, said)?,
         Some(TokenKind::Word(Word::New)) => {
             said.say_words("`new` makes an object of a reference class, and this class is none.")?;
-            said.say_words("A variable `x:SAME` of an immutable class is its void value: change its attributes.")?;
+            said.say_words(
+                "A variable `x:SAME` of an immutable class is its void value: change its attributes.",
+            )?;
         }
         _ => {}
     }
@@ -54,7 +56,9 @@ fn unknown_target(scene: Scene<'_>, said: &mut Said) -> Result<(), AllocError> {
         return Ok(());
     };
     if tokens.is_sign(target, Sign::RightBracket) {
-        said.say_words("`a[i] := x` calls `aset`, and the class of what stands before the `[` has none.")?;
+        said.say_words(
+            "`a[i] := x` calls `aset`, and the class of what stands before the `[` has none.",
+        )?;
         return said.say_words("Arrays and FLIST have it.");
     }
     if !tokens.is_lower(target) {
@@ -108,7 +112,9 @@ fn unknown_feature(scene: Scene<'_>, said: &mut Said) -> Result<(), AllocError> 
         said.say(&[
             Part::Words("Nothing that is named "),
             Part::Code(scene.name()),
-            Part::Words(" is known here: no variable that is declared above, and no feature of the class."),
+            Part::Words(
+                " is known here: no variable that is declared above, and no feature of the class.",
+            ),
         ])?;
     }
     what_is_meant(scene, said)
@@ -190,7 +196,9 @@ fn declared_elsewhere(scene: Scene<'_>, said: &mut Said) -> Result<Declares, All
                 Part::Code(name),
                 Part::Words(" is declared in line "),
                 Part::Number(tokens.line(at)),
-                Part::Words(", and isn't known here: a variable is known from there to the end of its list of statements."),
+                Part::Words(
+                    ", and isn't known here: a variable is known from there to the end of its list of statements.",
+                ),
             ])?;
             return Ok(Declares::Elsewhere);
         }
@@ -255,7 +263,8 @@ fn known_elsewhere(name: &[u8]) -> Option<&'static str> {
         b"continue" => "There is no `continue`: put the rest of the loop into an `if`.",
         b"while" => "To go on while something holds is `while!(..)`, inside a loop.",
         b"until" => "To go on until something holds is `until!(..)`, inside a loop.",
-        b"super" | b"base" => "An included feature gets another name, as `include C f->old_f`, and is called by that.",
+        b"super" | b"base" =>
+            "An included feature gets another name, as `include C f->old_f`, and is called by that.",
         b"to_string" | b"toString" => "The text of a value is `str` here.",
         _ => return None,
     })
@@ -287,7 +296,9 @@ fn private_feature(scene: Scene<'_>, said: &mut Said) -> Result<(), AllocError> 
         Part::Code(name),
         Part::Words(" is private: the code of its own class alone sees it."),
     ])?;
-    said.say_words("Call it inside its class, or write `readonly` in place of `private`, which lets others read it.")
+    said.say_words(
+        "Call it inside its class, or write `readonly` in place of `private`, which lets others read it.",
+    )
 }
 
 /// A variable that is declared where one of its name is known.
@@ -301,7 +312,9 @@ fn declared_twice(scene: Scene<'_>, said: &mut Said) -> Result<(), AllocError> {
                 Part::Number(tokens.line(at)),
                 Part::Words(" already, and is still known here."),
             ])?;
-            return said.say_words("To give it a value write `:=`; for another variable choose another name.");
+            return said.say_words(
+                "To give it a value write `:=`; for another variable choose another name.",
+            );
         }
     }
     Ok(())
@@ -314,7 +327,9 @@ fn bad_bind(scene: Scene<'_>, said: &mut Said) -> Result<(), AllocError> {
         return Ok(());
     }
     if has_old_bind(scene) {
-        said.say_words("A bound routine or iter is made by `bind` here, and `_` leaves an argument open there alone.")?;
+        said.say_words(
+            "A bound routine or iter is made by `bind` here, and `_` leaves an argument open there alone.",
+        )?;
         return said.say_words("Write `bind(f(_))` in place of `#ROUT(f(_))`.");
     }
     said.say_words("`_` leaves an argument open, which a call inside `bind(..)` alone can.")?;
@@ -357,6 +372,8 @@ fn tested_variable(scene: Scene<'_>, said: &mut Said) -> Result<(), AllocError> 
         return Ok(());
     }
     said.mark = scene.span(target);
-    said.say_words("In a branch of a `typecase` the variable that is tested has the type of the branch, and isn't written.")?;
+    said.say_words(
+        "In a branch of a `typecase` the variable that is tested has the type of the branch, and isn't written.",
+    )?;
     said.say_words("Put the new value into another variable.")
 }

@@ -86,8 +86,6 @@ fn look_at_variables<'a>(
 fn is_declared(behind: Option<&TokenKind>) -> bool {
     matches!(
         behind,
-        Some(TokenKind::Sign(
-            Sign::Colon | Sign::Comma | Sign::Declare
-        ))
+        Some(TokenKind::Sign(Sign::Colon | Sign::Comma | Sign::Declare))
     )
 }

@@ -72,7 +72,11 @@ impl Opened {
         } else if is_closing(kind) {
             self.close_bracket(tokens);
         } else if is_block(kind) || is_opening(kind) {
-            let named = if is_word(kind, Word::Is) { self.header } else { at };
+            let named = if is_word(kind, Word::Is) {
+                self.header
+            } else {
+                at
+            };
             self.list.push(Open { at, named })?;
         } else if self.begins_header(tokens, at) {
             self.header = at;
@@ -133,7 +137,11 @@ fn is_crooked(tokens: Tokens<'_>, end: usize, open: Open) -> bool {
 
 /// The bytes before a place.
 fn front(text: &[u8], place: usize) -> &[u8] {
-    if place <= text.len() { &text[..place] } else { text }
+    if place <= text.len() {
+        &text[..place]
+    } else {
+        text
+    }
 }
 
 fn has_line_feed(text: &[u8], from: usize, to: usize) -> bool {

@@ -25,10 +25,14 @@ fn called(sign: Sign) -> Option<&'static str> {
 /// What an operator calls, where it isn't one routine of the left operand.
 fn called_in_turn(sign: Sign) -> Option<&'static str> {
     Some(match sign {
-        Sign::NotEqual => "`/=` calls `is_neq`, or else `is_eq`, of its left operand, which has neither.",
-        Sign::Greater => "`a > b` calls `is_gt` of `a`, or else `is_lt` of `b`, and neither is there.",
-        Sign::LessEqual => "`a <= b` calls `is_leq` of `a`, or else `is_lt` of `b`, and neither is there.",
-        Sign::GreaterEqual => "`>=` calls `is_geq`, or else `is_lt`, of its left operand, which has neither.",
+        Sign::NotEqual =>
+            "`/=` calls `is_neq`, or else `is_eq`, of its left operand, which has neither.",
+        Sign::Greater =>
+            "`a > b` calls `is_gt` of `a`, or else `is_lt` of `b`, and neither is there.",
+        Sign::LessEqual =>
+            "`a <= b` calls `is_leq` of `a`, or else `is_lt` of `b`, and neither is there.",
+        Sign::GreaterEqual =>
+            "`>=` calls `is_geq`, or else `is_lt`, of its left operand, which has neither.",
         Sign::Tilde => "`~` calls `not`, which BOOL has.",
         _ => return None,
     })
@@ -124,9 +128,13 @@ pub(crate) fn operator_without_fit(
             Part::Code(scene.name()),
             Part::Words(" calls "),
             Part::Code(name.as_bytes()),
-            Part::Words(" of its left operand with the right one, and none that is there takes it, or gives a value just where one is wanted."),
+            Part::Words(
+                " of its left operand with the right one, and none that is there takes it, or gives a value just where one is wanted.",
+            ),
         ])?;
-        return said.say_words("See which types the operands have; a number becomes a text by `.str`.");
+        return said.say_words(
+            "See which types the operands have; a number becomes a text by `.str`.",
+        );
     };
     if left == right.class {
         return Ok(());
@@ -141,5 +149,7 @@ pub(crate) fn operator_without_fit(
         Part::Plain(right.class),
         Part::Words(" on its right, and none fits."),
     ])?;
-    said.say_words("Make both of one type: the text of a value is `x.str`, and a byte's number `c.int`.")
+    said.say_words(
+        "Make both of one type: the text of a value is `x.str`, and a byte's number `c.int`.",
+    )
 }

@@ -94,5 +94,9 @@ impl Said {
 
 /// The byte as it is shown.
 pub(crate) fn shown(byte: u8) -> u8 {
-    if byte < b' ' || byte == 0x7f { b' ' } else { byte }
+    if byte < b' ' || byte == 0x7f {
+        b' '
+    } else {
+        byte
+    }
 }

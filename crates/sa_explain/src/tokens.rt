@@ -50,10 +50,7 @@ impl<'a> Tokens<'a> {
 
     /// The name of a routine, a variable or an iter.
     pub(crate) fn is_feature_name(self, at: usize) -> bool {
-        matches!(
-            self.kind(at),
-            Some(TokenKind::Lower | TokenKind::IterName)
-        )
+        matches!(self.kind(at), Some(TokenKind::Lower | TokenKind::IterName))
     }
 
     /// Where the token begins: behind the text where there is none.
@@ -166,9 +163,7 @@ pub(crate) fn is_word(kind: Option<&TokenKind>, word: Word) -> bool {
 pub(crate) fn is_opening(kind: Option<&TokenKind>) -> bool {
     matches!(
         kind,
-        Some(TokenKind::Sign(
-            Sign::LeftParen | Sign::LeftBracket | Sign::LeftBrace
-        ))
+        Some(TokenKind::Sign(Sign::LeftParen | Sign::LeftBracket | Sign::LeftBrace))
     )
 }
 
@@ -176,9 +171,7 @@ pub(crate) fn is_opening(kind: Option<&TokenKind>) -> bool {
 pub(crate) fn is_closing(kind: Option<&TokenKind>) -> bool {
     matches!(
         kind,
-        Some(TokenKind::Sign(
-            Sign::RightParen | Sign::RightBracket | Sign::RightBrace
-        ))
+        Some(TokenKind::Sign(Sign::RightParen | Sign::RightBracket | Sign::RightBrace))
     )
 }
 

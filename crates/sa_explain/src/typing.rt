@@ -27,7 +27,9 @@ pub(crate) fn wrong_type(scene: Scene<'_>, said: &mut Said) -> Result<(), NoMemo
         }
         Some(TokenKind::Word(Word::Return | Word::Yield)) => given_back(scene, said)?,
         Some(TokenKind::Sign(Sign::Bar)) => {
-            said.say_words("An element of this array is of another type than the array that is wanted here has.")?;
+            said.say_words(
+                "An element of this array is of another type than the array that is wanted here has.",
+            )?;
             said.say_words("Write elements of that type alone.")?;
         }
         Some(TokenKind::Word(Word::New)) => {
@@ -85,8 +87,15 @@ fn between(
     said: &mut Said,
 ) -> Result<(), AllocError> {
     let value = assign.saturating_add(1);
-    let (Some(Declared { class: Some(declared), .. }), Some(found)) =
-        (declared_before(scene, name), value_at(scene, value))
+    let (
+        Some(
+            Declared {
+                class: Some(declared),
+                ..
+            },
+        ),
+        Some(found),
+    ) = (declared_before(scene, name), value_at(scene, value))
     else {
         return Ok(());
     };

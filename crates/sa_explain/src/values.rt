@@ -100,9 +100,11 @@ fn is_parameter(scene: Scene<'_>, name: &[u8]) -> bool {
 fn goes_on(kind: Option<&TokenKind>) -> bool {
     !matches!(
         kind,
-        Some(TokenKind::Sign(
-            Sign::Semicolon | Sign::Comma | Sign::RightParen | Sign::RightBracket | Sign::Bar
-        ) | TokenKind::Word(Word::Then | Word::End | Word::Else | Word::Elsif | Word::When))
+        Some(
+            TokenKind::Sign(
+                Sign::Semicolon | Sign::Comma | Sign::RightParen | Sign::RightBracket | Sign::Bar
+            ) | TokenKind::Word(Word::Then | Word::End | Word::Else | Word::Elsif | Word::When)
+        )
     )
 }
 
@@ -182,9 +184,7 @@ fn is_in_force(tokens: Tokens<'_>, from: usize, to: usize) -> bool {
 fn ends_statements(kind: Option<&TokenKind>) -> bool {
     matches!(
         kind,
-        Some(TokenKind::Word(
-            Word::End | Word::Else | Word::Elsif | Word::When
-        ))
+        Some(TokenKind::Word(Word::End | Word::Else | Word::Elsif | Word::When))
     )
 }
 
@@ -236,27 +236,29 @@ pub(crate) fn operand_before<'a>(scene: Scene<'a>, operator: usize) -> Option<&'
 fn begins_operand(kind: Option<&TokenKind>) -> bool {
     matches!(
         kind,
-        Some(TokenKind::Sign(
-            Sign::LeftParen
-                | Sign::LeftBracket
-                | Sign::Comma
-                | Sign::Semicolon
-                | Sign::Assign
-                | Sign::Declare
-        ) | TokenKind::Word(
-            Word::Return
-                | Word::Yield
-                | Word::If
-                | Word::Elsif
-                | Word::Then
-                | Word::Else
-                | Word::Is
-                | Word::Loop
-                | Word::And
-                | Word::Or
-                | Word::Raise
-                | Word::Assert
-        ))
+        Some(
+            TokenKind::Sign(
+                Sign::LeftParen
+                    | Sign::LeftBracket
+                    | Sign::Comma
+                    | Sign::Semicolon
+                    | Sign::Assign
+                    | Sign::Declare
+            ) | TokenKind::Word(
+                Word::Return
+                    | Word::Yield
+                    | Word::If
+                    | Word::Elsif
+                    | Word::Then
+                    | Word::Else
+                    | Word::Is
+                    | Word::Loop
+                    | Word::And
+                    | Word::Or
+                    | Word::Raise
+                    | Word::Assert
+            )
+        )
     )
 }
 
