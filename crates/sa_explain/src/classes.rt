@@ -386,9 +386,10 @@ fn says_lacking(
         Part::Plain(class.name.name.as_slice()),
         Part::Words(" has no "),
         Part::Code(name),
-        Part::Words(" of "),
+        Part::Words(" with "),
         Part::Number(wanted.formals.len()),
-        Part::Words(" arguments, which "),
+        Part::Words(of_arguments(wanted.formals.len())),
+        Part::Words(", which "),
         Part::Plain(above.name.name.as_slice()),
         Part::Words(" wants of each class below it."),
     ])?;
@@ -401,5 +402,14 @@ fn says_lacking(
         None => said.say_words(
             "Write it with the arguments of the signature, and without a result.",
         ),
+    }
+}
+
+/// The word behind a number of arguments.
+fn of_arguments(count: usize) -> &'static str {
+    if count == 1 {
+        " argument"
+    } else {
+        " arguments"
     }
 }

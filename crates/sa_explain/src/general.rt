@@ -115,7 +115,7 @@ fn of_classes(rule: Rule) -> Advice {
         ),
         Rule::Cycle => advice(
             "This class includes itself, or it is immutable and holds itself, by itself or by others.",
-            "Take one of these away; a reference class may hold itself.",
+            "Take an include or an attribute on the circle away, or make it a reference class, which may hold itself.",
         ),
         Rule::NoMain => advice(
             "A program begins at the routine `main` of the class MAIN, which takes no arguments and gives nothing or an INT.",

@@ -4,6 +4,9 @@ use crate::said::{Part, Said, Span};
 use sa_tree::{Refusal, Rule};
 use std::alloc::AllocError;
 
+/// How many bytes of a text are written out in a remedy.
+const MOST_SHOWN: usize = 30;
+
 /// Says what is wrong with the bytes at a place of a text, where more is known of them than the rule.
 pub(crate) fn about_bytes(
     text: &[u8],
@@ -126,6 +129,9 @@ fn about_literal(behind: &[u8], said: &mut Said) -> Result<(), AllocError> {
     said.say_words(
         "A character is one byte between single quotes; a text stands between double quotes.",
     )?;
+    if len > MOST_SHOWN {
+        return said.say_words("Write it between double quotes.");
+    }
     said.say(&[
         Part::Words("Write `\""),
         Part::Plain(inside),
@@ -147,13 +153,14 @@ fn rest(bytes: &[u8]) -> &[u8] {
     }
 }
 
-/// How many bytes stand before the next single quote of the line.
+/// How many bytes stand before the single quote that closes a character, in a line without double quotes up to there.
 fn quoted_len(bytes: &[u8]) -> Option<usize> {
+    let mut escaped = false;
     for (at, byte) in bytes.iter().enumerate() {
         match *byte {
-            b'\'' => return Some(at),
-            b'\n' | b'\\' | b'"' => return None,
-            _ => {}
+            b'\'' if !escaped => return Some(at),
+            b'\n' | b'"' => return None,
+            _ => escaped = !escaped && *byte == b'\\',
         }
     }
     None

@@ -4,8 +4,8 @@ use crate::near::feature_near;
 use crate::operators::unknown_operator;
 use crate::said::{Part, Said};
 use crate::scene::Scene;
-use crate::table::Quality;
-use crate::values::{class_named_at, declares, receiver_before};
+use crate::table::{Quality, count_in};
+use crate::values::{Declared, class_named_at, declared_before, declares, receiver_before};
 use sa_lex::{Sign, TokenKind, Word};
 use sa_tree::{NoMemory, Rule};
 use std::alloc::AllocError;
@@ -100,7 +100,7 @@ fn did_you_mean(near: &[u8], said: &mut Said) -> Result<(), AllocError> {
 fn unknown_feature(scene: Scene<'_>, said: &mut Said) -> Result<(), AllocError> {
     let tokens = scene.tokens;
     if is_indexed(scene) {
-        return Ok(());
+        return without_index(scene, said);
     }
     if tokens.is_sign_back(scene.at, 1, Sign::Dot) {
         let class = receiver_before(scene, scene.at.saturating_sub(1));
@@ -108,7 +108,11 @@ fn unknown_feature(scene: Scene<'_>, said: &mut Said) -> Result<(), AllocError> 
     } else if tokens.is_sign_back(scene.at, 1, Sign::DoubleColon) {
         let class = class_named_at(scene, scene.at.saturating_sub(2));
         lacks_feature(scene, class, said)?;
-    } else if declared_elsewhere(scene, said)? == Declares::Nothing {
+    } else if declared_elsewhere(scene, said)? == Declares::Elsewhere {
+        return said.say_words(
+            "Declare it before that list, by its type, and give it its value by `:=`.",
+        );
+    } else {
         said.say(&[
             Part::Words("Nothing that is named "),
             Part::Code(scene.name()),
@@ -130,6 +134,38 @@ fn is_indexed(scene: Scene<'_>) -> bool {
     };
     scene.tokens.is_sign(behind, Sign::LeftBracket)
         || (scene.tokens.is_sign(behind, Sign::Dot) && has_later_index(scene, behind))
+}
+
+/// `x[i]`, where the class of x has no `aget`.
+fn without_index(scene: Scene<'_>, said: &mut Said) -> Result<(), AllocError> {
+    if !scene
+        .tokens
+        .is_sign(scene.at.saturating_add(1), Sign::LeftBracket)
+    {
+        return Ok(());
+    }
+    let Some(
+        Declared {
+            class: Some(name),
+            ..
+        },
+    ) = declared_before(scene, scene.at)
+    else {
+        return Ok(());
+    };
+    let Some(class) = scene.table.class(name) else {
+        return Ok(());
+    };
+    if !class.includes.is_empty() || count_in(class, b"aget".as_slice(), Quality::Any) > 0 {
+        return Ok(());
+    }
+    said.say(&[
+        Part::Code(scene.name()),
+        Part::Words(" is of type "),
+        Part::Plain(name),
+        Part::Words(", which has no routine `aget`, which `[..]` calls."),
+    ])?;
+    said.say_words("Texts, arrays and FLIST have elements.")
 }
 
 /// Whether `[` stands behind a token before the statement ends.
