@@ -60,7 +60,7 @@ fn of_program(scene: Scene<'_>, kind: FaultKind, said: &mut Said) -> Result<(), 
         FaultKind::Void => match void_variable(scene.tokens, scene.at) {
             Some(name) => said.say(&[
                 Part::Code(scene.tokens.bytes(name)),
-                Part::Words(" is void: no object has been put into it."),
+                Part::Words(" is void here."),
             ]),
             None => Ok(()),
         },
