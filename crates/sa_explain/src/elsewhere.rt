@@ -45,32 +45,31 @@ struct Elsewhere {
     remedy: &'static str,
 }
 
-fn elsewhere(wrong: &'static str, remedy: &'static str) -> Elsewhere {
+fn means(wrong: &'static str, remedy: &'static str) -> Elsewhere {
     Elsewhere { wrong, remedy }
 }
 
 fn of_two_signs(one: Sign, other: Sign) -> Option<Elsewhere> {
     Some(match (one, other) {
-        (Sign::Equal, Sign::Equal) => elsewhere(
+        (Sign::Equal, Sign::Equal) => means(
             "There is no `==` here: `=` compares, and `:=` assigns.",
             "Write `=`.",
         ),
-        (Sign::Plus | Sign::Minus | Sign::Star | Sign::Slash | Sign::Percent, Sign::Equal) =>
-            elsewhere(
-                "No sign computes and assigns in one here.",
-                "Write `x := x + 1` for what is `x += 1` elsewhere.",
-            ),
-        (Sign::Plus, Sign::Plus) => elsewhere("There is no `++` here.", "Write `x := x + 1`."),
-        (Sign::Less, Sign::Greater) => elsewhere("\"Not equal\" is `/=` here.", "Write `/=`."),
-        (Sign::Slash, Sign::Slash | Sign::Star) => elsewhere(
+        (Sign::Plus | Sign::Minus | Sign::Star | Sign::Slash | Sign::Percent, Sign::Equal) => means(
+            "No sign computes and assigns in one here.",
+            "Write `x := x + 1` for what is `x += 1` elsewhere.",
+        ),
+        (Sign::Plus, Sign::Plus) => means("There is no `++` here.", "Write `x := x + 1`."),
+        (Sign::Less, Sign::Greater) => means("\"Not equal\" is `/=` here.", "Write `/=`."),
+        (Sign::Slash, Sign::Slash | Sign::Star) => means(
             "A comment begins by `--` here, and runs to the end of its line.",
             "Write `--`.",
         ),
-        (Sign::Equal, Sign::Greater) => elsewhere(
+        (Sign::Equal, Sign::Greater) => means(
             "There is no `=>` here; \"greater or equal\" is `>=`.",
             "Write `>=`.",
         ),
-        (Sign::Star, Sign::Star) => elsewhere("A power is `a ^ b` here.", "Write `^`."),
+        (Sign::Star, Sign::Star) => means("A power is `a ^ b` here.", "Write `^`."),
         _ => return None,
     })
 }

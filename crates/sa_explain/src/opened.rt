@@ -130,8 +130,8 @@ fn begins_feature(tokens: Tokens<'_>, at: usize) -> bool {
 fn is_crooked(tokens: Tokens<'_>, end: usize, open: Open) -> bool {
     let from = tokens.start(open.named);
     let to = tokens.start(end);
-    let own = indent(front(tokens.src, to));
-    let other = indent(front(tokens.src, from));
+    let own = indent_of(front(tokens.src, to));
+    let other = indent_of(front(tokens.src, from));
     own.is_all && own.width != other.width && has_line_feed(tokens.src, from, to)
 }
 
@@ -157,7 +157,7 @@ struct Indent {
 }
 
 /// The indent of the last line of a text.
-fn indent(text: &[u8]) -> Indent {
+fn indent_of(text: &[u8]) -> Indent {
     let mut width = 0usize;
     let mut is_all = true;
     for byte in text.iter().rev() {
