@@ -37,17 +37,24 @@ pub fn tell_more<E: Sink>(
 fn put_explanation<E: Sink>(alloc: Global, outcome: &Outcome<'_>, cause: Cause, err: &mut E)
     ensures { TellsMore Detail.Explained (part E.output E.faults err.old err.new) }
 {
-    if let Ok(text) = explanation(alloc, outcome, cause) {
-        let _answer = err.put(text.as_slice());
+    match explanation(alloc, outcome, cause) {
+        Ok(text) => put_more(text.as_slice(), err),
+        Err(NoMemory) => {}
+    }
+}
+
+/// Puts a text on err, or a front of it where err fails or has no memory.
+fn put_more<E: Sink>(text: &[u8], err: &mut E)
+    ensures { TellsMore Detail.Explained (part E.output E.faults err.old err.new) }
+{
+    match err.put(text) {
+        Ok(()) => {}
+        Err(_outage) => {}
     }
 }
 
 /// What explains a cause of an outcome.
-fn explanation(
-    alloc: Global,
-    outcome: &Outcome<'_>,
-    cause: Cause,
-) -> Result<Vec<u8>, NoMemory> {
+fn explanation(alloc: Global, outcome: &Outcome<'_>, cause: Cause) -> Result<Vec<u8>, NoMemory> {
     match cause {
         Cause::Refused(refusal) => explain_refusal(alloc, &outcome.sources, refusal),
         Cause::Fault(kind, pos) => explain_fault(alloc, &outcome.sources, kind, pos),
@@ -111,7 +118,8 @@ fn of_trap(kind: TrapKind) -> &'static str {
         TrapKind::Overflow => "The quotient of a signed division doesn't fit.\n",
         TrapKind::Memory => "A load or a store is past the end of the memory.\n",
         TrapKind::Element => "A call through the table is past its end.\n",
-        TrapKind::Uninitialised => "A call through the table is of an element that was never set.\n",
+        TrapKind::Uninitialised =>
+            "A call through the table is of an element that was never set.\n",
         TrapKind::Mismatch => "A call through the table is of a function of another type.\n",
     }
 }

@@ -114,22 +114,12 @@ fn obey<'a, S: WriteFiles, I: Source, O: Sink, E: Sink>(
 {
     let command = match command_of(alloc, words) {
         Ok(command) => command,
-        Err(WordsFault::Usage) => return briefly(without_command(alloc, Cause::Usage)),
-        Err(WordsFault::NoMemory) => return briefly(without_command(alloc, Cause::NoMemory)),
+        Err(WordsFault::Usage) => return without_command(alloc, Cause::Usage),
+        Err(WordsFault::NoMemory) => return without_command(alloc, Cause::NoMemory),
     };
     let detail = detail_of(&command);
     let outcome = do_command(alloc, command, store, input, out, err);
     Obeyed { outcome, detail }
-}
-
-/// An outcome whose lines are all that is told of it.
-fn briefly(outcome: Outcome<'_>) -> Obeyed<'_>
-    ensures { result ≡ record { outcome = outcome; detail = Detail.Brief } }
-{
-    Obeyed {
-        outcome,
-        detail: Detail::Brief,
-    }
 }
 
 /// Does what a command asks for.
@@ -173,14 +163,18 @@ fn do_command<'a, S: WriteFiles, I: Source, O: Sink, E: Sink>(
     }
 }
 
-/// The outcome where the words give no command.
-fn without_command<'a>(alloc: Global, cause: Cause) -> Outcome<'a>
-    ensures cause { result.cause ≡ cause }
-    ensures done { result.done ≡ 0 }
-    ensures bytes { result.«module».items ≡ [] }
-    ensures file { result.file.now ≡ [] }
-    ensures steps { result.steps ≡ None }
-    ensures listening { result.listening ≡ listening.Yes }
+/// What comes of words that give no command, for this cause, whose line is all that is told of it.
+fn without_command<'a>(alloc: Global, cause: Cause) -> Obeyed<'a>
+    ensures cause { result.outcome.cause ≡ cause }
+    ensures detail { result.detail ≡ Detail.Brief }
+    ensures done { result.outcome.done ≡ 0 }
+    ensures bytes { result.outcome.«module».items ≡ [] }
+    ensures file { result.outcome.file.now ≡ [] }
+    ensures steps { result.outcome.steps ≡ None }
+    ensures listening { result.outcome.listening ≡ listening.Yes }
 {
-    Outcome::without_module(alloc, cause, no_sources(alloc))
+    Obeyed {
+        outcome: Outcome::without_module(alloc, cause, no_sources(alloc)),
+        detail: Detail::Brief,
+    }
 }

@@ -9,9 +9,7 @@ use crate::command::Topic;
 pub(crate) fn asks_help(words: &[String]) -> bool
     ensures { result ≡ asks_help (map string_bytes words.now) }
 {
-    match words.iter().find(|word| {
-        is_help(word.as_str()) || ends_options(word.as_str())
-    }) {
+    match words.iter().find(|word| { is_help(word.as_str()) || ends_options(word.as_str()) }) {
         Some(word) => is_help(word.as_str()),
         None => false,
     }

@@ -14,7 +14,9 @@ mod read;
 mod subcommand;
 mod telling;
 
-pub use command::{Assemble, Build, Check, Command, Contracts, Detail, Exec, Listing, Run, Topic, Trace};
+pub use command::{
+    Assemble, Build, Check, Command, Contracts, Detail, Exec, Listing, Run, Topic, Trace,
+};
 pub use detail::detail_of;
 pub use fault::WordsFault;
 pub use read::command_of;

@@ -122,9 +122,12 @@ fn explaining<'a>(alloc: Global, command: Command<'a>) -> Result<Command<'a>, Al
 fn run<'a>(alloc: Global) -> Result<Command<'a>, AllocError>
     ensures { IfOk result (λ c. (app_of c ≡ line.run) × ((out-Command c).has_globals ≡ false)) }
 {
-    explaining(alloc, compiling(alloc, running(alloc, Command::new(alloc, "run"))?)?)?
-        .arg(flag(alloc, "trace"))?
-        .arg(files(alloc))
+    explaining(
+        alloc,
+        compiling(alloc, running(alloc, Command::new(alloc, "run"))?)?,
+    )?
+    .arg(flag(alloc, "trace"))?
+    .arg(files(alloc))
 }
 
 /// `build [--room KIB] [--contracts] [--explain] -o OUT FILE..`

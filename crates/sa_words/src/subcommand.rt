@@ -5,7 +5,9 @@ ghost use Rattle.clap.specs.Words.{all_of, first_of, found_of, rows_of};
 ghost use Rattle.sa_words.specs.Line.{assemble_in, build_in, check_in, classes_in, contracts_in, detail_in, exec_in, files_in, fuel_in};
 ghost use Rattle.sa_words.specs.Line.{is_given, line_of, listing_in, named_line, out_in, room_in, run_in, stats_in, trace_in, Gen, Selftest};
 
-use crate::command::{Assemble, Build, Check, Command, Contracts, Detail, Exec, Listing, Run, Trace};
+use crate::command::{
+    Assemble, Build, Check, Command, Contracts, Detail, Exec, Listing, Run, Trace,
+};
 use crate::number::{number_in, number_or};
 use crate::telling::telling;
 use clap::ArgMatches;
