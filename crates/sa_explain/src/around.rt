@@ -35,7 +35,8 @@ pub(crate) fn open_around(
     if tokens.kind(scene.at).is_none() {
         return at_the_end(scene, opened, open, said);
     }
-    if begins_beside(tokens, scene.at) && opened.list.len() > 1 {
+    let begins = begins_beside(tokens, scene.at) || begins_body(tokens, scene.at);
+    if begins && opened.list.len() > 1 {
         return unclosed(scene, opened, open, said);
     }
     stray_word(scene, open, said)
@@ -46,7 +47,8 @@ fn bare_attribute(scene: Scene<'_>, said: &mut Said) -> Result<(), AllocError> {
     let tokens = scene.tokens;
     let at = scene.at;
     let ends = tokens.is_sign(at, Sign::Semicolon) || tokens.is_sign(at, Sign::Assign);
-    if !ends || !tokens.is_sign_back(at, 2, Sign::Colon) {
+    let is_plain = tokens.is_sign_back(at, 2, Sign::Colon) && tokens.is_lower(at.saturating_sub(3));
+    if !ends || !is_plain {
         return Ok(());
     }
     said.say(&[
@@ -106,14 +108,16 @@ fn in_bracket(scene: Scene<'_>, open: Open, said: &mut Said) -> Result<(), Alloc
     let tokens = scene.tokens;
     let leaves = match tokens.kind(scene.at) {
         None => true,
-        Some(TokenKind::Word(_)) => true,
+        Some(TokenKind::Word(word)) => is_of_statement(*word),
         Some(TokenKind::Sign(sign)) => matches!(
             sign,
             Sign::Semicolon | Sign::Assign | Sign::Declare
         ),
         Some(_) => false,
     };
-    if !leaves && !is_closing(tokens.kind(scene.at)) {
+    let closing = closing_of(tokens.kind(open.at));
+    let closes_another = is_closing(tokens.kind(scene.at)) && scene.name() != closing.as_bytes();
+    if !leaves && !closes_another {
         return Ok(());
     }
     said.say(&[
@@ -124,9 +128,33 @@ fn in_bracket(scene: Scene<'_>, open: Open, said: &mut Said) -> Result<(), Alloc
     ])?;
     said.say(&[
         Part::Words("Write "),
-        Part::Code(closing_of(tokens.kind(open.at)).as_bytes()),
+        Part::Code(closing.as_bytes()),
         Part::Words(" where it ends."),
     ])
+}
+
+/// Whether a word stands in statements and around them, and in no brackets.
+fn is_of_statement(word: Word) -> bool {
+    matches!(
+        word,
+        Word::End
+            | Word::Then
+            | Word::Loop
+            | Word::Is
+            | Word::Else
+            | Word::Elsif
+            | Word::When
+            | Word::If
+            | Word::Case
+            | Word::Typecase
+            | Word::Protect
+            | Word::Return
+            | Word::Yield
+            | Word::Quit
+            | Word::Raise
+            | Word::Assert
+            | Word::Class
+    )
 }
 
 fn closing_of(open: Option<&TokenKind>) -> &'static str {
@@ -160,13 +188,13 @@ fn missing_semicolon(scene: Scene<'_>, place: Inside, said: &mut Said) -> Result
     let is_behind = tokens.has_line_feed(before, at) || !tokens.is_feature_name(at);
     if is_behind && let Some(word) = open_condition(tokens, at) {
         said.say(&[
-            Part::Words("The condition behind "),
+            Part::Words("Behind "),
             Part::Code(tokens.bytes(word)),
             Part::Words(" of line "),
             Part::Number(tokens.line(word)),
-            Part::Words(" ends before this, and no "),
+            Part::Words(" no "),
             Part::Code(b"then".as_slice()),
-            Part::Words(" stands behind it."),
+            Part::Words(" stands before this."),
         ])?;
         return said.say_words("Write `then` between the condition and its statements.");
     }
@@ -198,13 +226,13 @@ fn semicolon_behind(tokens: Tokens<'_>, before: usize, said: &mut Said) -> Resul
         end: tokens.end(before),
     };
     said.say(&[
-        Part::Words("A "),
+        Part::Words("No "),
         Part::Code(b";".as_slice()),
-        Part::Words(" is missing behind "),
+        Part::Words(" stands behind "),
         Part::Code(tokens.bytes(before)),
         Part::Words(" in line "),
         Part::Number(tokens.line(before)),
-        Part::Words(": what stands next can't go on with it."),
+        Part::Words(", and what comes next can't go on with it."),
     ])?;
     said.say_words("Write `;` there.")
 }
@@ -334,8 +362,7 @@ fn begins_beside(tokens: Tokens<'_>, at: usize) -> bool {
     matches!(
         tokens.kind(at),
         Some(TokenKind::Word(
-            Word::Is
-                | Word::Class
+            Word::Class
                 | Word::Abstract
                 | Word::Immutable
                 | Word::Partial
@@ -351,6 +378,40 @@ fn begins_beside(tokens: Tokens<'_>, at: usize) -> bool {
                 | Word::Post
         ))
     )
+}
+
+/// Whether an `is` stands at a token, behind what may be the name, the arguments and the result of a feature.
+fn begins_body(tokens: Tokens<'_>, is: usize) -> bool {
+    if !tokens.is_word(is, Word::Is) {
+        return false;
+    }
+    let mut depth = 0usize;
+    for back in 0..is {
+        let at = is - 1 - back;
+        let kind = tokens.kind(at);
+        if is_closing(kind) {
+            depth = depth.saturating_add(1);
+        } else if depth > 0 {
+            if is_opening(kind) {
+                depth -= 1;
+            }
+        } else if tokens.is_sign(at, Sign::Semicolon) {
+            return true;
+        } else if !is_of_header(kind) {
+            return false;
+        }
+    }
+    false
+}
+
+/// Whether a token stands in the header of a feature, outside of brackets.
+fn is_of_header(kind: Option<&TokenKind>) -> bool {
+    match kind {
+        Some(TokenKind::Sign(sign)) => *sign == Sign::Colon,
+        Some(TokenKind::Word(word)) => matches!(word, Word::Same | Word::Private),
+        Some(_) => true,
+        None => false,
+    }
 }
 
 /// A word that belongs to a statement which isn't the innermost open one.

@@ -3,7 +3,7 @@
 use crate::operators::operator_without_fit;
 use crate::said::{Part, Said};
 use crate::scene::Scene;
-use crate::table::{Quality, count_in, feature_in, plain_name};
+use crate::table::{Quality, count_in, feature_in, has_parameter, plain_name};
 use crate::tokens::{Tokens, is_closing, is_opening};
 use crate::values::{class_named_at, value_at};
 use sa_lex::{Sign, TokenKind, Word};
@@ -89,7 +89,7 @@ fn assignment_without_fit(scene: Scene<'_>, said: &mut Said) -> Result<(), Alloc
     }
     let name = scene.tokens.bytes(target);
     let all = scene.table.count(name, Quality::Any);
-    if all == 0 {
+    if all == 0 || scene.table.is_given(name) {
         return Ok(());
     }
     said.mark = scene.span(target);
@@ -190,7 +190,9 @@ fn object_without_fit(scene: Scene<'_>, said: &mut Said) -> Result<(), AllocErro
         return Ok(());
     };
     said.mark.end = scene.tokens.end(name);
-    let given = arguments_behind(scene.tokens, name);
+    let Some(given) = arguments_behind(scene.tokens, name) else {
+        return Ok(());
+    };
     let is_whole = declared.includes.is_empty();
     if is_whole && count_in(declared, b"create".as_slice(), Quality::Takes(given)) == 0 {
         said.say(&[
@@ -214,11 +216,11 @@ fn object_without_fit(scene: Scene<'_>, said: &mut Said) -> Result<(), AllocErro
     said.say_words("See what types its arguments have, and that its result is SAME.")
 }
 
-/// How many arguments stand behind a name.
-fn arguments_behind(tokens: Tokens<'_>, name: usize) -> usize {
+/// How many arguments stand behind a name, or nothing where an array literal among them hides which commas part them.
+fn arguments_behind(tokens: Tokens<'_>, name: usize) -> Option<usize> {
     let open = name.saturating_add(1);
     if !tokens.is_sign(open, Sign::LeftParen) {
-        return 0;
+        return Some(0);
     }
     let mut depth = 0usize;
     let mut count = 1usize;
@@ -228,14 +230,16 @@ fn arguments_behind(tokens: Tokens<'_>, name: usize) -> usize {
             depth = depth.saturating_add(1);
         } else if is_closing(kind) {
             depth = depth.saturating_sub(1);
+        } else if tokens.is_sign(at, Sign::Bar) {
+            return None;
         } else if depth == 1 && tokens.is_sign(at, Sign::Comma) {
             count = count.saturating_add(1);
         }
         if depth == 0 {
-            break;
+            return Some(count);
         }
     }
-    count
+    None
 }
 
 /// A call by name.
@@ -245,10 +249,9 @@ fn feature_without_fit(scene: Scene<'_>, said: &mut Said) -> Result<(), AllocErr
     if is_leaving(name) {
         return leaving(scene, said);
     }
-    if all == 0 {
+    if all == 0 || scene.table.is_given(name) {
         return Ok(());
     }
-    let given = arguments_behind(scene.tokens, scene.at);
     if is_whole_statement(scene.tokens, scene.at) {
         if all == scene.table.count(name, Quality::Gives) {
             return unused_value(scene, said);
@@ -256,6 +259,9 @@ fn feature_without_fit(scene: Scene<'_>, said: &mut Said) -> Result<(), AllocErr
     } else if all == scene.table.count(name, Quality::GivesNone) {
         return missing_value(scene, said);
     }
+    let Some(given) = arguments_behind(scene.tokens, scene.at) else {
+        return Ok(());
+    };
     if scene.table.count(name, Quality::Takes(given)) == 0 {
         return argument_count(scene, given, said);
     }
@@ -347,7 +353,7 @@ fn argument_count(scene: Scene<'_>, given: usize, said: &mut Said) -> Result<(),
 /// An argument of another type, where there is one feature of the name and the tokens tell the types.
 fn argument_type(scene: Scene<'_>, said: &mut Said) -> Result<(), AllocError> {
     let name = scene.name();
-    let Some((_, feature)) = only_feature(scene, name) else {
+    let Some((class, feature)) = only_feature(scene, name) else {
         return Ok(());
     };
     let [formal] = feature.formals.as_slice() else {
@@ -357,7 +363,7 @@ fn argument_type(scene: Scene<'_>, said: &mut Said) -> Result<(), AllocError> {
     let (Some(wanted), Some(value)) = (plain_name(&formal.ty), value_at(scene, argument)) else {
         return Ok(());
     };
-    if !is_other(scene, wanted, value.class) {
+    if !is_other(scene, wanted, value.class) || has_parameter(class, wanted) {
         return Ok(());
     }
     said.mark = scene.span(argument);

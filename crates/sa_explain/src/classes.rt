@@ -302,6 +302,16 @@ fn conflict(scene: Scene<'_>, said: &mut Said) -> Result<(), AllocError> {
 
 /// A change of a feature that isn't there.
 fn no_such_change(scene: Scene<'_>, said: &mut Said) -> Result<(), AllocError> {
+    let from_iter = matches!(scene.tokens.kind(scene.at), Some(TokenKind::IterName));
+    let to = scene.at.saturating_add(2);
+    if scene.tokens.is_feature_name(to)
+        && from_iter != matches!(scene.tokens.kind(to), Some(TokenKind::IterName))
+    {
+        said.say_words(
+            "A routine gets the name of a routine, and an iter that of an iter, which ends in `!`.",
+        )?;
+        return said.say_words("Write both names of a change with `!`, or none.");
+    }
     said.say(&[
         Part::Words("What is included has no feature "),
         Part::Code(scene.name()),
@@ -343,7 +353,7 @@ fn lacking_feature(scene: Scene<'_>, said: &mut Said) -> Result<(), AllocError> 
     let Some(class) = scene.table.class(scene.name()) else {
         return Ok(());
     };
-    if !class.includes.is_empty() {
+    if !class.includes.is_empty() || class.kind == Kind::Abstract {
         return Ok(());
     }
     for above in class.below.as_slice() {

@@ -78,6 +78,14 @@ fn small_class_name(scene: Scene<'_>, said: &mut Said) -> Result<(), AllocError>
     if !wants_class {
         return Ok(());
     }
+    if let Some(class) = class_here(scene.name()) {
+        said.say_words("Here stands the name of a class, and these are in capitals.")?;
+        return said.say(&[
+            Part::Words("Write "),
+            Part::Code(class.as_bytes()),
+            Part::Words("."),
+        ]);
+    }
     let mut name = Vec::from_slice(scene.alloc, scene.name())?;
     for byte in name.iter_mut() {
         *byte = byte.to_ascii_uppercase();
@@ -149,4 +157,16 @@ fn beside(scene: Scene<'_>, said: &mut Said) -> Result<(), AllocError> {
         Part::Words(" here."),
     ])?;
     said.say_words("The mistake is at this token or before it.")
+}
+
+/// The class that is here what other languages call by a name.
+fn class_here(name: &[u8]) -> Option<&'static str> {
+    Some(match name {
+        b"string" => "STR",
+        b"integer" | b"long" | b"number" => "INT",
+        b"boolean" => "BOOL",
+        b"character" | b"byte" => "CHAR",
+        b"list" | b"vector" => "FLIST",
+        _ => return None,
+    })
 }

@@ -5,7 +5,9 @@ use crate::operators::unknown_operator;
 use crate::said::{Part, Said};
 use crate::scene::Scene;
 use crate::table::{Quality, count_in};
-use crate::values::{Declared, class_named_at, declared_before, declares, receiver_before};
+use crate::values::{
+    Declared, class_named_at, declared_before, declares, is_in_force, receiver_before,
+};
 use sa_lex::{Sign, TokenKind, Word};
 use sa_tree::{NoMemory, Rule};
 use std::alloc::AllocError;
@@ -78,6 +80,9 @@ fn near_or_new(scene: Scene<'_>, at: usize, said: &mut Said) -> Result<(), Alloc
     let name = scene.tokens.bytes(at);
     if let Some(near) = feature_near(scene, name)? {
         return did_you_mean(near, said);
+    }
+    if scene.tokens.is_sign_back(at, 1, Sign::Dot) {
+        return said.say_words("See how the attribute is written where it is declared.");
     }
     said.say(&[
         Part::Words("A variable is declared by `"),
@@ -341,7 +346,8 @@ fn private_feature(scene: Scene<'_>, said: &mut Said) -> Result<(), AllocError> 
 fn declared_twice(scene: Scene<'_>, said: &mut Said) -> Result<(), AllocError> {
     let tokens = scene.tokens;
     for at in scene.feature..scene.at {
-        if tokens.is_lower(at) && tokens.bytes(at) == scene.name() && declares(tokens, at) {
+        let is_same = tokens.is_lower(at) && tokens.bytes(at) == scene.name();
+        if is_same && declares(tokens, at) && is_in_force(tokens, at, scene.at) {
             said.say(&[
                 Part::Code(scene.name()),
                 Part::Words(" is declared in line "),

@@ -65,6 +65,11 @@ impl<'a> Table<'a> {
         count
     }
 
+    /// Whether an include of some class gives a feature this name, so that more features have it than are written.
+    pub(crate) fn is_given(self, name: &[u8]) -> bool {
+        self.classes.iter().any(|class| gives_name(class, name))
+    }
+
     /// The first class that writes a feature of this name and quality.
     pub(crate) fn class_with(self, name: &[u8], quality: Quality) -> Option<&'a Class> {
         self.classes
@@ -112,6 +117,20 @@ pub(crate) fn count_in(class: &Class, name: &[u8], quality: Quality) -> usize {
         }
     }
     count
+}
+
+/// Whether an include of a class gives a feature this name.
+fn gives_name(class: &Class, name: &[u8]) -> bool {
+    for include in class.includes.as_slice() {
+        for change in include.changes.as_slice() {
+            if let Some(to) = &change.to
+                && to.as_slice() == name
+            {
+                return true;
+            }
+        }
+    }
+    false
 }
 
 /// The first feature of this name that a class writes.

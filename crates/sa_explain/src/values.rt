@@ -165,7 +165,7 @@ fn colon_behind(tokens: Tokens<'_>, name: usize) -> Option<usize> {
 }
 
 /// Whether what is declared at a token is still known at a later one: the list of statements around it hasn't ended.
-fn is_in_force(tokens: Tokens<'_>, from: usize, to: usize) -> bool {
+pub(crate) fn is_in_force(tokens: Tokens<'_>, from: usize, to: usize) -> bool {
     let mut depth = 0usize;
     for at in from..to {
         let kind = tokens.kind(at);
