@@ -381,13 +381,13 @@ fn begins_beside(tokens: Tokens<'_>, at: usize) -> bool {
 }
 
 /// Whether an `is` stands at a token, behind what may be the name, the arguments and the result of a feature.
-fn begins_body(tokens: Tokens<'_>, is: usize) -> bool {
-    if !tokens.is_word(is, Word::Is) {
+fn begins_body(tokens: Tokens<'_>, word: usize) -> bool {
+    if !tokens.is_word(word, Word::Is) {
         return false;
     }
     let mut depth = 0usize;
-    for back in 0..is {
-        let at = is - 1 - back;
+    for back in 0..word {
+        let at = word - 1 - back;
         let kind = tokens.kind(at);
         if is_closing(kind) {
             depth = depth.saturating_add(1);
