@@ -23,6 +23,7 @@ from report import Left
 
 CRATE = os.path.join(report.TOP, 'crates', 'sa_pages', 'src')
 COLUMNS = 79
+WIDTH = 100
 SECTION = re.compile(r'^### ([^\n]*)\n(.*?)(?=^##|\Z)', re.M | re.S)
 CODE_OF = re.compile(r'(E\d\d): (.*)')
 LINK = re.compile(r'\[([^]]*)\]\([^)]*\)')
@@ -84,10 +85,12 @@ def printed():
     return {word: report.text_of('lib', name + '.sa') for name in library.names() for word in (name, name + '.sa')}
 
 
-def constant(name, text):
-    """The constant of a text."""
+def constant(name, text, front=''):
+    """The constant of a text, laid out as `rt fmt` does: a text whose first line is long begins in a line of its own."""
     marks = '#' * (1 + max([len(run) for run in re.findall(r'"(#*)', text)], default=0))
-    return 'const %s: &str = r%s"%s"%s;\n' % (name, marks, text, marks)
+    head, literal = '%sconst %s: &str =' % (front, name), 'r%s"%s"%s;\n' % (marks, text, marks)
+    is_long = len(head) + 1 + len(literal.split('\n', 1)[0]) > WIDTH
+    return head + ('\n    ' if is_long else ' ') + literal
 
 
 def name_of(word):
@@ -112,7 +115,7 @@ def sources():
                             'Each word that can be explained, with its page.', explained()),
         'library.rt': source('//! The files of lib/. conformance/texts.py writes this file.\n', 'FILES',
                              'Each name of a file, with its text.', printed())
-        + '\n/// The files, each with what it has.\npub(crate) ' + constant('LISTED', listed())}
+        + '\n/// The files, each with what it has.\n' + constant('LISTED', listed(), 'pub(crate) ')}
 
 
 def source_differs(name, text):

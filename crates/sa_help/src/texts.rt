@@ -1,7 +1,8 @@
 //! The texts of `help` and `version`. man/sather.1 has the same commands and options, which `./test` compares.
 
 /// All commands.
-pub(crate) const ALL: &str = r#"sather compiles Sather, the language of iters, to WebAssembly, and runs it.
+pub(crate) const ALL: &str =
+    r#"sather compiles Sather, the language of iters, to WebAssembly, and runs it.
 
   sather run FILE..              compile the program in the files, and run it
   sather build -o OUT FILE..     compile it, and write its module to OUT
@@ -172,4 +173,5 @@ the one of this name, to be put beside a program.
 "#;
 
 /// The version.
-pub(crate) const VERSION: &str = "sather 1.0: a profile of Sather 1.1, to modules of WebAssembly Core 1.0\n";
+pub(crate) const VERSION: &str =
+    "sather 1.0: a profile of Sather 1.1, to modules of WebAssembly Core 1.0\n";

@@ -98,7 +98,8 @@ class ARRAY2{T} is
 end;
 "#;
 
-const FIXED: &str = r#"-- FIXED: numbers with four digits behind the point, from -214748.3647 to 214748.3647, in place of FLT. Sums are exact. Products,
+const FIXED: &str =
+    r#"-- FIXED: numbers with four digits behind the point, from -214748.3647 to 214748.3647, in place of FLT. Sums are exact. Products,
 -- quotients and roots are rounded to the nearest number, and where two are equally near to the one further from 0. What doesn't fit
 -- is the fault `overflow`.
 --
@@ -240,7 +241,8 @@ immutable class FIXED < $STR, $IS_EQ is
 end;
 "#;
 
-const FMAP: &str = r#"-- FMAP and FSET: a map and a set, found by hash, in the order in which the keys were put in. Keys are INT, CHAR, BOOL, STR, or of a
+const FMAP: &str =
+    r#"-- FMAP and FSET: a map and a set, found by hash, in the order in which the keys were put in. Keys are INT, CHAR, BOOL, STR, or of a
 -- class below $HASH that has `is_eq`; FMAP gives void where `get` finds no key, and raises a text where an index does.
 --
 --    ages ::= #FMAP{STR, INT};
@@ -448,7 +450,8 @@ class FSET{T} is
 end;
 "#;
 
-const FSTR: &str = r#"-- FSTR: a buffer of text that grows at its end. `s := s + "..."` makes a whole new text each time, and nothing that was made is given
+const FSTR: &str =
+    r#"-- FSTR: a buffer of text that grows at its end. `s := s + "..."` makes a whole new text each time, and nothing that was made is given
 -- back; a buffer takes room for what is put into it alone.
 --
 --    line ::= #FSTR;
@@ -538,7 +541,8 @@ class FSTR < $STR, $IS_EQ is
 end;
 "#;
 
-const IN_LINES: &str = r#"-- IN_LINES: the lines of the input, up to its end. `get_str` of IN gives the empty text for an empty line and at the end alike; here
+const IN_LINES: &str =
+    r#"-- IN_LINES: the lines of the input, up to its end. `get_str` of IN gives the empty text for an empty line and at the end alike; here
 -- the end is told. A line ends before its line feed; the last one may lack it, and bytes behind the last line feed are a line.
 --
 --    input ::= #IN_LINES; line:STR;
@@ -576,7 +580,8 @@ class IN_LINES is
 end;
 "#;
 
-const INTI: &str = r#"-- INTI: whole numbers of any size. A number never changes; each operation makes a new one.
+const INTI: &str =
+    r#"-- INTI: whole numbers of any size. A number never changes; each operation makes a new one.
 --
 --    power ::= #INTI(1);
 --    loop 100.times!; power := power + power; end;
@@ -772,7 +777,8 @@ class INTI < $STR, $IS_EQ is
 end;
 "#;
 
-const INTS: &str = r#"-- INTS and BITS: what INT lacks. Routines and iters take the number as their first argument: `INTS::gcd(12, 18)`. Bits are those of
+const INTS: &str =
+    r#"-- INTS and BITS: what INT lacks. Routines and iters take the number as their first argument: `INTS::gcd(12, 18)`. Bits are those of
 -- the two's complement, counted from 0 for the lowest to 31.
 --
 --    loop #OUT + INTS::stepto!(10, 0, -3) + " "; end;                                            -- 10 7 4 1
@@ -926,7 +932,8 @@ class BITS is
 end;
 "#;
 
-const LIST: &str = r#"-- LIST: a list that grows, with what FLIST of the prelude lacks. It includes FLIST and has all that this has.
+const LIST: &str =
+    r#"-- LIST: a list that grows, with what FLIST of the prelude lacks. It includes FLIST and has all that this has.
 --
 --    list ::= #LIST{INT}(|3, 1, 4, 1, 5|);
 --    list.push(9);
@@ -1049,7 +1056,8 @@ class LIST{T} is
 end;
 "#;
 
-const QUEUE: &str = r#"-- STACK, QUEUE and PRIORITY_QUEUE: what is put in comes out last in, first out; first in, first out; or the least first, by `<`. They
+const QUEUE: &str =
+    r#"-- STACK, QUEUE and PRIORITY_QUEUE: what is put in comes out last in, first out; first in, first out; or the least first, by `<`. They
 -- grow as they must.
 --
 --    stack ::= #STACK{INT}; loop stack.push(1.upto!(3)); end; #OUT + stack.pop + stack.top + stack.size + "\n";      -- 322
@@ -1177,7 +1185,8 @@ class PRIORITY_QUEUE{T} is
 end;
 "#;
 
-const RND: &str = r#"-- RND: numbers that look as if they were drawn by lot. The same seed gives the same numbers, so that a program does the same each time.
+const RND: &str =
+    r#"-- RND: numbers that look as if they were drawn by lot. The same seed gives the same numbers, so that a program does the same each time.
 -- It is the generator of Park and Miller: each number is 16807 times the one before it, modulo 2147483647, and each of 1 to
 -- 2147483646 comes once before they begin anew. It is of no use where somebody gains by guessing.
 -- Here are five throws of a die, one of a coin, and how to shuffle four cards.
@@ -1230,7 +1239,8 @@ class RND is
 end;
 "#;
 
-const SORT: &str = r#"-- SORT and SORT_BY: sorting and binary search, over arrays, lists, and the first n elements of an array. SORT goes by `<` of the
+const SORT: &str =
+    r#"-- SORT and SORT_BY: sorting and binary search, over arrays, lists, and the first n elements of an array. SORT goes by `<` of the
 -- elements, SORT_BY by a bound routine that says whether its first argument comes before its second. Equal elements keep their order.
 -- With is_shorter(a, b:STR):BOOL is return a.size < b.size; end; the shorter texts come first by SORT_BY{STR}::sort(words,
 -- bind(is_shorter(_, _))).
@@ -1343,7 +1353,8 @@ class SORT{T} is
 end;
 "#;
 
-const TEXT: &str = r#"-- CHARS and TEXT: what CHAR and STR of the prelude lack, as routines and iters of classes of their own: `TEXT::upper(s)` stands for
+const TEXT: &str =
+    r#"-- CHARS and TEXT: what CHAR and STR of the prelude lack, as routines and iters of classes of their own: `TEXT::upper(s)` stands for
 -- `s.upper`. Places count from 0. Letters are those of ASCII; other bytes are kept as they are.
 --
 --    loop word ::= TEXT::split!("one, two,three", ','); #OUT + "[" + TEXT::trim(word) + "]"; end;    -- [one][two][three]
@@ -1574,7 +1585,8 @@ class TEXT is
 end;
 "#;
 
-const TUP: &str = r#"-- TUP and TUP3: two or three values as one, for routines that give several and for lists of pairs. They are values: an assignment to
+const TUP: &str =
+    r#"-- TUP and TUP3: two or three values as one, for routines that give several and for lists of pairs. They are values: an assignment to
 -- an attribute of a variable changes this variable alone.
 --
 --    pair ::= #TUP{STR, INT}("Ann", 31);
@@ -1606,7 +1618,8 @@ end;
 "#;
 
 /// The files, each with what it has.
-pub(crate) const LISTED: &str = r#"array2     ARRAY2: an array of rows and columns, both counted from 0
+pub(crate) const LISTED: &str =
+    r#"array2     ARRAY2: an array of rows and columns, both counted from 0
 fixed      FIXED: numbers with four digits behind the point, from -214748.3647
            to 214748.3647, in place of FLT
 fmap       FMAP and FSET: a map and a set, found by hash, in the order in which

@@ -1,3 +1,4 @@
+pub mod HelpLemmas
 pub mod LineLemmas
 pub mod NumberLemmas
 pub mod ProgramLemmas

@@ -17,6 +17,14 @@ ends_options word = bytes_eq word (codes "--")
 abbrev pub asks_help : List (List ℕ) → Bool
 asks_help words = option_map_or is_help (find (λ word. is_help word || ends_options word) words) false
 
+-- the command of this name, where it is one that prints a text
+abbrev pub telling_topic : List ℕ → Option Topic
+telling_topic name =
+    if bytes_eq name (codes "help") then Some topic.Help
+    else (if bytes_eq name (codes "version") then Some topic.Version
+    else (if bytes_eq name (codes "explain") then Some topic.Explain
+    else (if bytes_eq name (codes "lib") then Some topic.Library else None)))
+
 -- the command of this name
 abbrev pub topic_named : List ℕ → Option Topic
 topic_named name =
@@ -28,14 +36,6 @@ topic_named name =
     else (if bytes_eq name (codes "selftest") then Some topic.Selftest
     else (if bytes_eq name (codes "listing") then Some topic.Listing
     else (if bytes_eq name (codes "assemble") then Some topic.Assemble else telling_topic name)))))))
-
--- the command of this name, where it is one that prints a text
-abbrev pub telling_topic : List ℕ → Option Topic
-telling_topic name =
-    if bytes_eq name (codes "help") then Some topic.Help
-    else (if bytes_eq name (codes "version") then Some topic.Version
-    else (if bytes_eq name (codes "explain") then Some topic.Explain
-    else (if bytes_eq name (codes "lib") then Some topic.Library else None)))
 
 -- what help is about that is asked for so: the command that the words begin with, or all of them where they begin with this word
 abbrev pub asked_topic : List (List ℕ) → Option Topic

@@ -1,5 +1,5 @@
 -- Which command a line of words is.
-use Rattle.std.specs.Prelude.{◌^◌, ◌-◌, ◌&&◌, ℕ, Bool, false, List, [], ◌∷◌, Option, None, Some, codes}
+use Rattle.std.specs.Prelude.{◌^◌, ◌-◌, ◌&&◌, ℕ, Bool, false, List, [], Option, None, Some, codes}
 use Rattle.std.specs.Prelude.{length, map, if◌then◌else◌, nat_le, option_map, option_and_then, unwrap_or}
 use Rattle.std.specs.List.{list_any}
 use Rattle.std.specs.Option.{option_map_or}
@@ -92,15 +92,15 @@ run_in rows =
     (λ fuel. option_map (λ room. Run fuel room (stats_in rows) (contracts_in rows) (trace_in rows) (detail_in rows) (files_in rows)) (room_in rows))
     (fuel_in rows)
 
--- the file that is written, which is none of those that are read
-abbrev pub out_in : (read : List Text) → List Row → Option Text
-out_in read rows =
-    option_and_then (λ out. if list_any (bytes_eq out) read then None else Some out) (first_of (codes "out") rows)
+-- a build into this file, if it is none of those that are read
+abbrev pub build_into : ℕ → Contracts → Detail → (out : Text) → (files : List Text) → Option Line
+build_into room contracts detail out files = if list_any (bytes_eq out) files then None else Some (Build room contracts detail out files)
 
 abbrev pub build_in : List Row → Option Line
 build_in rows =
     option_and_then
-    (λ room. option_map (λ out. Build room (contracts_in rows) (detail_in rows) out (files_in rows)) (out_in (files_in rows) rows)) (room_in rows)
+    (λ room. option_and_then (λ out. build_into room (contracts_in rows) (detail_in rows) out (files_in rows)) (first_of (codes "out") rows))
+    (room_in rows)
 
 abbrev pub check_in : List Row → Line
 check_in rows = Check (contracts_in rows) (detail_in rows) (files_in rows)
@@ -115,9 +115,13 @@ classes_in rows = option_and_then (number_in 1 500) (first_of (codes "classes") 
 abbrev pub listing_in : List Row → Option Line
 listing_in rows = option_map Listing (first_of (codes "module") rows)
 
+-- the module of this listing into this file, if it is another one
+abbrev pub assemble_into : (out : Text) → (file : Text) → Option Line
+assemble_into out file = if bytes_eq out file then None else Some (Assemble out file)
+
 abbrev pub assemble_in : List Row → Option Line
 assemble_in rows =
-    option_and_then (λ file. option_map (λ out. Assemble out file) (out_in (file ∷ []) rows)) (first_of (codes "file") rows)
+    option_and_then (λ out. option_and_then (assemble_into out) (first_of (codes "file") rows)) (first_of (codes "out") rows)
 
 -- what help is about: a command, or all of them where none is named
 abbrev pub help_in : List Row → Option Line

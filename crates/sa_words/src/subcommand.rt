@@ -1,9 +1,10 @@
 //! A subcommand with its matches, as a command.
 
-ghost use Rattle.std.specs.Prelude.{◌≡◌, IfOk, Some, map, option_map};
+ghost use Rattle.std.specs.List.{list_any};
+ghost use Rattle.std.specs.Prelude.{◌≡◌, IfOk, Some, bytes_eq, map, option_map};
 ghost use Rattle.clap.specs.Words.{all_of, first_of, found_of, rows_of};
 ghost use Rattle.sa_words.specs.Line.{assemble_in, build_in, check_in, classes_in, contracts_in, detail_in, exec_in, files_in, fuel_in};
-ghost use Rattle.sa_words.specs.Line.{is_given, line_of, listing_in, named_line, out_in, room_in, run_in, stats_in, trace_in, Gen, Selftest};
+ghost use Rattle.sa_words.specs.Line.{is_given, line_of, listing_in, named_line, room_in, run_in, stats_in, trace_in, Gen, Selftest};
 
 use crate::command::{
     Assemble, Build, Check, Command, Contracts, Detail, Exec, Listing, Run, Trace,
@@ -135,22 +136,23 @@ fn run<'a>(alloc: Global, matches: &ArgMatches<'a>) -> Result<Option<Command<'a>
     })))
 }
 
-/// The name of the file that is written, if it is none of those that are read.
-fn out<'a>(matches: &ArgMatches<'a>, read: &[&str]) -> Option<&'a str>
-    ensures { option_map (λ out. out.now) result ≡ out_in (map (λ file. file.now) read.now) (rows_of (found_of matches.now)) }
+/// Whether the name is one of these.
+fn is_among(name: &str, names: &[&str]) -> bool
+    ensures { result ≡ list_any (bytes_eq name.now) (map (λ other. other.now) names.now) }
 {
-    let out = value(matches, "out")?;
-    let is_read = read.iter().any(|file| out == *file);
-    (!is_read).then_some(out)
+    names.iter().any(|other| name == *other)
 }
 
 fn build<'a>(alloc: Global, matches: &ArgMatches<'a>) -> Result<Option<Command<'a>>, AllocError>
     ensures { IfOk result (λ command. option_map line_of command ≡ build_in (rows_of (found_of matches.now))) }
 {
     let files = files(alloc, matches)?;
-    let (Some(room), Some(out)) = (room(matches), out(matches, files.as_slice())) else {
+    let (Some(room), Some(out)) = (room(matches), value(matches, "out")) else {
         return Ok(None);
     };
+    if is_among(out, files.as_slice()) {
+        return Ok(None);
+    }
     Ok(Some(Command::Build(Build {
         room,
         contracts: contracts(matches),
@@ -214,8 +216,11 @@ fn listing<'a>(matches: &ArgMatches<'a>) -> Option<Command<'a>>
 fn assemble<'a>(matches: &ArgMatches<'a>) -> Option<Command<'a>>
     ensures { option_map line_of result ≡ assemble_in (rows_of (found_of matches.now)) }
 {
+    let out = value(matches, "out")?;
     let file = value(matches, "file")?;
-    let out = out(matches, &[file])?;
+    if out == file {
+        return None;
+    }
     Some(Command::Assemble(Assemble { out, file }))
 }
 

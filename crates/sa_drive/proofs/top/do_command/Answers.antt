@@ -21,3 +21,15 @@ returns-in-Selftest-clause-does g c = rw c.in-Selftest.is (c.selftest.ensures.do
 
 pub returns-in-Listing-clause-does : goal.returns-in-Listing-clause-does
 returns-in-Listing-clause-does g c = rw c.in-Listing.is (c.listing.ensures.does, ((refl, refl), c.listing.ensures.listening))
+
+pub returns-in-Help-clause-does : goal.returns-in-Help-clause-does
+returns-in-Help-clause-does g c = rw c.in-Help.is (c.help.ensures.does, ((refl, refl), c.help.ensures.listening))
+
+pub returns-in-Version-clause-does : goal.returns-in-Version-clause-does
+returns-in-Version-clause-does g c = rw c.in-Version.is (c.version.ensures.does, ((refl, refl), c.version.ensures.listening))
+
+pub returns-in-Explain-clause-does : goal.returns-in-Explain-clause-does
+returns-in-Explain-clause-does g c = rw c.in-Explain.is (c.explain.ensures.does, ((refl, refl), c.explain.ensures.listening))
+
+pub returns-in-Library-clause-does : goal.returns-in-Library-clause-does
+returns-in-Library-clause-does g c = rw c.in-Library.is (c.library.ensures.does, ((refl, refl), c.library.ensures.listening))
