@@ -6,7 +6,7 @@ Holds the texts that `sather explain` and `sather lib` print to the files that t
 
 - crates/sa_pages/src/errors.rt has the sections of docs/ERRORS.md, and crates/sa_pages/src/library.rt the files of lib/; both are
   what this script writes with --write;
-- `sather explain WORD` prints the section of each code, of each text of a fault or cause, and of the heading as a whole;
+- `sather explain WORD` prints the section of each code, of each text of a line, and of both as they stand in a line;
 - `sather lib` lists the files of lib/ with what each has, and `sather lib NAME` prints one, with `.sa` or without.
 
 A page is a section as a terminal shows it: without the marks of headings and links, in lines of at most 79 columns, with programs
@@ -23,7 +23,7 @@ from report import Left
 
 CRATE = os.path.join(report.TOP, 'crates', 'sa_pages', 'src')
 COLUMNS = 79
-WIDTH = 100
+WIDTH, ROW_WIDTH = 100, 60
 SECTION = re.compile(r'^### ([^\n]*)\n(.*?)(?=^##|\Z)', re.M | re.S)
 CODE_OF = re.compile(r'(E\d\d): (.*)')
 LINK = re.compile(r'\[([^]]*)\]\([^)]*\)')
@@ -53,19 +53,23 @@ def page(heading, text):
 
 
 def words_of(heading):
-    """The words that ask for the section with this heading."""
+    """The three words that ask for the section with this heading: its code, its text, and both as they stand in a line."""
     if code := CODE_OF.fullmatch(heading):
-        return [code[1], code[1].lower(), code[2], heading]
-    return list(dict.fromkeys([heading.removeprefix('fault: '), heading]))
+        return code[1], code[2], heading
+    return heading.removeprefix('fault: '), heading, heading
 
 
 def explained():
-    """Each word with the page that it asks for: one section, or those of all headings that it is a word of."""
-    found = {}
+    """The pages, each behind the words that ask for it. A section that has a word of an earlier one stands in the page of that one."""
+    rows = []
     for heading, text in sections().items():
-        for word in words_of(heading):
-            found.setdefault(word, []).append(page(heading, text))
-    return {word: '\n'.join(pages) for word, pages in found.items()}
+        words = words_of(heading)
+        first = next((row for row in rows if set(row[:-1]) & set(words)), None)
+        if first:
+            first[-1] += '\n' + page(heading, text)
+        else:
+            rows.append([*words, page(heading, text)])
+    return rows
 
 
 def what_has(name):
@@ -81,8 +85,8 @@ def listed():
 
 
 def printed():
-    """Each name of a file of lib/ with its text."""
-    return {word: report.text_of('lib', name + '.sa') for name in library.names() for word in (name, name + '.sa')}
+    """The files of lib/, each behind the words that ask for it."""
+    return [[name, name + '.sa', name + '.sa', report.text_of('lib', name + '.sa')] for name in library.names()]
 
 
 def constant(name, text, front=''):
@@ -98,23 +102,29 @@ def name_of(word):
     return re.sub(r'\W+', '_', word).upper()
 
 
+def row(words, name):
+    """A row of a table, laid out as `rt fmt` does."""
+    parts = ['"%s"' % word for word in words] + [name]
+    if len(', '.join(parts)) <= ROW_WIDTH:
+        return '    (%s),\n' % ', '.join(parts)
+    return '    (\n%s    ),\n' % ''.join('        %s,\n' % part for part in parts)
+
+
 def source(head, table, says, texts):
     """The source of a table of words with their texts: a constant for each text, named by the first word that asks for it."""
-    names = {}
-    for word, text in texts.items():
-        names.setdefault(text, name_of(word))
-    rows = ''.join('    ("%s", %s),\n' % (word, names[text]) for word, text in texts.items())
-    constants = '\n'.join(constant(name, text) for text, name in names.items())
-    return '%s\n/// %s\npub(crate) const %s: [(&str, &str); %d] = [\n%s];\n\n%s' % (head, says, table, len(texts), rows, constants)
+    rows = ''.join(row(words, name_of(words[0])) for *words, _ in texts)
+    constants = '\n'.join(constant(name_of(words[0]), text) for *words, text in texts)
+    return '%s\n/// %s\npub(crate) const %s: [(&str, &str, &str, &str); %d] = [\n%s];\n\n%s' % (
+        head, says, table, len(texts), rows, constants)
 
 
 def sources():
     """The sources of the crate that this script writes, by their names."""
     return {
         'errors.rt': source('//! The sections of docs/ERRORS.md. conformance/texts.py writes this file.\n', 'ERRORS',
-                            'Each word that can be explained, with its page.', explained()),
+                            'The pages, each behind the words that ask for it.', explained()),
         'library.rt': source('//! The files of lib/. conformance/texts.py writes this file.\n', 'FILES',
-                             'Each name of a file, with its text.', printed())
+                             'The files, each behind the words that ask for it.', printed())
         + '\n/// The files, each with what it has.\n' + constant('LISTED', listed(), 'pub(crate) ')}
 
 
@@ -131,9 +141,9 @@ def tried(program, command):
 
 def commands():
     """The commands that print a text, each with its text."""
-    yield from ((('explain', word), text) for word, text in explained().items())
+    for command, texts in (('explain', explained()), ('lib', printed())):
+        yield from (((command, word), text) for *words, text in texts for word in dict.fromkeys(words))
     yield ('lib',), listed()
-    yield from ((('lib', name), text) for name, text in printed().items())
 
 
 def try_all(program, told, word=''):

@@ -1,33 +1,20 @@
 //! The files of lib/. conformance/texts.py writes this file.
 
-/// Each name of a file, with its text.
-pub(crate) const FILES: [(&str, &str); 26] = [
-    ("array2", ARRAY2),
-    ("array2.sa", ARRAY2),
-    ("fixed", FIXED),
-    ("fixed.sa", FIXED),
-    ("fmap", FMAP),
-    ("fmap.sa", FMAP),
-    ("fstr", FSTR),
-    ("fstr.sa", FSTR),
-    ("in_lines", IN_LINES),
-    ("in_lines.sa", IN_LINES),
-    ("inti", INTI),
-    ("inti.sa", INTI),
-    ("ints", INTS),
-    ("ints.sa", INTS),
-    ("list", LIST),
-    ("list.sa", LIST),
-    ("queue", QUEUE),
-    ("queue.sa", QUEUE),
-    ("rnd", RND),
-    ("rnd.sa", RND),
-    ("sort", SORT),
-    ("sort.sa", SORT),
-    ("text", TEXT),
-    ("text.sa", TEXT),
-    ("tup", TUP),
-    ("tup.sa", TUP),
+/// The files, each behind the words that ask for it.
+pub(crate) const FILES: [(&str, &str, &str, &str); 13] = [
+    ("array2", "array2.sa", "array2.sa", ARRAY2),
+    ("fixed", "fixed.sa", "fixed.sa", FIXED),
+    ("fmap", "fmap.sa", "fmap.sa", FMAP),
+    ("fstr", "fstr.sa", "fstr.sa", FSTR),
+    ("in_lines", "in_lines.sa", "in_lines.sa", IN_LINES),
+    ("inti", "inti.sa", "inti.sa", INTI),
+    ("ints", "ints.sa", "ints.sa", INTS),
+    ("list", "list.sa", "list.sa", LIST),
+    ("queue", "queue.sa", "queue.sa", QUEUE),
+    ("rnd", "rnd.sa", "rnd.sa", RND),
+    ("sort", "sort.sa", "sort.sa", SORT),
+    ("text", "text.sa", "text.sa", TEXT),
+    ("tup", "tup.sa", "tup.sa", TUP),
 ];
 
 const ARRAY2: &str = r#"-- ARRAY2: an array of rows and columns, both counted from 0.

@@ -1,39 +1,23 @@
 //! Which text a word asks for.
 
-ghost use Rattle.std.specs.Prelude.{◌≡◌, option_map};
-ghost use Rattle.sa_pages.specs.Pages.{error_page, error_pages, library_file, library_files, library_list, text_beside};
+ghost use Rattle.std.specs.Prelude.{◌≡◌, map, option_map};
+ghost use Rattle.sa_pages.specs.Pages.{asked_row, error_page, error_pages, library_file, library_files, library_list, seen_row};
 
 use crate::errors::ERRORS;
 use crate::library::{FILES, LISTED};
 
-/// The page that explains a code, as `E33`, or the text of a fault or of a cause, as `index`.
+/// The page that explains a code, as `E33`, or the text of a line, as `index`.
 pub fn error_page(word: &str) -> Option<&'static str>
     ensures { option_map (λ page. page.now) result ≡ error_page word.now }
 {
-    text_beside(error_pages(), word)
+    text_behind(error_pages(), word)
 }
 
 /// The file of the library with this name, with `.sa` or without.
 pub fn library_file(name: &str) -> Option<&'static str>
     ensures { option_map (λ file. file.now) result ≡ library_file name.now }
 {
-    text_beside(library_files(), name)
-}
-
-/// The pages, each beside a word that asks for it.
-#[tactic(auto, unfolding(crate::specs::Pages::error_pages))]
-fn error_pages() -> &'static [(&'static str, &'static str)]
-    ensures { result.now ≡ error_pages }
-{
-    &ERRORS
-}
-
-/// The files of the library, each beside a name of it.
-#[tactic(auto, unfolding(crate::specs::Pages::library_files))]
-fn library_files() -> &'static [(&'static str, &'static str)]
-    ensures { result.now ≡ library_files }
-{
-    &FILES
+    text_behind(library_files(), name)
 }
 
 /// The list of the files of the library.
@@ -44,10 +28,34 @@ pub fn library_list() -> &'static str
     LISTED
 }
 
-/// The text of the first row of a table that begins with this word.
-fn text_beside(table: &[(&'static str, &'static str)], word: &str) -> Option<&'static str>
-    ensures { option_map (λ text. text.now) result ≡ text_beside table.now word.now }
+/// The pages, each behind the words that ask for it.
+#[tactic(auto, unfolding(crate::specs::Pages::error_pages))]
+fn error_pages() -> &'static [(&'static str, &'static str, &'static str, &'static str)]
+    ensures { map seen_row result.now ≡ error_pages }
 {
-    let row = table.iter().find(|row| word == row.0)?;
-    Some(row.1)
+    &ERRORS
+}
+
+/// The files of the library, each behind the words that ask for it.
+#[tactic(auto, unfolding(crate::specs::Pages::library_files))]
+fn library_files() -> &'static [(&'static str, &'static str, &'static str, &'static str)]
+    ensures { map seen_row result.now ≡ library_files }
+{
+    &FILES
+}
+
+/// The text of the first row of a table that has this word.
+fn text_behind(
+    table: &[(&'static str, &'static str, &'static str, &'static str)],
+    word: &str,
+) -> Option<&'static str>
+    ensures { option_map (λ text. text.now) result ≡ asked_row word.now (map seen_row table.now) }
+{
+    match table
+        .iter()
+        .find(|row| word == row.0 || word == row.1 || word == row.2)
+    {
+        Some(row) => Some(row.3),
+        None => None,
+    }
 }
