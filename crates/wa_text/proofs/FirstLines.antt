@@ -50,13 +50,13 @@ cut_at_feed : (text : List ℕ) → IsUnbroken text ⊎ ((bytes : List ℕ) × (
 cut_at_feed [] = inl tt
 cut_at_feed (b ∷ text) = by_byte (b == 10) refl (cut_at_feed text)
   where
+    differs : (c : ℕ) → (c == 10) ≡ false → c ≢ 10
+    differs c is same = let no : true ≡ false = sym (ap (λ (n : ℕ). n == 10) same) ∙ is in cc
+
     by_byte : (t : Bool) → (b == 10) ≡ t → IsUnbroken text ⊎ ((bytes : List ℕ) × (rest : List ℕ) × (text ≡ bytes ++ 10 ∷ rest) × IsUnbroken bytes) → IsUnbroken (b ∷ text) ⊎ ((bytes : List ℕ) × (rest : List ℕ) × (b ∷ text ≡ bytes ++ 10 ∷ rest) × IsUnbroken bytes)
     by_byte true is h = inr ([], text, ap (λ (c : ℕ). c ∷ text) (eqb-true b 10 is), tt)
     by_byte false is (inl h) = inl (differs b is, h)
     by_byte false is (inr h) = inr (b ∷ h.0, h.1, ap (λ (s : List ℕ). b ∷ s) h.2, (differs b is, h.3))
-
-    differs : (c : ℕ) → (c == 10) ≡ false → c ≢ 10
-    differs c is same = let no : true ≡ false = sym (ap (λ (n : ℕ). n == 10) same) ∙ is in cc
 
 has_feed : (bytes x : List ℕ) → IsUnbroken (bytes ++ 10 ∷ x) → ⊥
 has_feed [] x h = h.0 refl
@@ -181,6 +181,10 @@ none_begins_so text other at n m r is h same =
 pub none_ends_so : (text other : List ℕ) (at n : ℕ) (l m : Module) → at ≤ length text → at ≢ length text → Spelled (module_lines l) text 0 at → (rows_at text at ≢ [] → Refused module_lines nothing text 0 at) → n ≡ count_by (λ b. b == 10) (take at text) + 1 → IsListing other m → first_lines n other ≢ first_lines n text
 none_ends_so text other at n l m within more h refuse is listing same = by_rows (cases_rows (rows_at text at))
   where
+    by_feed : (tail : List ℕ) → rows tail ≡ [] → (rest : List ℕ) → first_lines 1 rest ≡ first_lines 1 tail → IsUnbroken tail ⊎ ((bytes : List ℕ) × (more : List ℕ) × (tail ≡ bytes ++ 10 ∷ more) × IsUnbroken bytes) → rest ≡ tail
+    by_feed tail none rest same (inl whole) = whole_of rest tail whole (same ∙ less_than_line 0 tail whole)
+    by_feed tail none rest same (inr k) = let no : words_of k.0 ∷ rows k.1 ≡ [] = sym (rows_line k.0 k.1 k.3) ∙ ap rows (sym k.2) ∙ none in let never : ⊥ = cc in absurd never
+
     by_rows : (rows_at text at ≡ []) ⊎ (rows_at text at ≢ []) → ⊥
     by_rows (inr some) = none_begins_so text other at n m (refuse some) is listing same
     by_rows (inl none) =
@@ -193,7 +197,3 @@ none_ends_so text other at n l m within more h refuse is listing same = by_rows 
         let texts_are : text_of h.lines ++ k.0 ≡ text_of h.lines ++ [] = sym k.1 ∙ listing.3 ∙ ap text_of (sym lines) ∙ sym (append-nil (text_of h.lines)) in
         let empty : k.0 ≡ [] = append_cancel_left (text_of h.lines) k.0 [] texts_are in
         omega (arith, ap length (sym rest ∙ empty), length-drop at text)
-
-    by_feed : (tail : List ℕ) → rows tail ≡ [] → (rest : List ℕ) → first_lines 1 rest ≡ first_lines 1 tail → IsUnbroken tail ⊎ ((bytes : List ℕ) × (more : List ℕ) × (tail ≡ bytes ++ 10 ∷ more) × IsUnbroken bytes) → rest ≡ tail
-    by_feed tail none rest same (inl whole) = whole_of rest tail whole (same ∙ less_than_line 0 tail whole)
-    by_feed tail none rest same (inr k) = let no : words_of k.0 ∷ rows k.1 ≡ [] = sym (rows_line k.0 k.1 k.3) ∙ ap rows (sym k.2) ∙ none in let never : ⊥ = cc in absurd never

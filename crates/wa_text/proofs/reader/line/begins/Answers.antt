@@ -13,7 +13,7 @@ returns-clause-yes c = λ yes.
     let line = c.in-Some.line.now in
     let first = c.first_word.result.now in
     let words = first_word_of line first c.first_word.ensures.unparted c.first_word.ensures.front in
-    row_begins c.args.text.now c.args.at c.in-Some.end line first c.args.word.now words.0 c.in-Some.ensures.found c.in-Some.ensures.unbroken words.1
+    row_begins c.args.text.now c.args.at c.in-Some._end line first c.args.word.now words.0 c.in-Some.ensures.found c.in-Some.ensures.unbroken words.1
     ((slice_eq-Decides Decides-eqb first c.args.word.now c.eq.result c.eq.ensures).0 yes)
 
 pub returns-clause-no : goal.returns-clause-no
@@ -21,5 +21,5 @@ returns-clause-no c = λ no.
     let line = c.in-Some.line.now in
     let first = c.first_word.result.now in
     let words = first_word_of line first c.first_word.ensures.unparted c.first_word.ensures.front in
-    row_otherwise c.args.text.now c.args.at c.in-Some.end line first c.args.word.now words.0 c.in-Some.ensures.found c.in-Some.ensures.unbroken words.1
+    row_otherwise c.args.text.now c.args.at c.in-Some._end line first c.args.word.now words.0 c.in-Some.ensures.found c.in-Some.ensures.unbroken words.1
     (λ same. let equal : c.eq.result ≡ true = (slice_eq-Decides Decides-eqb first c.args.word.now c.eq.result c.eq.ensures).1 same in let never : ⊥ = cc in never)
