@@ -1,11 +1,9 @@
 //! Why a text isn't known to be a listing.
 
 ghost use Rattle.std.specs.Prelude.{◌≡◌};
-ghost use Rattle.hex.specs.declared.error.FromHexError.TheVariants as hex;
 ghost use Rattle.wa_text.specs.declared.fault.LineFault.TheVariants as line;
 ghost use Rattle.wa_text.specs.declared.fault.TextFault.TheVariants as text;
 
-use hex::FromHexError;
 use std::alloc::{AllocError, AllocFailed};
 use thiserror::Error;
 
@@ -45,12 +43,9 @@ pub enum LineFault {
 
 impl LineFault {
     /// The fault of the text, by the place of the line.
-    pub fn at(self, place: u32) -> TextFault
-        ensures wrong { self ≡ line.Wrong → result ≡ text.Wrong place }
-        ensures memory { self ≡ line.NoMemory → result ≡ text.NoMemory }
-    {
+    pub fn at(self, line: u32) -> TextFault {
         match self {
-            LineFault::Wrong => TextFault::Wrong(place),
+            LineFault::Wrong => TextFault::Wrong(line),
             LineFault::NoMemory => TextFault::NoMemory,
         }
     }
@@ -69,17 +64,6 @@ impl<T: Drop> From<AllocFailed<T>> for TextFault {
 
     fn from(_: AllocFailed<T>) -> TextFault {
         TextFault::NoMemory
-    }
-}
-
-impl From<FromHexError> for LineFault {
-    ghost from_gives = { λ e fault. e ≡ hex.OutOfMemory → fault ≡ line.NoMemory };
-
-    fn from(e: FromHexError) -> LineFault {
-        match e {
-            FromHexError::OutOfMemory => LineFault::NoMemory,
-            _ => LineFault::Wrong,
-        }
     }
 }
 
