@@ -3,6 +3,7 @@ pub mod Coded
 pub mod Contents
 pub mod Effects
 pub mod Filled
+pub mod Fusing
 pub mod Grown
 pub mod Lays
 pub mod Linking
@@ -10,5 +11,6 @@ pub mod Numbered
 pub mod Overwritten
 pub mod Placed
 pub mod Places
+pub mod Plain
 pub mod Resolved
 pub mod Rows

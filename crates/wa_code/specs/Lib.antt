@@ -3,3 +3,4 @@ pub mod Contents
 pub mod Drafts
 pub mod Laid
 pub mod Places
+pub mod Spelled

@@ -7,6 +7,7 @@ mod code;
 mod draft;
 mod flat;
 mod functions;
+mod fused;
 mod instance;
 mod labels;
 mod layout;
@@ -17,6 +18,7 @@ mod table;
 mod types;
 
 pub use code::{Body, Code};
+pub use fused::Fused;
 pub use instance::{Instance, InstanceFault, PAGE};
 pub use op::{Op, Target};
 pub use segments::segments_fit;
