@@ -165,7 +165,11 @@ impl Graph {
     }
 
     /// The same edges the other way round.
-    fn turned(&self, alloc: Global) -> Result<Graph, NoMemory> {
+    ///
+    /// # Errors
+    ///
+    /// `NoMemory`.
+    pub fn turned(&self, alloc: Global) -> Result<Graph, NoMemory> {
         let starts = Vec::from_slice(alloc, self.ends.as_slice())?;
         let ends = Vec::from_slice(alloc, self.starts.as_slice())?;
         Graph::new(alloc, self.count, starts, ends)
