@@ -3,7 +3,6 @@ pub mod Coded
 pub mod Contents
 pub mod Effects
 pub mod Filled
-pub mod Fusing
 pub mod Grown
 pub mod Lays
 pub mod Linking
@@ -11,6 +10,5 @@ pub mod Numbered
 pub mod Overwritten
 pub mod Placed
 pub mod Places
-pub mod Plain
 pub mod Resolved
 pub mod Rows

@@ -3,4 +3,3 @@ pub mod Contents
 pub mod Drafts
 pub mod Laid
 pub mod Places
-pub mod Spelled

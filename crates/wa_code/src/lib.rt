@@ -7,7 +7,6 @@ mod code;
 mod draft;
 mod flat;
 mod functions;
-mod fused;
 mod instance;
 mod labels;
 mod layout;
@@ -18,7 +17,6 @@ mod table;
 mod types;
 
 pub use code::{Body, Code};
-pub use fused::Fused;
 pub use instance::{Instance, InstanceFault, PAGE};
 pub use op::{Op, Target};
 pub use segments::segments_fit;

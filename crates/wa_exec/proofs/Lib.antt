@@ -6,7 +6,6 @@ pub mod CallTurns
 pub mod Calling
 pub mod Ends
 pub mod Frames
-pub mod FusedArms
 pub mod HandingOn
 pub mod HostCalls
 pub mod InAndOut

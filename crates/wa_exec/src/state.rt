@@ -58,7 +58,7 @@ impl State {
             };
         }
         let stretch = run_activation(
-            &code.ops,
+            code.ops.as_slice(),
             code.targets.as_slice(),
             self.calls.region.top_mut(),
             self.globals.as_mut_slice(),

@@ -8,6 +8,6 @@ mod operands;
 mod words;
 
 pub use memory::{load, store};
-pub use numeric::{binary32, binary32_with, binary64, binary64_with, unary32, unary64};
+pub use numeric::{binary32, binary64, unary32, unary64};
 pub use operands::{keep_top, pop_into, select};
 pub use words::{low, push, read, write};

@@ -13,9 +13,9 @@ use Rattle.wa_exec.proofs.state.State.run.Goals as goal
 pub returns-clause-run : goal.returns-clause-run
 returns-clause-run c = λ m frame frames s stands safe are.
     let row = row_of c.args.code.now in
-    let given : Row = record { ops = c.args.code.now.ops; targets = c.as_slice.result.now } in
+    let given : Row = record { ops = c.as_slice.result.now; targets = c.as_slice-2.result.now } in
     let callers = reverse c.args.self.now.calls.callers.items in
-    let rows : given ≡ row = cc c.as_slice.ensures.value in
+    let rows : given ≡ row = cc (c.as_slice.ensures.value, c.as_slice-2.ensures.value) in
     let frame_is : c.top_mut.result.now ≡ frame = c.top_mut.ensures.value ∙ ap top are in
     let started = begins m row (flat_of c.args.self.now) s frame frames stands are safe in
     let begun = begins-given m row given callers frames s.waiting s.state rows c.args.self.now.calls.at c.args.self.now.calls.height frame c.top_mut.result.now c.args.self.now.globals.items c.as_mut_slice.result.now c.args.self.now.bytes.items c.as_mut_slice-2.result.now frame_is c.as_mut_slice.ensures.value c.as_mut_slice-2.ensures.value started in
