@@ -27,11 +27,11 @@ pub(crate) struct Caller {
 /// The open activations, and where the last one is.
 #[derive(Drop)]
 pub(crate) struct Calls {
-    pub region: Region,
-    pub callers: Vec<Caller>,
     /// The place of the next instruction.
     pub at: usize,
-    /// The height of the operands.
+    pub region: Region,
+    pub callers: Vec<Caller>,
+    /// The height of the operands. Apart from the place: two neighbours would be copied as one, which waits for both.
     pub height: usize,
 }
 
