@@ -26,7 +26,9 @@ ENDLESS = b'class MAIN is main is loop #OUT + "and so on\\n"; end; end; end;'
 LONG = b'class MAIN is main is loop i ::= 0.upto!(9999); #OUT + "0123456\\n"; end; end; end;'
 ASKS = b'class MAIN is main is #OUT + "q"; loop b ::= #IN.get_byte; while!(b >= 0); #OUT + b.char; end; #OUT + "."; end; end;'
 FAULT = b'class MAIN is main is #OUT + "a"; #OUT + 1 / 0; end; end;'
-SOURCES = {'f.sa': HELLO, 'unknown.sa': UNKNOWN, 'endless.sa': ENDLESS, 'long.sa': LONG, 'asks.sa': ASKS, 'fault.sa': FAULT}
+WIDE = b'class MAIN is main is #OUT + "%s"; end; end;' % (b'w' * 20_000)
+SOURCES = {'f.sa': HELLO, 'unknown.sa': UNKNOWN, 'endless.sa': ENDLESS, 'long.sa': LONG, 'asks.sa': ASKS, 'fault.sa': FAULT,
+           'wide.sa': WIDE}
 LONG_OUTPUT = b'0123456\n' * 10_000
 
 USAGE = Left(lines=b'usage: sather run, build, check, exec, gen, selftest, listing or assemble\n', status=124)
@@ -36,7 +38,7 @@ OUTPUT_FAULT = Left(lines=b'output fault\n', status=123)
 FAULTED = Left(b'a', b'fault.sa:1: fault: division by zero\n', 121)
 
 LARGE = 4 << 30     # bytes of a file that has no content
-DISK = 8192         # bytes of the disk that gets full: fewer than a module has
+DISK = 8192         # bytes of the disk that gets full: fewer than the module of WIDE has
 CUT = 4096          # the most bytes of a file where a limit cuts it
 NOBODY = 65534
 
@@ -67,6 +69,8 @@ class Host:
         self.program, self.folder, self.told = program, folder, told
         self.run('build', '-o', 'module', 'f.sa')
         self.module = self.content('module')
+        self.run('build', '-o', 'wide', 'wide.sa')
+        self.wide_module = self.content('wide')
         shutil.copy(program, self.path('program'))
         os.mkdir(self.path('folder'))
         os.mkfifo(self.path('pipe'))
@@ -196,10 +200,11 @@ class Host:
             yield '%s for a module is a store fault' % what, wrong
         self.put('own.sa', HELLO)
         left = self.run('build', '-o', 'own.sa', 'own.sa')
-        yield 'a module may take its source\'s place', self.wrong(Left(), left, 'own.sa', self.module)
-        left = self.run('build', '-o', 'unknown.sa', 'unknown.sa')
+        yield 'a module may not take its source\'s place', self.wrong(USAGE, left, 'own.sa', HELLO)
+        self.put('m', b'old')
+        left = self.run('build', '-o', 'm', 'unknown.sa')
         wanted = refused('unknown.sa', b'2: E30: unknown name')
-        yield 'a refused source keeps its place', self.wrong(wanted, left, 'unknown.sa', UNKNOWN)
+        yield 'a refused source leaves what is there', self.wrong(wanted, left, 'm', b'old')
         self.put('m', b'x' * 100_000)
         left = self.run('build', '-o', 'm', 'f.sa')
         yield 'nothing of a longer file is left behind a module', self.wrong(Left(), left, 'm', self.module)
@@ -215,8 +220,8 @@ class Host:
         def limited(most, rest):
             return 'trap "" XFSZ; ulimit -f %d; exec "$@" %s' % (most // 512, rest)
         self.put('m', b'old')
-        left = self.shell(limited(CUT, ''), 'build', '-o', 'm', 'f.sa')
-        yield 'a module that a limit cuts is a store fault', self.wrong(STORE_FAULT, left, 'm', self.module[:CUT])
+        left = self.shell(limited(CUT, ''), 'build', '-o', 'm', 'wide.sa')
+        yield 'a module that a limit cuts is a store fault', self.wrong(STORE_FAULT, left, 'm', self.wide_module[:CUT])
         left = self.shell(limited(CUT, '> cut'), 'run', 'long.sa')
         yield 'an output that a limit cuts is an output fault', self.wrong(OUTPUT_FAULT, left, 'cut', LONG_OUTPUT[:CUT])
         left = self.shell(limited(0, '2> cut'), 'run', 'fault.sa')
@@ -236,9 +241,9 @@ class Host:
         if shutil.which('unshare') is None or self.on_disk('', 'true').status != 0:
             self.told.leave_out('tries with full and read-only disks, which may not be mounted here')
             return
-        build, run = (self.program, 'build', '-o', 'm', '../f.sa'), (self.program, 'run')
+        build, run = (self.program, 'build', '-o', 'm', '../wide.sa'), (self.program, 'run')
         left = self.on_disk('', *build, after='cp m ..;')
-        yield 'a module on a disk that gets full is a store fault', self.wrong(STORE_FAULT, left, 'm', self.module[:DISK])
+        yield 'a module on a disk that gets full is a store fault', self.wrong(STORE_FAULT, left, 'm', self.wide_module[:DISK])
         left = self.on_disk('', *run, '../long.sa', streams='> out', after='cp out ..;')
         yield 'an output on a disk that gets full is an output fault', self.wrong(OUTPUT_FAULT, left, 'out', LONG_OUTPUT[:DISK])
         left = self.on_disk('head -c %d /dev/zero > all;' % DISK, *run, '../fault.sa', streams='2> err', after='cp err ..;')

@@ -28,6 +28,7 @@ STACK = 900 * 1024 * 1024   # bytes of V8's stack: 10,000 calls, each with the v
 TASKS = 40                  # modules that one process of V8 judges
 REFUSED = 'refused'         # what is given for a program that isn't compiled
 ON_ERR = ('--stats', '--trace')   # what only tells more on err
+HELP = {'--help', '-h'}     # what asks for a page, and runs nothing
 
 
 class Program:
@@ -57,7 +58,8 @@ class Program:
 def programs(word):
     """The programs of the table whose names hold the word."""
     for case in cases.read():
-        if case.words[:1] == ['run'] and case.files and not case.failing and word in report.label(case):
+        runs = case.words[:1] == ['run'] and not HELP & set(case.words)
+        if runs and case.files and not case.failing and word in report.label(case):
             yield Program(case)
 
 
