@@ -161,12 +161,12 @@ IsTested out classes outcome =
 
 -- the command was done, and this came of it
 abbrev pub Does : Outside → Line → Outcome → Type 0
-Does outside (Run fuel room stats contracts tracing.Silent names) outcome =
+Does outside (Run fuel room stats contracts tracing.Silent detail names) outcome =
     IsRun outside.store outside.input outside.out fuel names outcome × IsSilent outside.err outcome
-Does outside (Run fuel room stats contracts tracing.Told names) outcome = IsTraced outside fuel names outcome
-Does outside (Build room contracts out names) outcome = IsBuilt outside.store out names outcome × IsSilent outside.err outcome
-Does outside (Check contracts names) outcome = IsChecked outside.store outside.out names outcome × IsSilent outside.err outcome
-Does outside (Exec fuel stats file) outcome =
+Does outside (Run fuel room stats contracts tracing.Told detail names) outcome = IsTraced outside fuel names outcome
+Does outside (Build room contracts detail out names) outcome = IsBuilt outside.store out names outcome × IsSilent outside.err outcome
+Does outside (Check contracts detail names) outcome = IsChecked outside.store outside.out names outcome × IsSilent outside.err outcome
+Does outside (Exec fuel stats detail file) outcome =
     IsExecuted outside.store outside.input outside.out fuel file outcome × IsSilent outside.err outcome
 Does outside (Gen classes) outcome = IsGenerated outside.out classes outcome × IsSilent outside.err outcome
 Does outside (Selftest classes) outcome = IsTested outside.out classes outcome × IsSilent outside.err outcome
@@ -193,15 +193,15 @@ Obeys outside (Some line) outcome = DoesNothing outside outcome cause.NoMemory �
 
 -- the file of the module or the listing that the command reads, and nothing for another command
 abbrev pub module_file : Option Line → List ℕ
-module_file (Some (Exec fuel stats file)) = file
+module_file (Some (Exec fuel stats detail file)) = file
 module_file (Some (Listing file)) = file
 module_file (Some (Assemble out file)) = file
 module_file _ = []
 
 -- the command asks for the statistics
 abbrev pub asks_stats : Option Line → Bool
-asks_stats (Some (Run fuel room stats contracts trace names)) = stats
-asks_stats (Some (Exec fuel stats file)) = stats
+asks_stats (Some (Run fuel room stats contracts trace detail names)) = stats
+asks_stats (Some (Exec fuel stats detail file)) = stats
 asks_stats _ = false
 
 -- the steps of a run that ended so may be shown
@@ -219,8 +219,8 @@ pub record IsTellable (line : Option Line) (outcome : Outcome) : Type 0 where
 
 -- the command runs no module on the input and to out
 abbrev pub RunsNone : Option Line → Type 0
-RunsNone (Some (Run fuel room stats contracts trace names)) = ⊥
-RunsNone (Some (Exec fuel stats file)) = ⊥
+RunsNone (Some (Run fuel room stats contracts trace detail names)) = ⊥
+RunsNone (Some (Exec fuel stats detail file)) = ⊥
 RunsNone _ = ⊤
 
 -- the command reads no file
@@ -236,13 +236,13 @@ ReadsNone _ = ⊥
 
 -- the command writes no file
 abbrev pub WritesNone : Option Line → Type 0
-WritesNone (Some (Build room contracts out names)) = ⊥
+WritesNone (Some (Build room contracts detail out names)) = ⊥
 WritesNone (Some (Assemble out file)) = ⊥
 WritesNone _ = ⊤
 
 -- the command puts nothing on out
 abbrev pub PrintsNone : Option Line → Type 0
 PrintsNone None = ⊤
-PrintsNone (Some (Build room contracts out names)) = ⊤
+PrintsNone (Some (Build room contracts detail out names)) = ⊤
 PrintsNone (Some (Assemble out file)) = ⊤
 PrintsNone _ = ⊥

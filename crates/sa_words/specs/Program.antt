@@ -51,17 +51,21 @@ running app = with_rule (with_rule app (option (codes "fuel"))) (flag (codes "st
 abbrev pub compiling : App → App
 compiling app = with_rule (with_rule app (option (codes "room"))) (flag (codes "contracts"))
 
+-- the option of a command that explains the cause of its end
+abbrev pub explaining : App → App
+explaining app = with_rule app (flag (codes "explain"))
+
 abbrev pub run : App
-run = with_rule (with_rule (compiling (running (new_app (codes "run")))) (flag (codes "trace"))) files
+run = with_rule (with_rule (explaining (compiling (running (new_app (codes "run"))))) (flag (codes "trace"))) files
 
 abbrev pub build : App
-build = with_rule (with_rule (compiling (new_app (codes "build"))) out) files
+build = with_rule (with_rule (explaining (compiling (new_app (codes "build")))) out) files
 
 abbrev pub check : App
-check = with_rule (with_rule (new_app (codes "check")) (flag (codes "contracts"))) files
+check = with_rule (with_rule (explaining (new_app (codes "check"))) (flag (codes "contracts"))) files
 
 abbrev pub exec : App
-exec = with_rule (running (new_app (codes "exec"))) module_file
+exec = with_rule (explaining (running (new_app (codes "exec")))) module_file
 
 abbrev pub gen : App
 gen = with_rule (new_app (codes "gen")) classes
