@@ -11,6 +11,7 @@ mod checkers;
 mod compile;
 mod exec;
 mod explained;
+mod further;
 mod lines;
 mod listing;
 mod module;

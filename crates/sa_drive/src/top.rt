@@ -7,7 +7,7 @@ ghost use Rattle.sa_trace.specs.declared.sinks.Listening.TheVariants as listenin
 ghost use Rattle.sa_words.specs.Line.{detail_of, line_in, line_of};
 ghost use Rattle.sa_words.specs.declared.command.Detail.TheVariants.{Brief};
 ghost use Rattle.sa_drive.specs.Answer.{Does, IsTellable, Obeys, PrintsNone, ReadsNone};
-ghost use Rattle.sa_drive.specs.Answer.{RunsNone, WritesNone, asks_stats, has_steps, module_file};
+ghost use Rattle.sa_drive.specs.Answer.{RunsNone, TellsOne, WritesNone, asks_stats, has_steps, module_file};
 ghost use Rattle.sa_drive.specs.Ends.{ComesBeforeOutput};
 ghost use Rattle.sa_drive.specs.Lines.{IsPlaced};
 ghost use Rattle.sa_drive.specs.Report.{IsExitOf, IsExplained};
@@ -105,6 +105,7 @@ fn obey<'a, S: WriteFiles, I: Source, O: Sink, E: Sink>(
     ensures detail { (result.asked.detail ≡ detail_of (line_in (map string_bytes words.now))) ⊎ (result.asked.detail ≡ Brief) }
     ensures file { result.outcome.cause ≢ Cause.NoMemory → result.outcome.file.now ≡ module_file (line_in (map string_bytes words.now)) }
     ensures steps { is_some result.outcome.steps ≡ (asks_stats (line_in (map string_bytes words.now)) && has_steps result.outcome.cause) }
+    ensures further { TellsOne (line_in (map string_bytes words.now)) → result.outcome.further.items ≡ [] }
     ensures placed { IsPlaced result.outcome.sources result.outcome.cause }
     ensures input { RunsNone (line_in (map string_bytes words.now)) → input.new ≡ input.old }
     ensures done { RunsNone (line_in (map string_bytes words.now)) → result.outcome.cause ≡ Cause.Done → result.outcome.done ≡ 0 }
@@ -137,6 +138,7 @@ fn do_command<'a, S: WriteFiles, I: Source, O: Sink, E: Sink>(
         (part O.output O.faults out.old out.new) (part E.output E.faults err.old err.new)) (line_of command.entry) result }
     ensures file { result.file.now ≡ module_file (Some (line_of command.entry)) }
     ensures steps { is_some result.steps ≡ (asks_stats (Some (line_of command.entry)) && has_steps result.cause) }
+    ensures further { TellsOne (Some (line_of command.entry)) → result.further.items ≡ [] }
     ensures placed { IsPlaced result.sources result.cause }
     ensures input { RunsNone (Some (line_of command.entry)) → input.new ≡ input.old }
     ensures done { RunsNone (Some (line_of command.entry)) → result.cause ≡ Cause.Done → result.done ≡ 0 }
@@ -173,6 +175,7 @@ fn without_command<'a>(alloc: Global, cause: Cause) -> Obeyed<'a>
     ensures bytes { result.outcome.«module».items ≡ [] }
     ensures file { result.outcome.file.now ≡ [] }
     ensures steps { result.outcome.steps ≡ None }
+    ensures further { result.outcome.further.items ≡ [] }
     ensures listening { result.outcome.listening ≡ listening.Yes }
 {
     Obeyed {

@@ -15,6 +15,8 @@ use Rattle.sa_words.specs.declared.command.Contracts.{Contracts}
 use Rattle.sa_words.specs.declared.command.Contracts.TheVariants.{Dropped, Checked}
 use Rattle.sa_words.specs.declared.command.Detail.{Detail}
 use Rattle.sa_words.specs.declared.command.Detail.TheVariants.{Brief, Explained}
+use Rattle.sa_words.specs.declared.command.Extent.{Extent}
+use Rattle.sa_words.specs.declared.command.Extent.TheVariants.{Needed, All}
 use Rattle.sa_words.specs.Help.{asked_topic, asks_help, asks_version, topic_named}
 use Rattle.sa_words.specs.declared.command.Topic.{Topic}
 use Rattle.sa_words.specs.declared.command.Topic.TheVariants as topic
@@ -25,7 +27,7 @@ use Rattle.sa_words.specs.declared.command.Trace.TheVariants.{Silent, Told}
 pub data Line : Type 0 where
   Run : (fuel : ℕ) → (room : ℕ) → (stats : Bool) → (contracts : Contracts) → (trace : Trace) → (detail : Detail) → (files : List Text) → Line
   Build : (room : ℕ) → (contracts : Contracts) → (detail : Detail) → (out : Text) → (files : List Text) → Line
-  Check : (contracts : Contracts) → (detail : Detail) → (files : List Text) → Line
+  Check : (contracts : Contracts) → (extent : Extent) → (detail : Detail) → (files : List Text) → Line
   Exec : (fuel : ℕ) → (stats : Bool) → (detail : Detail) → (file : Text) → Line
   Gen : (classes : ℕ) → Line
   Selftest : (classes : ℕ) → Line
@@ -40,7 +42,7 @@ pub data Line : Type 0 where
 abbrev pub line_of : Command → Line
 line_of (command.Run run) = Run run.fuel run.room run.stats run.contracts run.trace run.detail (map (λ file. file.now) run.files.items)
 line_of (command.Build build) = Build build.room build.contracts build.detail build.out.now (map (λ file. file.now) build.files.items)
-line_of (command.Check check) = Check check.contracts check.detail (map (λ file. file.now) check.files.items)
+line_of (command.Check check) = Check check.contracts check.extent check.detail (map (λ file. file.now) check.files.items)
 line_of (command.Exec exec) = Exec exec.fuel exec.stats exec.detail exec.«module».now
 line_of (command.Gen classes) = Gen classes
 line_of (command.Selftest classes) = Selftest classes
@@ -55,7 +57,7 @@ line_of (command.Library name) = Library (option_map (λ text. text.now) name)
 abbrev pub detail_of : Option Line → Detail
 detail_of (Some (Run fuel room stats contracts trace detail files)) = detail
 detail_of (Some (Build room contracts detail out files)) = detail
-detail_of (Some (Check contracts detail files)) = detail
+detail_of (Some (Check contracts extent detail files)) = detail
 detail_of (Some (Exec fuel stats detail file)) = detail
 detail_of _ = Brief
 
@@ -83,6 +85,9 @@ trace_in rows = if is_given (codes "trace") rows then Told else Silent
 abbrev pub detail_in : List Row → Detail
 detail_in rows = if is_given (codes "explain") rows then Explained else Brief
 
+abbrev pub extent_in : List Row → Extent
+extent_in rows = if is_given (codes "all") rows then All else Needed
+
 abbrev pub files_in : List Row → List Text
 files_in rows = unwrap_or (all_of (codes "file") rows) []
 
@@ -103,7 +108,7 @@ build_in rows =
     (room_in rows)
 
 abbrev pub check_in : List Row → Line
-check_in rows = Check (contracts_in rows) (detail_in rows) (files_in rows)
+check_in rows = Check (contracts_in rows) (extent_in rows) (detail_in rows) (files_in rows)
 
 abbrev pub exec_in : List Row → Option Line
 exec_in rows = option_and_then (λ fuel. option_map (λ file. Exec fuel (stats_in rows) (detail_in rows) file) (first_of (codes "module") rows)) (fuel_in rows)

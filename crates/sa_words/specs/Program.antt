@@ -7,7 +7,7 @@ use Rattle.clap.specs.declared.builder.action.ArgAction.TheVariants.{Append, Set
 abbrev pub option : Text → Rule
 option name = record (new_rule name) { long = Some name }
 
--- an option without a value: `--stats`, `--contracts`, `--trace`
+-- an option without a value: `--stats`, `--contracts`, `--trace`, `--all`, `--explain`
 abbrev pub flag : Text → Rule
 flag name = record (new_rule name) { long = Some name; action = Some SetTrue }
 
@@ -62,7 +62,7 @@ abbrev pub build : App
 build = with_rule (with_rule (explaining (compiling (new_app (codes "build")))) out) files
 
 abbrev pub check : App
-check = with_rule (with_rule (explaining (new_app (codes "check"))) (flag (codes "contracts"))) files
+check = with_rule (with_rule (with_rule (explaining (new_app (codes "check"))) (flag (codes "contracts"))) (flag (codes "all"))) files
 
 abbrev pub exec : App
 exec = with_rule (explaining (running (new_app (codes "exec")))) module_file

@@ -68,6 +68,15 @@ pub enum Detail {
     Explained,
 }
 
+/// How much of a program is checked.
+#[derive(Clone, Copy, Debug, PartialEq, Eq, Hash)]
+pub enum Extent {
+    /// What MAIN needs, up to the first refusal.
+    Needed,
+    /// All classes of the files, and each feature.
+    All,
+}
+
 /// The program in the files is to be compiled and run.
 #[derive(Debug, Drop)]
 pub struct Run<'a> {
@@ -101,6 +110,7 @@ pub struct Build<'a> {
 #[derive(Debug, Drop)]
 pub struct Check<'a> {
     pub contracts: Contracts,
+    pub extent: Extent,
     pub detail: Detail,
     /// The files' names: one or more.
     pub files: Vec<&'a str>,

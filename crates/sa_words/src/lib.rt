@@ -15,7 +15,7 @@ mod subcommand;
 mod telling;
 
 pub use command::{
-    Assemble, Build, Check, Command, Contracts, Detail, Exec, Listing, Run, Topic, Trace,
+    Assemble, Build, Check, Command, Contracts, Detail, Exec, Extent, Listing, Run, Topic, Trace,
 };
 pub use detail::detail_of;
 pub use fault::WordsFault;

@@ -139,12 +139,13 @@ fn build<'a>(alloc: Global) -> Result<Command<'a>, AllocError>
         .arg(files(alloc))
 }
 
-/// `check [--contracts] [--explain] FILE..`
+/// `check [--contracts] [--all] [--explain] FILE..`
 fn check<'a>(alloc: Global) -> Result<Command<'a>, AllocError>
     ensures { IfOk result (λ c. (app_of c ≡ line.check) × ((out-Command c).has_globals ≡ false)) }
 {
     explaining(alloc, Command::new(alloc, "check"))?
         .arg(flag(alloc, "contracts"))?
+        .arg(flag(alloc, "all"))?
         .arg(files(alloc))
 }
 

@@ -3,11 +3,11 @@
 ghost use Rattle.std.specs.List.{list_any};
 ghost use Rattle.std.specs.Prelude.{◌≡◌, IfOk, Some, bytes_eq, map, option_map};
 ghost use Rattle.clap.specs.Words.{all_of, first_of, found_of, rows_of};
-ghost use Rattle.sa_words.specs.Line.{assemble_in, build_in, check_in, classes_in, contracts_in, detail_in, exec_in, files_in, fuel_in};
-ghost use Rattle.sa_words.specs.Line.{is_given, line_of, listing_in, named_line, room_in, run_in, stats_in, trace_in, Gen, Selftest};
+ghost use Rattle.sa_words.specs.Line.{assemble_in, build_in, check_in, classes_in, contracts_in, detail_in, exec_in, extent_in, files_in};
+ghost use Rattle.sa_words.specs.Line.{fuel_in, is_given, line_of, listing_in, named_line, room_in, run_in, stats_in, trace_in, Gen, Selftest};
 
 use crate::command::{
-    Assemble, Build, Check, Command, Contracts, Detail, Exec, Listing, Run, Trace,
+    Assemble, Build, Check, Command, Contracts, Detail, Exec, Extent, Listing, Run, Trace,
 };
 use crate::number::{number_in, number_or};
 use crate::telling::telling;
@@ -108,6 +108,17 @@ fn detail(matches: &ArgMatches<'_>) -> Detail
     }
 }
 
+/// How much of a program is checked.
+fn extent(matches: &ArgMatches<'_>) -> Extent
+    ensures { result ≡ extent_in (rows_of (found_of matches.now)) }
+{
+    if is_given(matches, "all") {
+        Extent::All
+    } else {
+        Extent::Needed
+    }
+}
+
 /// The names of the files.
 fn files<'a>(alloc: Global, matches: &ArgMatches<'a>) -> Result<Vec<&'a str>, AllocError>
     ensures { IfOk result (λ files. map (λ file. file.now) files.items ≡ files_in (rows_of (found_of matches.now))) }
@@ -168,6 +179,7 @@ fn check<'a>(alloc: Global, matches: &ArgMatches<'a>) -> Result<Option<Command<'
     let files = files(alloc, matches)?;
     Ok(Some(Command::Check(Check {
         contracts: contracts(matches),
+        extent: extent(matches),
         detail: detail(matches),
         files,
     })))

@@ -10,7 +10,7 @@ returns-clause-answer g c = (
   sink (g.E.Sink.output c.obey.new.err) (g.E.Sink.faults c.obey.new.err),
   sink (g.E.Sink.output c.report-cause.new.err) (g.E.Sink.faults c.report-cause.new.err),
   c.obey.ensures.obeys,
-  record { file = c.obey.ensures.file; steps = c.obey.ensures.steps },
+  record { file = c.obey.ensures.file; steps = c.obey.ensures.steps; further = c.obey.ensures.further },
   record {
     ends = c.report-cause.ensures.ends;
     done = elim c.match-cause.branch [
