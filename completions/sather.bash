@@ -10,7 +10,7 @@ _sather() {
   case ${COMP_WORDS[1]} in
     run) options='--fuel --room --stats --contracts --trace --explain' ;;
     build) options='--room --contracts --explain -o' ;;
-    check) options='--contracts --explain' ;;
+    check) options='--contracts --all --explain' ;;
     exec) options='--fuel --stats --explain' endings='*.wasm' ;;
     listing) endings='*.wasm' ;;
     assemble) options='-o' endings='*' ;;

@@ -75,6 +75,8 @@ Tells whether the program in the files is accepted. One of the classes is MAIN,
 with a routine main.
 
   --contracts   check it with the checks of pre, post and invariant in it
+  --all         tell the first refusal of each feature, and check classes that
+                nothing needs too; then the files need no MAIN
   --explain     at the end tell on err what a refusal or a fault means, and
                 what to do
 
