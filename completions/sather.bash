@@ -8,10 +8,10 @@ _sather() {
     return
   fi
   case ${COMP_WORDS[1]} in
-    run) options='--fuel --room --stats --contracts --trace' ;;
-    build) options='--room --contracts -o' ;;
-    check) options='--contracts' ;;
-    exec) options='--fuel --stats' endings='*.wasm' ;;
+    run) options='--fuel --room --stats --contracts --trace --explain' ;;
+    build) options='--room --contracts --explain -o' ;;
+    check) options='--contracts --all --explain' ;;
+    exec) options='--fuel --stats --explain' endings='*.wasm' ;;
     listing) endings='*.wasm' ;;
     assemble) options='-o' endings='*' ;;
     help)

@@ -24,7 +24,7 @@ INSTALL = os.path.join(report.TOP, 'install')
 BASH = os.path.join(report.TOP, 'completions', 'sather.bash')
 ZSH = os.path.join(report.TOP, 'completions', '_sather')
 USAGE = 124
-VALUES = {'--fuel': ['1000'], '--room': ['64'], '--stats': [], '--contracts': [], '--trace': [], '-o': ['out']}
+VALUES = {'--fuel': ['1000'], '--room': ['64'], '--stats': [], '--contracts': [], '--trace': [], '--explain': [], '-o': ['out']}
 OWN = {'gen': ['3'], 'selftest': ['3'], 'help': ['run'], 'version': [], 'explain': ['E33'], 'lib': ['fmap']}
 HELLO = b'class MAIN is main is #OUT + "Hello\\n"; end; end;'
 # Prints what bash offers for the last of the words.

@@ -27,7 +27,7 @@ FAULT = re.compile(rb'[^\n]+:\d+: fault: ([a-z ]+)\n')
 STACK = 900 * 1024 * 1024   # bytes of V8's stack: 10,000 calls, each with the variables of its routine
 TASKS = 40                  # modules that one process of V8 judges
 REFUSED = 'refused'         # what is given for a program that isn't compiled
-ON_ERR = ('--stats', '--trace')   # what only tells more on err
+ON_ERR = ('--stats', '--trace', '--explain')   # what only tells more on err
 HELP = {'--help', '-h'}     # what asks for a page, and runs nothing
 
 

@@ -2,12 +2,16 @@
 #![tactic(auto)]
 
 mod above;
+mod all;
 mod feeds;
 mod limits;
+mod others;
+mod refused;
 mod sigs;
 mod types;
 mod typing;
 mod uppers;
 mod whole;
 
+pub use all::check_all;
 pub use whole::check;

@@ -1,6 +1,7 @@
 //! The bodies of a program: of each needed type in order, feature by feature.
 
 use crate::limits::{MOST_PAIRS, Size};
+use crate::refused::Refused;
 use crate::sigs::sig_pos;
 use indexmap::IndexMap;
 use sa_check_conformance::Signatures;
@@ -42,13 +43,15 @@ impl Typing {
 /// The features and the shareds of a program, typed, where `above` has the abstract types above each needed type.
 ///
 /// They are refused type by type: by the rules of bodies, then with E55 where the program is too large; an abstract type
-/// with E56 where there are too many dispatch pairs.
+/// with E56 where there are too many dispatch pairs. The refusals of bodies are put to those that are `refused`, and the first one
+/// is the last where no more are looked for.
 pub(crate) fn typed_bodies<'a>(
     alloc: Global,
     program: &'a Program<'_>,
     signatures: &'a Signatures,
     consts: &'a ConstTable,
     above: &[Items<u32>],
+    refused: &mut Refused,
 ) -> Result<Typing, FrontFault> {
     let below = concrete_below(alloc, program, above)?;
     let mut typing = Typing::new(alloc);
@@ -60,7 +63,7 @@ pub(crate) fn typed_bodies<'a>(
             consts: &*consts,
             class,
         };
-        type_instance(&view, &mut typing, below.as_slice())?;
+        type_instance(&view, &mut typing, below.as_slice(), refused)?;
     }
     Ok(typing)
 }
@@ -101,7 +104,12 @@ fn count_below(below: &mut [u32], uppers: &[u32]) {
 }
 
 /// The bodies of a needed type. A bound type has none.
-fn type_instance(view: &View<'_>, typing: &mut Typing, below: &[u32]) -> Result<(), FrontFault> {
+fn type_instance(
+    view: &View<'_>,
+    typing: &mut Typing,
+    below: &[u32],
+    refused: &mut Refused,
+) -> Result<(), FrontFault> {
     let Some(class) = view.program.class(view.class) else {
         return Ok(());
     };
@@ -110,7 +118,9 @@ fn type_instance(view: &View<'_>, typing: &mut Typing, below: &[u32]) -> Result<
         return count_pairs(view, typing, *types);
     }
     for f in class.features.as_slice() {
-        type_feature(view, typing, f)?;
+        if let Err(fault) = type_feature(view, typing, f) {
+            refused.take(f.name.pos, fault)?;
+        }
     }
     typing.size.within()
 }

@@ -1,10 +1,15 @@
 -- What a sink took.
-use Rattle.std.proofs.Common.{◌≡◌, ◌∙◌, ℕ, min, List, ◌++◌, length, take, Option, None, Some, append-nil, refl, sym, subst, ap, arith, inl, inr}
+use Rattle.std.proofs.Common.{◌≡◌, ◌∙◌, ◌⊎◌, ℕ, min, List, ◌++◌, length, take, Option, None, Some, append-nil, refl, sym, subst, ap, arith, inl, inr}
 use Rattle.std.proofs.Math.Seq.{take-length}
 use Rattle.std.proofs.lemmas.List.{take-append-le, take_all}
 use Rattle.std.proofs.lemmas.Bool.{cases_lt}
 use Rattle.sa_outside.specs.Files.{Files, Writes, WritesFront}
-use Rattle.sa_outside.specs.Output.{Took, TookFront}
+use Rattle.sa_outside.specs.Output.{Grew, Took, TookFront}
+use Rattle.sa_outside.proofs.Growth.{Grew-refl}
+use Rattle.sa_words.specs.declared.command.Detail.{Detail}
+use Rattle.sa_words.specs.declared.command.Detail.TheVariants.{Brief, Explained}
+use Rattle.sa_drive.specs.Report.{TellsMore}
+use Rattle.sa_drive.specs.Seen.{IsUntouched, Part}
 
 -- all of a piece is a front of it
 pub TookFront-from_took : (old new : Option (List ℕ)) (bytes : List ℕ) → Took old new bytes → TookFront old new bytes
@@ -35,3 +40,13 @@ TookFront-nothing (Some taken) bytes = (0, ap Some (sym (append-nil taken)))
 -- all of a file's bytes are a front of them
 pub WritesFront-from_writes : (old new : Option Files) (name bytes : List ℕ) → Writes old new name bytes → WritesFront old new name bytes
 WritesFront-from_writes old new name bytes wrote = inr (length bytes, subst (λ taken. Writes old new name taken) (sym (take-length bytes)) wrote)
+
+-- a sink that took nothing tells as much as any detail lets it
+untold : (asked : Detail) (err : Part (List ℕ)) → IsUntouched err → TellsMore asked err
+untold Brief err same = same
+untold Explained err same = subst (λ after. Grew err.before after) (sym same.0) (Grew-refl err.before)
+
+-- what is told by one detail is told by what is asked for, if it is the same, or the brief one
+pub explained : (asked told : Detail) (err : Part (List ℕ)) → (told ≡ asked) ⊎ (told ≡ Brief) → TellsMore told err → TellsMore asked err
+explained asked told err (inl same) tells = subst (λ detail. TellsMore detail err) same tells
+explained asked told err (inr brief) tells = untold asked err (subst (λ detail. TellsMore detail err) brief tells)

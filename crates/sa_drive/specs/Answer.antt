@@ -10,9 +10,12 @@ use Rattle.sa_read.specs.Read.{HasFile, HasLonger}
 use Rattle.sa_statement.specs.Runnable.{SpellsRunnable}
 use Rattle.sa_trace.specs.declared.sinks.Listening.TheVariants as listening
 use Rattle.sa_words.specs.Line.{Assemble, Build, Check, Exec, Explain, Gen, Help, Library, Line, Listing, Run, Selftest, Version}
+use Rattle.sa_words.specs.declared.command.Extent.{Extent}
+use Rattle.sa_words.specs.declared.command.Extent.TheVariants as extent
 use Rattle.sa_words.specs.declared.command.Trace.TheVariants as tracing
 use Rattle.sa_drive.specs.Ends.{IsOfModule, IsPrinted, IsWritten}
 use Rattle.sa_drive.specs.Files.{ComesOfFiles, ComesOfGenerated, IsTakenGenerated, IsTakenProgram}
+use Rattle.sa_drive.specs.Further.{MayTellFurther}
 use Rattle.sa_drive.specs.Lines.{selftest_line}
 use Rattle.sa_drive.specs.Listings.{Assembles, ListsModule}
 use Rattle.sa_drive.specs.Runs.{Ran, RanBuilt, RanTraced}
@@ -56,10 +59,10 @@ IsBuilt store name names outcome =
     × SpellsRunnable outcome.«module».items
     × IsWritten store name outcome.«module».items outcome.cause)
 
--- out took that the program in these files is accepted, or it isn't
-abbrev pub IsChecked : Part Files → Part (List ℕ) → List (List ℕ) → Outcome → Type 0
-IsChecked store out names outcome =
-    (GivesNone store names outcome × IsKept out)
+-- out took that the program in these files is accepted, or it isn't, and further refusals are told, if all are asked for
+abbrev pub IsChecked : Part Files → Part (List ℕ) → Extent → List (List ℕ) → Outcome → Type 0
+IsChecked store out extent names outcome =
+    (GivesNone store names outcome × IsKept out × MayTellFurther extent outcome)
     ⊎ (IsTakenProgram store.before names outcome.sources × HasNoModule outcome × IsPrinted out (codes "accepted\n") outcome.cause)
 
 -- how many bytes a module has at most: 64 MiB
@@ -161,12 +164,13 @@ IsTested out classes outcome =
 
 -- the command was done, and this came of it
 abbrev pub Does : Outside → Line → Outcome → Type 0
-Does outside (Run fuel room stats contracts tracing.Silent names) outcome =
+Does outside (Run fuel room stats contracts tracing.Silent detail names) outcome =
     IsRun outside.store outside.input outside.out fuel names outcome × IsSilent outside.err outcome
-Does outside (Run fuel room stats contracts tracing.Told names) outcome = IsTraced outside fuel names outcome
-Does outside (Build room contracts out names) outcome = IsBuilt outside.store out names outcome × IsSilent outside.err outcome
-Does outside (Check contracts names) outcome = IsChecked outside.store outside.out names outcome × IsSilent outside.err outcome
-Does outside (Exec fuel stats file) outcome =
+Does outside (Run fuel room stats contracts tracing.Told detail names) outcome = IsTraced outside fuel names outcome
+Does outside (Build room contracts detail out names) outcome = IsBuilt outside.store out names outcome × IsSilent outside.err outcome
+Does outside (Check contracts extent detail names) outcome =
+    IsChecked outside.store outside.out extent names outcome × IsSilent outside.err outcome
+Does outside (Exec fuel stats detail file) outcome =
     IsExecuted outside.store outside.input outside.out fuel file outcome × IsSilent outside.err outcome
 Does outside (Gen classes) outcome = IsGenerated outside.out classes outcome × IsSilent outside.err outcome
 Does outside (Selftest classes) outcome = IsTested outside.out classes outcome × IsSilent outside.err outcome
@@ -193,16 +197,21 @@ Obeys outside (Some line) outcome = DoesNothing outside outcome cause.NoMemory �
 
 -- the file of the module or the listing that the command reads, and nothing for another command
 abbrev pub module_file : Option Line → List ℕ
-module_file (Some (Exec fuel stats file)) = file
+module_file (Some (Exec fuel stats detail file)) = file
 module_file (Some (Listing file)) = file
 module_file (Some (Assemble out file)) = file
 module_file _ = []
 
 -- the command asks for the statistics
 abbrev pub asks_stats : Option Line → Bool
-asks_stats (Some (Run fuel room stats contracts trace names)) = stats
-asks_stats (Some (Exec fuel stats file)) = stats
+asks_stats (Some (Run fuel room stats contracts trace detail names)) = stats
+asks_stats (Some (Exec fuel stats detail file)) = stats
 asks_stats _ = false
+
+-- the command tells one refusal alone
+abbrev pub TellsOne : Option Line → Type 0
+TellsOne (Some (Check contracts extent.All detail names)) = ⊥
+TellsOne _ = ⊤
 
 -- the steps of a run that ended so may be shown
 abbrev pub has_steps : Cause → Bool
@@ -212,15 +221,17 @@ has_steps (cause.Stopped code site) = true
 has_steps (cause.Spent steps) = true
 has_steps _ = false
 
--- the lines of the outcome name the file of the module or the listing, and show the steps exactly where they are asked for and may be shown
+-- the lines of the outcome name the file of the module or the listing, show the steps exactly where they are asked for and may be shown,
+-- and have further refusals only where all are asked for
 pub record IsTellable (line : Option Line) (outcome : Outcome) : Type 0 where
   pub file : outcome.cause ≢ cause.NoMemory → outcome.file.now ≡ module_file line
   pub steps : is_some outcome.steps ≡ (asks_stats line && has_steps outcome.cause)
+  pub further : TellsOne line → outcome.further.items ≡ []
 
 -- the command runs no module on the input and to out
 abbrev pub RunsNone : Option Line → Type 0
-RunsNone (Some (Run fuel room stats contracts trace names)) = ⊥
-RunsNone (Some (Exec fuel stats file)) = ⊥
+RunsNone (Some (Run fuel room stats contracts trace detail names)) = ⊥
+RunsNone (Some (Exec fuel stats detail file)) = ⊥
 RunsNone _ = ⊤
 
 -- the command reads no file
@@ -236,13 +247,13 @@ ReadsNone _ = ⊥
 
 -- the command writes no file
 abbrev pub WritesNone : Option Line → Type 0
-WritesNone (Some (Build room contracts out names)) = ⊥
+WritesNone (Some (Build room contracts detail out names)) = ⊥
 WritesNone (Some (Assemble out file)) = ⊥
 WritesNone _ = ⊤
 
 -- the command puts nothing on out
 abbrev pub PrintsNone : Option Line → Type 0
 PrintsNone None = ⊤
-PrintsNone (Some (Build room contracts out names)) = ⊤
+PrintsNone (Some (Build room contracts detail out names)) = ⊤
 PrintsNone (Some (Assemble out file)) = ⊤
 PrintsNone _ = ⊥

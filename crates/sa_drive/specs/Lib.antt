@@ -2,6 +2,7 @@ pub mod Answer
 pub mod Built
 pub mod Ends
 pub mod Files
+pub mod Further
 pub mod Lines
 pub mod Listings
 pub mod Report

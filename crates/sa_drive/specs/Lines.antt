@@ -78,10 +78,11 @@ abbrev pub told_statistics : Option ℕ → ℕ → List ℕ
 told_statistics None bytes = []
 told_statistics (Some steps) bytes = statistics steps bytes
 
--- the lines of an outcome with this cause
+-- the lines of an outcome with this cause, and behind its line those of further refusals
 abbrev pub lines_of : Outcome → Cause → List ℕ
 lines_of outcome cause =
-    line_of_cause outcome.sources outcome.file.now cause ++ told_statistics outcome.steps (length outcome.«module».items)
+    line_of_cause outcome.sources outcome.file.now cause ++ outcome.further.items
+    ++ told_statistics outcome.steps (length outcome.«module».items)
 
 -- `selftest N: B bytes, status S`, which out takes
 abbrev pub selftest_line : ℕ → ℕ → ℕ → List ℕ

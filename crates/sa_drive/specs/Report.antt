@@ -1,8 +1,11 @@
 -- The exit of a call, and what err holds then.
-use Rattle.std.specs.Prelude.{◌≡◌, ◌≢◌, ℕ, List, ◌⊎◌}
-use Rattle.sa_outside.specs.Output.{Took, TookFront}
+use Rattle.std.specs.Prelude.{◌≡◌, ◌≢◌, ℕ, List, Option, ◌⊎◌}
+use Rattle.sa_outside.specs.Output.{Grew, Took, TookFront}
 use Rattle.sa_trace.specs.declared.sinks.Listening.{Listening}
 use Rattle.sa_trace.specs.declared.sinks.Listening.TheVariants as listening
+use Rattle.sa_words.specs.Line.{Line, detail_of}
+use Rattle.sa_words.specs.declared.command.Detail.{Detail}
+use Rattle.sa_words.specs.declared.command.Detail.TheVariants.{Brief, Explained}
 use Rattle.sa_drive.specs.Lines.{lines_of}
 use Rattle.sa_drive.specs.Seen.{Failed, IsUntouched, Part}
 use Rattle.sa_drive.specs.Status.{status_of}
@@ -32,6 +35,15 @@ abbrev pub EndsWith : Listening → (err : Part (List ℕ)) → Outcome → Caus
 EndsWith listening.Yes err outcome ends = IsReported err outcome ends
 EndsWith listening.Failed err outcome ends = (ends ≡ outcome.cause) × IsUntouched err
 EndsWith listening.NoMemory err outcome ends = (ends ≡ cause.NoMemory) × IsUntouched err
+
+-- behind the lines err took an explanation, or a front of it, where one is asked for, and nothing where none is
+abbrev pub TellsMore : Detail → (err : Part (List ℕ)) → Type 0
+TellsMore Brief err = IsUntouched err
+TellsMore Explained err = Grew err.before err.after
+
+-- by what the command asks for
+abbrev pub IsExplained : Option Line → (err : Part (List ℕ)) → Type 0
+IsExplained line err = TellsMore (detail_of line) err
 
 -- the exit has the cause that stands, its status and the outcome's module
 pub record IsExitOf (outcome : Outcome) (err : Part (List ℕ)) (exit : Exit) : Type 0 where

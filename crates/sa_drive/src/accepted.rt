@@ -1,11 +1,11 @@
 //! The typed program of what its files declare, with or without the checks of its contracts.
 
-use sa_check::check;
+use sa_check::{check, check_all};
 use sa_contract::{Checks, Woven, weave};
 use sa_core::Core;
 use sa_read::Parsed;
-use sa_tree::{Class, FrontFault, NoMemory};
-use sa_words::Contracts;
+use sa_tree::{Class, FrontFault, NoMemory, Refusal};
+use sa_words::{Contracts, Extent};
 use sqlite_items::Items;
 use std::alloc::Global;
 
@@ -14,34 +14,50 @@ use std::alloc::Global;
 /// # Errors
 ///
 /// The first refusal by the rules of classes and bodies. Where contracts are checked, then that of the classes with the checks in
-/// their bodies, and then E46. `NoMemory`.
+/// their bodies, and then E46. Where all is checked, the further refusals of the same classes are put at the end of `further`.
+/// `NoMemory`.
 pub(crate) fn accepted(
     alloc: Global,
     declared: Parsed,
     texts: &[Items<u8>],
     contracts: Contracts,
+    extent: Extent,
+    further: &mut Vec<Refusal>,
 ) -> Result<Core, FrontFault> {
+    let core = typed(alloc, declared.classes.as_slice(), texts, extent, further)?;
     match contracts {
-        Contracts::Dropped => check(alloc, declared.classes.as_slice(), texts),
+        Contracts::Dropped => Ok(core),
         Contracts::Checked => {
-            try_unwoven(alloc, declared.classes.as_slice(), texts)?;
-            with_checks(alloc, declared, texts)
+            drop(core);
+            with_checks(alloc, declared, texts, extent, further)
         }
     }
 }
 
-/// Checks classes as they are written, and keeps nothing of their typed program.
-fn try_unwoven(alloc: Global, classes: &[Class], texts: &[Items<u8>]) -> Result<(), FrontFault> {
-    match check(alloc, classes, texts) {
-        Ok(_core) => Ok(()),
-        Err(fault) => Err(fault),
+/// The typed program of classes, as far as it is asked for.
+fn typed(
+    alloc: Global,
+    classes: &[Class],
+    texts: &[Items<u8>],
+    extent: Extent,
+    further: &mut Vec<Refusal>,
+) -> Result<Core, FrontFault> {
+    match extent {
+        Extent::Needed => check(alloc, classes, texts),
+        Extent::All => check_all(alloc, classes, texts, further),
     }
 }
 
 /// The typed program of what is declared, with the checks of contracts in the bodies.
-fn with_checks(alloc: Global, declared: Parsed, texts: &[Items<u8>]) -> Result<Core, FrontFault> {
+fn with_checks(
+    alloc: Global,
+    declared: Parsed,
+    texts: &[Items<u8>],
+    extent: Extent,
+    further: &mut Vec<Refusal>,
+) -> Result<Core, FrontFault> {
     let woven = woven(alloc, declared)?;
-    let core = check(alloc, woven.classes.as_slice(), texts)?;
+    let core = typed(alloc, woven.classes.as_slice(), texts, extent, further)?;
     if_quiet(core, &woven.checks)
 }
 

@@ -1,6 +1,6 @@
 //! The command `assemble`: the module of a listing is written to a file.
 
-ghost use Rattle.std.specs.Prelude.{◌≡◌, ◌<◌, ◌≤◌, None, length, IfErr, IfOk};
+ghost use Rattle.std.specs.Prelude.{◌≡◌, [], ◌<◌, ◌≤◌, None, length, IfErr, IfOk};
 ghost use Rattle.wa_encode.specs.Spelling.{IsLeast};
 ghost use Rattle.wa_syntax.specs.Binary.{SpellsModule};
 ghost use Rattle.sa_trace.specs.declared.sinks.Listening.TheVariants as listening;
@@ -30,6 +30,7 @@ pub fn assemble<'a, S: WriteFiles>(alloc: Global, line: &Assemble<'a>, store: &m
     ensures does { IsAssembled (part S.files S.faults store.old store.new) line.now.out.now line.now.file.now result }
     ensures placed { IsPlaced result.sources result.cause }
     ensures steps { result.steps ≡ None }
+    ensures further { result.further.items ≡ [] }
     ensures file { result.file.now ≡ line.now.file.now }
     ensures listening { result.listening ≡ listening.Yes }
     ensures done { result.done ≡ 0 }
@@ -54,6 +55,7 @@ fn assemble_text<'a, S: WriteFiles>(
     ensures count { S.faults store.old ≤ S.faults store.new }
     ensures placed { IsPlaced result.sources result.cause }
     ensures steps { result.steps ≡ None }
+    ensures further { result.further.items ≡ [] }
     ensures file { result.file.now ≡ line.now.file.now }
     ensures listening { result.listening ≡ listening.Yes }
     ensures done { result.done ≡ 0 }
@@ -75,8 +77,9 @@ fn of_file<'a>(alloc: Global, file: &'a str, cause: Cause, module: Vec<u8>) -> O
     ensures listening { result.listening ≡ listening.Yes }
     ensures bytes { result.«module».items ≡ «module».items }
     ensures steps { result.steps ≡ None }
+    ensures further { result.further.items ≡ [] }
 {
-    let outcome = Outcome::without_run(cause, no_sources(alloc), module);
+    let outcome = Outcome::without_run(alloc, cause, no_sources(alloc), module);
     Outcome { file, ..outcome }
 }
 

@@ -20,6 +20,7 @@ pub fn build<'a, S: WriteFiles>(alloc: Global, line: &Build<'a>, store: &mut S) 
         (map (λ file. file.now) line.now.files.items) result }
     ensures placed { IsPlaced result.sources result.cause }
     ensures steps { result.steps ≡ None }
+    ensures further { result.further.items ≡ [] }
     ensures file { result.file.now ≡ [] }
     ensures listening { result.listening ≡ listening.Yes }
     ensures done { result.done ≡ 0 }
@@ -35,7 +36,7 @@ pub fn build<'a, S: WriteFiles>(alloc: Global, line: &Build<'a>, store: &mut S) 
     match module {
         Ok(built) => {
             let cause = written(store, line.out, built.bytes.as_slice());
-            Outcome::without_run(cause, sources, built.bytes)
+            Outcome::without_run(alloc, cause, sources, built.bytes)
         }
         Err(cause) => Outcome::without_module(alloc, cause, sources),
     }

@@ -1,34 +1,39 @@
 //! The command `check`: whether a program is accepted.
 
-ghost use Rattle.std.specs.Prelude.{◌≡◌, [], None, map};
+ghost use Rattle.std.specs.Prelude.{◌≡◌, ◌⊎◌, [], None, map};
 ghost use Rattle.sa_outside.specs.Output.{Grew};
 ghost use Rattle.sa_trace.specs.declared.sinks.Listening.TheVariants as listening;
 ghost use Rattle.sa_drive.specs.Answer.{IsChecked};
 ghost use Rattle.sa_drive.specs.Ends.{ComesBeforeOutput};
+ghost use Rattle.sa_drive.specs.Further.{MayTellFurther};
 ghost use Rattle.sa_drive.specs.Lines.{IsPlaced};
 ghost use Rattle.sa_drive.specs.Seen.{part};
 
+use crate::cause::Cause;
 use crate::compile::{Checked, check_files};
+use crate::further::refusal_lines;
 use crate::outcome::Outcome;
 use crate::print::print;
 use sa_outside::{ReadFiles, Sink};
-use sa_words::Check;
+use sa_tree::{NoMemory, Refusal, Sources};
+use sa_words::{Check, Extent};
 use std::alloc::Global;
 
 /// What out takes of a program that is accepted.
 const ACCEPTED: &[u8] = b"accepted\n";
 
-/// Prints on out that the program is accepted, or gives the cause why it isn't.
+/// Prints on out that the program is accepted, or gives the cause why it isn't, and the further refusals where all is checked.
 pub fn check<'a, S: ReadFiles, O: Sink>(
     alloc: Global,
     line: &Check<'a>,
     store: &mut S,
     out: &mut O,
 ) -> Outcome<'a>
-    ensures does { IsChecked (part S.files S.faults store.old store.new) (part O.output O.faults out.old out.new)
+    ensures does { IsChecked (part S.files S.faults store.old store.new) (part O.output O.faults out.old out.new) line.now.extent
         (map (λ file. file.now) line.now.files.items) result }
     ensures placed { IsPlaced result.sources result.cause }
     ensures steps { result.steps ≡ None }
+    ensures further { line.now.extent ≡ Extent.Needed → result.further.items ≡ [] }
     ensures file { result.file.now ≡ [] }
     ensures listening { result.listening ≡ listening.Yes }
     ensures done { result.done ≡ 0 }
@@ -36,14 +41,75 @@ pub fn check<'a, S: ReadFiles, O: Sink>(
     ensures output { Grew (O.output out.old) (O.output out.new) }
     ensures untouched { ComesBeforeOutput result.cause → out.new ≡ out.old }
 {
-    let Checked { sources, core } = check_files(
+    let Checked {
+        sources,
+        core,
+        further,
+    } = check_files(
         alloc,
         store,
         line.files.as_slice(),
         line.contracts,
+        line.extent,
     );
     match core {
         Ok(_core) => Outcome::without_module(alloc, print(ACCEPTED, out), sources),
-        Err(cause) => Outcome::without_module(alloc, cause, sources),
+        Err(cause) => unaccepted(alloc, line.extent, cause, sources, further.as_slice()),
+    }
+}
+
+/// The outcome of a program that isn't accepted for this cause, with the lines of further refusals where all is checked.
+fn unaccepted<'a>(
+    alloc: Global,
+    extent: Extent,
+    cause: Cause,
+    sources: Sources,
+    further: &[Refusal],
+) -> Outcome<'a>
+    requires placed { IsPlaced sources cause }
+    ensures cause { (result.cause ≡ cause) ⊎ (result.cause ≡ Cause.NoMemory) }
+    ensures sources { result.sources ≡ sources }
+    ensures placed { IsPlaced result.sources result.cause }
+    ensures bytes { result.«module».items ≡ [] }
+    ensures may_tell { MayTellFurther extent result }
+    ensures further { extent ≡ Extent.Needed → result.further.items ≡ [] }
+    ensures steps { result.steps ≡ None }
+    ensures file { result.file.now ≡ [] }
+    ensures listening { result.listening ≡ listening.Yes }
+    ensures done { result.done ≡ 0 }
+{
+    match (extent, cause) {
+        (Extent::All, Cause::Refused(first)) => all_refused(alloc, first, sources, further),
+        _ => Outcome::without_module(alloc, cause, sources),
+    }
+}
+
+/// The outcome of a program that is refused, with the lines of further refusals.
+fn all_refused<'a>(
+    alloc: Global,
+    first: Refusal,
+    sources: Sources,
+    further: &[Refusal],
+) -> Outcome<'a>
+    requires placed { IsPlaced sources (Cause.Refused first) }
+    ensures cause { (result.cause ≡ Cause.Refused first) ⊎ (result.cause ≡ Cause.NoMemory) }
+    ensures sources { result.sources ≡ sources }
+    ensures placed { IsPlaced result.sources result.cause }
+    ensures bytes { result.«module».items ≡ [] }
+    ensures may_tell { MayTellFurther Extent.All result }
+    ensures steps { result.steps ≡ None }
+    ensures file { result.file.now ≡ [] }
+    ensures listening { result.listening ≡ listening.Yes }
+    ensures done { result.done ≡ 0 }
+{
+    match refusal_lines(alloc, &sources, further) {
+        Ok(lines) => {
+            let outcome = Outcome::without_module(alloc, Cause::Refused(first), sources);
+            Outcome {
+                further: lines,
+                ..outcome
+            }
+        }
+        Err(NoMemory) => Outcome::without_module(alloc, Cause::NoMemory, sources),
     }
 }

@@ -18,7 +18,7 @@ use sa_gen::generate;
 use sa_outside::ReadFiles;
 use sa_read::{Program, ReadFault, parse_program, prelude, read_program};
 use sa_tree::{FrontFault, Name, NoMemory, Refusal, Sources};
-use sa_words::{Contracts, ROOM, Trace};
+use sa_words::{Contracts, Extent, ROOM, Trace};
 use sqlite_items::Items;
 use std::alloc::Global;
 
@@ -27,6 +27,8 @@ use std::alloc::Global;
 pub struct Checked {
     pub sources: Sources,
     pub core: Result<Core, Cause>,
+    /// The refusals behind the one that is the cause, where all is checked.
+    pub further: Vec<Refusal>,
 }
 
 /// The texts of a program, and its module or the cause why there is none.
@@ -36,12 +38,13 @@ pub struct Compiled {
     pub module: Result<Built, Cause>,
 }
 
-/// Reads the files of a program and checks it.
+/// Reads the files of a program and checks it, what MAIN needs or all of it.
 pub fn check_files<S: ReadFiles>(
     alloc: Global,
     store: &mut S,
     files: &[&str],
     contracts: Contracts,
+    extent: Extent,
 ) -> Checked
     ensures core { MatchResult result.core
         (λ _. IsTakenProgram (S.files store.old) (map (λ file. file.now) files.now) result.sources)
@@ -52,11 +55,8 @@ pub fn check_files<S: ReadFiles>(
     ensures count { S.faults store.old ≤ S.faults store.new }
 {
     match read_program(alloc, store, files) {
-        Ok(program) => check_program(alloc, program, contracts),
-        Err(fault) => Checked {
-            sources: no_sources(alloc),
-            core: Err(unread(fault)),
-        },
+        Ok(program) => check_program(alloc, program, contracts, extent),
+        Err(fault) => unchecked(alloc, no_sources(alloc), unread(fault)),
     }
 }
 
@@ -78,7 +78,7 @@ pub fn compile_files<S: ReadFiles>(
     ensures files { S.files store.new ≡ S.files store.old }
     ensures count { S.faults store.old ≤ S.faults store.new }
 {
-    let checked = check_files(alloc, store, files, contracts);
+    let checked = check_files(alloc, store, files, contracts, Extent::Needed);
     compile_checked(alloc, checked, room, trace)
 }
 
@@ -99,7 +99,7 @@ fn compile_checked(alloc: Global, checked: Checked, room: u32, trace: Trace) -> 
     ensures made { IfOk result.«module» (λ _. IfErr checked.core (λ _. ⊥)) }
     ensures fault { IfErr result.«module» (λ cause. (checked.core ≡ Err cause) ⊎ (cause ≡ Cause.NoMemory)) }
 {
-    let Checked { sources, core } = checked;
+    let Checked { sources, core, .. } = checked;
     let module = made(alloc, core, room, trace);
     Compiled { sources, module }
 }
@@ -127,17 +127,14 @@ fn check_generated(alloc: Global, classes: u32) -> Checked
     match generated_sources(alloc, classes) {
         Ok(sources) => {
             let program = Program { sources, cut: None };
-            check_program(alloc, program, Contracts::Dropped)
+            check_program(alloc, program, Contracts::Dropped, Extent::Needed)
         }
-        Err(NoMemory) => Checked {
-            sources: no_sources(alloc),
-            core: Err(Cause::NoMemory),
-        },
+        Err(NoMemory) => unchecked(alloc, no_sources(alloc), Cause::NoMemory),
     }
 }
 
 /// Checks a program, unless its files are too large.
-fn check_program(alloc: Global, program: Program, contracts: Contracts) -> Checked
+fn check_program(alloc: Global, program: Program, contracts: Contracts, extent: Extent) -> Checked
     requires short { All (λ text. length text < 4294967295) program.sources.texts }
     requires few { length program.sources.texts ≤ 65536 }
     requires placed { IfSome program.cut (λ refusal. refusal.pos.file < length program.sources.texts) }
@@ -148,11 +145,20 @@ fn check_program(alloc: Global, program: Program, contracts: Contracts) -> Check
 {
     let Program { sources, cut } = program;
     match cut {
-        None => check_texts(alloc, sources, contracts),
-        Some(refusal) => Checked {
-            sources,
-            core: Err(Cause::Refused(refusal)),
-        },
+        None => check_texts(alloc, sources, contracts, extent),
+        Some(refusal) => unchecked(alloc, sources, Cause::Refused(refusal)),
+    }
+}
+
+/// The texts of a program that isn't checked, for this cause.
+fn unchecked(alloc: Global, sources: Sources, cause: Cause) -> Checked
+    ensures sources { result.sources ≡ sources }
+    ensures core { result.core ≡ Err cause }
+{
+    Checked {
+        sources,
+        core: Err(cause),
+        further: Vec::new(alloc),
     }
 }
 
@@ -191,20 +197,32 @@ pub fn unread(fault: ReadFault) -> Cause
 }
 
 /// The typed tree of a program of these texts, with the texts.
-fn check_texts(alloc: Global, sources: Sources, contracts: Contracts) -> Checked
+fn check_texts(alloc: Global, sources: Sources, contracts: Contracts, extent: Extent) -> Checked
     requires short { All (λ text. length text < 4294967295) sources.texts }
     requires few { length sources.texts < 4294967295 }
     ensures same { result.sources ≡ sources }
     ensures made { IfOk result.core (λ _. IsTakenUpTo sources.texts (length sources.texts)) }
     ensures fault { IfErr result.core (Explains sources.texts) }
 {
-    let core = typed(alloc, sources.texts.as_slice(), contracts);
-    Checked { sources, core }
+    let mut further = Vec::new(alloc);
+    let core = typed(alloc, sources.texts.as_slice(), contracts, extent, &mut further);
+    Checked {
+        sources,
+        core,
+        further,
+    }
 }
 
 /// The typed tree of a program of these texts, or the cause why there is none. A refusal of the checker by a rule that isn't its own,
-/// which it never gives, is answered as out of memory.
-fn typed(alloc: Global, texts: &[Items<u8>], contracts: Contracts) -> Result<Core, Cause>
+/// which it never gives, is answered as out of memory. Where all is checked, the refusals behind the first are put at the end of
+/// `further`.
+fn typed(
+    alloc: Global,
+    texts: &[Items<u8>],
+    contracts: Contracts,
+    extent: Extent,
+    further: &mut Vec<Refusal>,
+) -> Result<Core, Cause>
     requires short { All (λ text. length text < 4294967295) texts.now }
     requires few { length texts.now < 4294967295 }
     ensures made { IfOk result (λ _. IsTakenUpTo texts.now (length texts.now)) }
@@ -215,7 +233,7 @@ fn typed(alloc: Global, texts: &[Items<u8>], contracts: Contracts) -> Result<Cor
         Err(FrontFault::Refused(refusal)) => return Err(refused(refusal, texts)),
         Err(FrontFault::NoMemory) => return Err(Cause::NoMemory),
     };
-    match accepted(alloc, declared, texts, contracts) {
+    match accepted(alloc, declared, texts, contracts, extent, further) {
         Ok(core) => Ok(core),
         Err(FrontFault::Refused(refusal)) if is_of_checker(refusal.rule) => {
             Err(refused(refusal, texts))

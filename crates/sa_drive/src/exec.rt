@@ -41,6 +41,7 @@ impl Ended {
     /// by itself or at its fuel.
     pub fn outcome<'a>(
         self,
+        alloc: Global,
         sources: Sources,
         file: &'a str,
         module: Vec<u8>,
@@ -52,6 +53,7 @@ impl Ended {
         ensures bytes { result.«module».items ≡ «module».items }
         ensures done { result.done ≡ self.done }
         ensures steps { (steps : ℕ) → result.steps ≡ Some steps → steps ≡ self.steps }
+        ensures further { result.further.items ≡ [] }
         ensures told { is_some result.steps ≡ (stats && has_steps self.cause) }
         ensures listening { result.listening ≡ listening.Yes }
     {
@@ -62,6 +64,7 @@ impl Ended {
             sources,
             file,
             module,
+            further: Vec::new(alloc),
             steps,
             listening: Listening::Yes,
         }
@@ -90,6 +93,7 @@ pub fn exec<'a, S: ReadFiles, I: Source, O: Sink>(
         (part O.output O.faults out.old out.new) line.now.fuel line.now.«module».now result }
     ensures placed { IsPlaced result.sources result.cause }
     ensures steps { is_some result.steps ≡ (line.now.stats && has_steps result.cause) }
+    ensures further { result.further.items ≡ [] }
     ensures file { result.file.now ≡ line.now.«module».now }
     ensures listening { result.listening ≡ listening.Yes }
     ensures files { S.files store.new ≡ S.files store.old }
@@ -99,7 +103,7 @@ pub fn exec<'a, S: ReadFiles, I: Source, O: Sink>(
     match read_file(alloc, store, line.module, MOST_MODULE_BYTES) {
         Ok(Read::Whole(bytes)) => {
             let ended = run_module(alloc, bytes.as_slice(), line.fuel, input, out);
-            ended.outcome(no_sources(alloc), line.module, bytes, line.stats)
+            ended.outcome(alloc, no_sources(alloc), line.module, bytes, line.stats)
         }
         Ok(Read::Cut(_bytes)) => without_file(alloc, line.module, Cause::Malformed),
         Err(fault) => without_file(alloc, line.module, unread(fault)),
@@ -114,6 +118,7 @@ pub fn without_file<'a>(alloc: Global, file: &'a str, cause: Cause) -> Outcome<'
     ensures listening { result.listening ≡ listening.Yes }
     ensures bytes { result.«module».items ≡ [] }
     ensures steps { result.steps ≡ None }
+    ensures further { result.further.items ≡ [] }
 {
     let outcome = Outcome::without_module(alloc, cause, no_sources(alloc));
     Outcome { file, ..outcome }

@@ -2,6 +2,7 @@
 #![tactic(auto)]
 
 mod accepted;
+mod asked;
 mod assemble;
 mod build;
 mod cause;
@@ -9,10 +10,14 @@ mod check;
 mod checkers;
 mod compile;
 mod exec;
+mod explained;
+mod further;
 mod lines;
 mod listing;
 mod module;
+mod module_end;
 mod outcome;
+mod outside_end;
 mod place;
 mod print;
 mod report;

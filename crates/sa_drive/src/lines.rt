@@ -10,12 +10,13 @@ use itoa::Buffer;
 use sa_tree::{Pos, Sources, line_of};
 use std::alloc::{AllocError, Global};
 
-/// The lines of an outcome: that of its cause, and that of the statistics where they are asked for.
+/// The lines of an outcome: that of its cause, those of further refusals, and that of the statistics where they are asked for.
 pub fn lines(alloc: Global, outcome: &Outcome<'_>) -> Result<Vec<u8>, AllocError>
     requires { IsPlaced outcome.now.sources outcome.now.cause }
     ensures { IfOk result (λ lines. lines.items ≡ lines_of outcome.now outcome.now.cause) }
 {
     let mut lines = line(alloc, &outcome.sources, outcome.file, &outcome.cause)?;
+    lines.extend_from_slice(outcome.further.as_slice())?;
     if let Some(steps) = outcome.steps {
         add_statistics(&mut lines, steps, outcome.module.len() as u64)?;
     }
@@ -84,7 +85,7 @@ fn line(alloc: Global, sources: &Sources, file: &str, cause: &Cause) -> Result<V
 pub const NO_MEMORY: &[u8] = b"out of memory\n";
 
 /// `FILE:LINE: TEXT` about a place, where the text has two parts.
-fn about_place(
+pub fn about_place(
     alloc: Global,
     sources: &Sources,
     pos: Pos,

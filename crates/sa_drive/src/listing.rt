@@ -1,6 +1,6 @@
 //! The command `listing`: the listing of a module is put on out.
 
-ghost use Rattle.std.specs.Prelude.{◌≡◌, ℕ, ◌<◌, List, None, length, slice_index, IfErr, IfOk};
+ghost use Rattle.std.specs.Prelude.{◌≡◌, [], ℕ, ◌<◌, List, None, length, slice_index, IfErr, IfOk};
 ghost use Rattle.wa_syntax.specs.Binary.{SpellsModule};
 ghost use Rattle.wa_text.specs.Listing.{IsListing};
 ghost use Rattle.sa_outside.specs.Output.{Grew};
@@ -35,6 +35,7 @@ pub fn listing<'a, S: ReadFiles, O: Sink>(
         line.now.«module».now result }
     ensures placed { IsPlaced result.sources result.cause }
     ensures steps { result.steps ≡ None }
+    ensures further { result.further.items ≡ [] }
     ensures file { result.file.now ≡ line.now.«module».now }
     ensures listening { result.listening ≡ listening.Yes }
     ensures done { result.done ≡ 0 }

@@ -20,6 +20,8 @@ pub struct Outcome<'a> {
     pub file: &'a str,
     /// The bytes of the module that was encoded, or that was read to be run.
     pub module: Vec<u8>,
+    /// The lines of further refusals, behind that of the cause.
+    pub further: Vec<u8>,
     /// How many steps the machine made, where they are to be shown.
     pub steps: Option<u64>,
     /// Whether err has taken all lines of the trace, where there is one.
@@ -28,12 +30,18 @@ pub struct Outcome<'a> {
 
 impl<'a> Outcome<'a> {
     /// The outcome of a command that has run no module.
-    pub fn without_run(cause: Cause, sources: Sources, module: Vec<u8>) -> Outcome<'a>
+    pub fn without_run(
+        alloc: Global,
+        cause: Cause,
+        sources: Sources,
+        module: Vec<u8>,
+    ) -> Outcome<'a>
         ensures cause { result.cause ≡ cause }
         ensures done { result.done ≡ 0 }
         ensures sources { result.sources ≡ sources }
         ensures bytes { result.«module».items ≡ «module».items }
         ensures file { result.file.now ≡ [] }
+        ensures further { result.further.items ≡ [] }
         ensures steps { result.steps ≡ None }
         ensures listening { result.listening ≡ listening.Yes }
     {
@@ -43,6 +51,7 @@ impl<'a> Outcome<'a> {
             sources,
             file: "",
             module,
+            further: Vec::new(alloc),
             steps: None,
             listening: Listening::Yes,
         }
@@ -55,9 +64,10 @@ impl<'a> Outcome<'a> {
         ensures sources { result.sources ≡ sources }
         ensures bytes { result.«module».items ≡ [] }
         ensures file { result.file.now ≡ [] }
+        ensures further { result.further.items ≡ [] }
         ensures steps { result.steps ≡ None }
         ensures listening { result.listening ≡ listening.Yes }
     {
-        Outcome::without_run(cause, sources, Vec::new(alloc))
+        Outcome::without_run(alloc, cause, sources, Vec::new(alloc))
     }
 }

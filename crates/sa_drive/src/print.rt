@@ -21,6 +21,7 @@ pub fn print_generated<'a, O: Sink>(alloc: Global, classes: u32, out: &mut O) ->
     ensures does { IsGenerated (part O.output O.faults out.old out.new) classes result }
     ensures placed { IsPlaced result.sources result.cause }
     ensures steps { result.steps ≡ None }
+    ensures further { result.further.items ≡ [] }
     ensures file { result.file.now ≡ [] }
     ensures listening { result.listening ≡ listening.Yes }
     ensures done { result.done ≡ 0 }

@@ -38,6 +38,7 @@ pub fn run<'a, S: ReadFiles, I: Source, O: Sink>(
         (part O.output O.faults out.old out.new) line.now.fuel (map (λ file. file.now) line.now.files.items) result }
     ensures placed { IsPlaced result.sources result.cause }
     ensures steps { is_some result.steps ≡ (line.now.stats && has_steps result.cause) }
+    ensures further { result.further.items ≡ [] }
     ensures file { result.file.now ≡ [] }
     ensures listening { result.listening ≡ listening.Yes }
     ensures files { S.files store.new ≡ S.files store.old }
@@ -74,6 +75,7 @@ pub fn run_built<'a, I: Source, O: Sink>(
     ensures sources { result.sources ≡ sources }
     ensures placed { IsPlaced result.sources result.cause }
     ensures steps { is_some result.steps ≡ (stats && has_steps result.cause) }
+    ensures further { result.further.items ≡ [] }
     ensures file { result.file.now ≡ [] }
     ensures listening { result.listening ≡ listening.Yes }
     ensures output { Grew (O.output out.old) (O.output out.new) }
@@ -87,7 +89,7 @@ pub fn run_built<'a, I: Source, O: Sink>(
     } = built;
     let ended = run_valid(alloc, &module, fuel, input, out);
     let cause = at_place(ended.cause, positions.as_slice(), &sources);
-    Ended { cause, ..ended }.outcome(sources, "", bytes, stats)
+    Ended { cause, ..ended }.outcome(alloc, sources, "", bytes, stats)
 }
 
 /// Runs a valid module.

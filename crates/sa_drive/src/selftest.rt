@@ -27,6 +27,7 @@ pub fn selftest<'a, O: Sink>(alloc: Global, classes: u32, out: &mut O) -> Outcom
     ensures does { IsTested (part O.output O.faults out.old out.new) classes result }
     ensures placed { IsPlaced result.sources result.cause }
     ensures steps { is_some result.steps ≡ false }
+    ensures further { result.further.items ≡ [] }
     ensures file { result.file.now ≡ [] }
     ensures listening { result.listening ≡ listening.Yes }
     ensures done { result.cause ≡ Cause.Done → result.done ≡ 0 }
@@ -53,6 +54,7 @@ fn run_apart<'a, O: Sink>(
     ensures ran { IsRunApart (part O.output O.faults out.old out.new) classes result }
     ensures placed { IsPlaced result.sources result.cause }
     ensures steps { is_some result.steps ≡ false }
+    ensures further { result.further.items ≡ [] }
     ensures file { result.file.now ≡ [] }
     ensures listening { result.listening ≡ listening.Yes }
     ensures done { result.cause ≡ Cause.Done → result.done ≡ 0 }
@@ -74,7 +76,7 @@ fn run_apart<'a, O: Sink>(
         Cause::Done => {
             let bytes = output.taken().len() as u64;
             let cause = tell(alloc, classes, bytes, ran.done, out);
-            Outcome::without_run(cause, ran.sources, ran.module)
+            Outcome::without_run(alloc, cause, ran.sources, ran.module)
         }
         _ => ran,
     }

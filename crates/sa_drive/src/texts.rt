@@ -25,6 +25,7 @@ pub fn help<'a, O: Sink>(alloc: Global, topic: Topic, out: &mut O) -> Outcome<'a
     ensures does { IsShown (part O.output O.faults out.old out.new) (help_text topic) result }
     ensures placed { IsPlaced result.sources result.cause }
     ensures steps { result.steps ≡ None }
+    ensures further { result.further.items ≡ [] }
     ensures file { result.file.now ≡ [] }
     ensures listening { result.listening ≡ listening.Yes }
     ensures done { result.done ≡ 0 }
@@ -39,6 +40,7 @@ pub fn version<'a, O: Sink>(alloc: Global, out: &mut O) -> Outcome<'a>
     ensures does { IsShown (part O.output O.faults out.old out.new) version_text result }
     ensures placed { IsPlaced result.sources result.cause }
     ensures steps { result.steps ≡ None }
+    ensures further { result.further.items ≡ [] }
     ensures file { result.file.now ≡ [] }
     ensures listening { result.listening ≡ listening.Yes }
     ensures done { result.done ≡ 0 }
@@ -53,6 +55,7 @@ pub fn explain<'a, O: Sink>(alloc: Global, word: &str, out: &mut O) -> Outcome<'
     ensures does { IsFound (part O.output O.faults out.old out.new) (error_page word.now) Cause.NoPage result }
     ensures placed { IsPlaced result.sources result.cause }
     ensures steps { result.steps ≡ None }
+    ensures further { result.further.items ≡ [] }
     ensures file { result.file.now ≡ [] }
     ensures listening { result.listening ≡ listening.Yes }
     ensures done { result.done ≡ 0 }
@@ -70,6 +73,7 @@ pub fn library<'a, O: Sink>(alloc: Global, name: Option<&str>, out: &mut O) -> O
     ensures does { IsLibrary (part O.output O.faults out.old out.new) (option_map (λ name. name.now) name.entry) result }
     ensures placed { IsPlaced result.sources result.cause }
     ensures steps { result.steps ≡ None }
+    ensures further { result.further.items ≡ [] }
     ensures file { result.file.now ≡ [] }
     ensures listening { result.listening ≡ listening.Yes }
     ensures done { result.done ≡ 0 }
@@ -87,6 +91,7 @@ fn print_file<'a, O: Sink>(alloc: Global, name: &str, out: &mut O) -> Outcome<'a
     ensures does { IsFound (part O.output O.faults out.old out.new) (library_file name.now) Cause.NoLibraryFile result }
     ensures placed { IsPlaced result.sources result.cause }
     ensures steps { result.steps ≡ None }
+    ensures further { result.further.items ≡ [] }
     ensures file { result.file.now ≡ [] }
     ensures listening { result.listening ≡ listening.Yes }
     ensures done { result.done ≡ 0 }
@@ -104,6 +109,7 @@ fn show<'a, O: Sink>(alloc: Global, text: &str, out: &mut O) -> Outcome<'a>
     ensures does { IsShown (part O.output O.faults out.old out.new) text.now result }
     ensures placed { IsPlaced result.sources result.cause }
     ensures steps { result.steps ≡ None }
+    ensures further { result.further.items ≡ [] }
     ensures file { result.file.now ≡ [] }
     ensures listening { result.listening ≡ listening.Yes }
     ensures done { result.done ≡ 0 }

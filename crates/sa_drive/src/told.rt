@@ -34,6 +34,7 @@ pub fn run_told<'a, S: ReadFiles, I: Source, O: Sink, E: Sink>(
         (map (λ file. file.now) line.now.files.items) result }
     ensures placed { IsPlaced result.sources result.cause }
     ensures steps { is_some result.steps ≡ (line.now.stats && has_steps result.cause) }
+    ensures further { result.further.items ≡ [] }
     ensures file { result.file.now ≡ [] }
     ensures files { S.files store.new ≡ S.files store.old }
     ensures output { Grew (O.output out.old) (O.output out.new) }
@@ -72,6 +73,7 @@ fn run_built_told<'a, I: Source, O: Sink, E: Sink>(
     ensures sources { result.sources ≡ sources }
     ensures placed { IsPlaced result.sources result.cause }
     ensures steps { is_some result.steps ≡ (stats && has_steps result.cause) }
+    ensures further { result.further.items ≡ [] }
     ensures file { result.file.now ≡ [] }
     ensures output { Grew (O.output out.old) (O.output out.new) }
     ensures untouched { ComesBeforeOutput result.cause → (out.new ≡ out.old) × (input.new ≡ input.old) }
@@ -98,7 +100,7 @@ fn run_built_told<'a, I: Source, O: Sink, E: Sink>(
         done: done_of(traced.run.answer),
         steps: traced.run.steps,
     };
-    let outcome = ended.outcome(sources, "", bytes, stats);
+    let outcome = ended.outcome(alloc, sources, "", bytes, stats);
     Outcome {
         listening: traced.listening,
         ..outcome

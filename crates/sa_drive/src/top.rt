@@ -1,24 +1,27 @@
 //! The top call.
 
-ghost use Rattle.std.specs.Prelude.{◌≡◌, ◌≢◌, ◌&&◌, [], None, Some, is_some, map, string_bytes};
+ghost use Rattle.std.specs.Prelude.{◌≡◌, ◌≢◌, ◌⊎◌, ◌&&◌, [], None, Some, is_some, map, string_bytes};
 ghost use Rattle.sa_outside.specs.Output.{Grew};
 ghost use Rattle.sa_trace.specs.Handing.{Sink as Taken, sink};
 ghost use Rattle.sa_trace.specs.declared.sinks.Listening.TheVariants as listening;
-ghost use Rattle.sa_words.specs.Line.{line_in, line_of};
+ghost use Rattle.sa_words.specs.Line.{detail_of, line_in, line_of};
+ghost use Rattle.sa_words.specs.declared.command.Detail.TheVariants.{Brief};
 ghost use Rattle.sa_drive.specs.Answer.{Does, IsTellable, Obeys, PrintsNone, ReadsNone};
-ghost use Rattle.sa_drive.specs.Answer.{RunsNone, WritesNone, asks_stats, has_steps, module_file};
+ghost use Rattle.sa_drive.specs.Answer.{RunsNone, TellsOne, WritesNone, asks_stats, has_steps, module_file};
 ghost use Rattle.sa_drive.specs.Ends.{ComesBeforeOutput};
 ghost use Rattle.sa_drive.specs.Lines.{IsPlaced};
-ghost use Rattle.sa_drive.specs.Report.{IsExitOf};
+ghost use Rattle.sa_drive.specs.Report.{IsExitOf, IsExplained};
 ghost use Rattle.sa_drive.specs.Seen.{between, outside, part};
 ghost use Rattle.sa_drive.specs.declared.outcome.Outcome.{Outcome as Outcomes};
 
+use crate::asked::Asked;
 use crate::assemble::assemble;
 use crate::build::build;
 use crate::cause::{Cause, Exit};
 use crate::check::check;
 use crate::compile::no_sources;
 use crate::exec::exec;
+use crate::explained::tell_more;
 use crate::listing::listing;
 use crate::outcome::Outcome;
 use crate::print::print_generated;
@@ -42,13 +45,15 @@ pub fn sather<S: WriteFiles, I: Source, O: Sink, E: Sink>(
     err: &mut E,
 ) -> Exit
     // What the words ask for was done with an outcome, by the definition of each command, up to some state of err. The exit has its
-    // cause, or out of memory, its status and its module, and from there on err took its lines.
-    ensures answer { (outcome : Outcomes) × (middle : Taken) ×
+    // cause, or out of memory, its status and its module, and from there on err took its lines, and behind them an explanation
+    // where the words ask for one.
+    ensures answer { (outcome : Outcomes) × (middle : Taken) × (told : Taken) ×
         Obeys (outside (part S.files S.faults store.old store.new) (part I.input I.faults input.old input.new)
         (part O.output O.faults out.old out.new) (between (sink (E.output err.old) (E.faults err.old)) middle))
         (line_in (map string_bytes words.now)) outcome
         × IsTellable (line_in (map string_bytes words.now)) outcome
-        × IsExitOf outcome (between middle (sink (E.output err.new) (E.faults err.new))) result }
+        × IsExitOf outcome (between middle told) result
+        × IsExplained (line_in (map string_bytes words.now)) (between told (sink (E.output err.new) (E.faults err.new))) }
 
     // A command that runs no module on the input takes nothing from it, and has the status 0 at `Done`.
     ensures input { RunsNone (line_in (map string_bytes words.now)) → input.new ≡ input.old }
@@ -64,8 +69,9 @@ pub fn sather<S: WriteFiles, I: Source, O: Sink, E: Sink>(
     ensures output { Grew (O.output out.old) (O.output out.new) }
     ensures untouched { ComesBeforeOutput result.cause → (out.new ≡ out.old) × (input.new ≡ input.old) }
 {
-    let outcome = obey(alloc, words, store, input, out, err);
+    let Obeyed { outcome, asked } = obey(alloc, words, store, input, out, err);
     let cause = report(alloc, &outcome, err);
+    tell_more(alloc, asked, &outcome, cause, err);
     let status = match cause {
         Cause::Done => outcome.done,
         _ => cause.status(),
@@ -77,6 +83,13 @@ pub fn sather<S: WriteFiles, I: Source, O: Sink, E: Sink>(
     }
 }
 
+/// What came of the words, and what is to be told of it.
+#[derive(Drop)]
+struct Obeyed<'a> {
+    outcome: Outcome<'a>,
+    asked: Asked<'a>,
+}
+
 /// Does what the words ask for, but for the lines on err.
 fn obey<'a, S: WriteFiles, I: Source, O: Sink, E: Sink>(
     alloc: Global,
@@ -85,27 +98,31 @@ fn obey<'a, S: WriteFiles, I: Source, O: Sink, E: Sink>(
     input: &mut I,
     out: &mut O,
     err: &mut E,
-) -> Outcome<'a>
+) -> Obeyed<'a>
     ensures obeys { Obeys (outside (part S.files S.faults store.old store.new) (part I.input I.faults input.old input.new)
         (part O.output O.faults out.old out.new) (part E.output E.faults err.old err.new))
-        (line_in (map string_bytes words.now)) result }
-    ensures file { result.cause ≢ Cause.NoMemory → result.file.now ≡ module_file (line_in (map string_bytes words.now)) }
-    ensures steps { is_some result.steps ≡ (asks_stats (line_in (map string_bytes words.now)) && has_steps result.cause) }
-    ensures placed { IsPlaced result.sources result.cause }
+        (line_in (map string_bytes words.now)) result.outcome }
+    ensures detail { (result.asked.detail ≡ detail_of (line_in (map string_bytes words.now))) ⊎ (result.asked.detail ≡ Brief) }
+    ensures file { result.outcome.cause ≢ Cause.NoMemory → result.outcome.file.now ≡ module_file (line_in (map string_bytes words.now)) }
+    ensures steps { is_some result.outcome.steps ≡ (asks_stats (line_in (map string_bytes words.now)) && has_steps result.outcome.cause) }
+    ensures further { TellsOne (line_in (map string_bytes words.now)) → result.outcome.further.items ≡ [] }
+    ensures placed { IsPlaced result.outcome.sources result.outcome.cause }
     ensures input { RunsNone (line_in (map string_bytes words.now)) → input.new ≡ input.old }
-    ensures done { RunsNone (line_in (map string_bytes words.now)) → result.cause ≡ Cause.Done → result.done ≡ 0 }
+    ensures done { RunsNone (line_in (map string_bytes words.now)) → result.outcome.cause ≡ Cause.Done → result.outcome.done ≡ 0 }
     ensures files { WritesNone (line_in (map string_bytes words.now)) → S.files store.new ≡ S.files store.old }
     ensures store { ReadsNone (line_in (map string_bytes words.now)) → store.new ≡ store.old }
     ensures silent { PrintsNone (line_in (map string_bytes words.now)) → out.new ≡ out.old }
     ensures output { Grew (O.output out.old) (O.output out.new) }
-    ensures untouched { ComesBeforeOutput result.cause → (out.new ≡ out.old) × (input.new ≡ input.old) }
+    ensures untouched { ComesBeforeOutput result.outcome.cause → (out.new ≡ out.old) × (input.new ≡ input.old) }
 {
     let command = match command_of(alloc, words) {
         Ok(command) => command,
         Err(WordsFault::Usage) => return without_command(alloc, Cause::Usage),
         Err(WordsFault::NoMemory) => return without_command(alloc, Cause::NoMemory),
     };
-    do_command(alloc, command, store, input, out, err)
+    let asked = Asked::of_command(&command);
+    let outcome = do_command(alloc, command, store, input, out, err);
+    Obeyed { outcome, asked }
 }
 
 /// Does what a command asks for.
@@ -121,6 +138,7 @@ fn do_command<'a, S: WriteFiles, I: Source, O: Sink, E: Sink>(
         (part O.output O.faults out.old out.new) (part E.output E.faults err.old err.new)) (line_of command.entry) result }
     ensures file { result.file.now ≡ module_file (Some (line_of command.entry)) }
     ensures steps { is_some result.steps ≡ (asks_stats (Some (line_of command.entry)) && has_steps result.cause) }
+    ensures further { TellsOne (Some (line_of command.entry)) → result.further.items ≡ [] }
     ensures placed { IsPlaced result.sources result.cause }
     ensures input { RunsNone (Some (line_of command.entry)) → input.new ≡ input.old }
     ensures done { RunsNone (Some (line_of command.entry)) → result.cause ≡ Cause.Done → result.done ≡ 0 }
@@ -149,14 +167,19 @@ fn do_command<'a, S: WriteFiles, I: Source, O: Sink, E: Sink>(
     }
 }
 
-/// The outcome where the words give no command.
-fn without_command<'a>(alloc: Global, cause: Cause) -> Outcome<'a>
-    ensures cause { result.cause ≡ cause }
-    ensures done { result.done ≡ 0 }
-    ensures bytes { result.«module».items ≡ [] }
-    ensures file { result.file.now ≡ [] }
-    ensures steps { result.steps ≡ None }
-    ensures listening { result.listening ≡ listening.Yes }
+/// What comes of words that give no command, for this cause, whose line is all that is told of it.
+fn without_command<'a>(alloc: Global, cause: Cause) -> Obeyed<'a>
+    ensures cause { result.outcome.cause ≡ cause }
+    ensures detail { result.asked.detail ≡ Brief }
+    ensures done { result.outcome.done ≡ 0 }
+    ensures bytes { result.outcome.«module».items ≡ [] }
+    ensures file { result.outcome.file.now ≡ [] }
+    ensures steps { result.outcome.steps ≡ None }
+    ensures further { result.outcome.further.items ≡ [] }
+    ensures listening { result.outcome.listening ≡ listening.Yes }
 {
-    Outcome::without_module(alloc, cause, no_sources(alloc))
+    Obeyed {
+        outcome: Outcome::without_module(alloc, cause, no_sources(alloc)),
+        asked: Asked::brief(),
+    }
 }

@@ -40,6 +40,8 @@ with a routine main. The status is what main gives, from 0 to 255, or 0.
   --stats       at the end tell on err the steps and the bytes of the module
   --contracts   check pre, post and invariant while it runs
   --trace       tell on err what becomes of each instance of an iter
+  --explain     at the end tell on err what a refusal or a fault means, and
+                what to do
 
   sather run --contracts stack.sa
 
@@ -59,6 +61,8 @@ of these files. A program that is refused leaves OUT as it is.
   --room KIB    give it so many KiB for objects and texts, from 64 to 1048576;
                 without the option 65536
   --contracts   check pre, post and invariant while it runs
+  --explain     at the end tell on err what a refusal or a fault means, and
+                what to do
 
   sather build -o hello.wasm hello.sa
   sather exec hello.wasm
@@ -71,6 +75,10 @@ Tells whether the program in the files is accepted. One of the classes is MAIN,
 with a routine main.
 
   --contracts   check it with the checks of pre, post and invariant in it
+  --all         tell the first refusal of each feature, and check classes that
+                nothing needs too; then the files need no MAIN
+  --explain     at the end tell on err what a refusal or a fault means, and
+                what to do
 
   sather check hello.sa
 "#;
@@ -84,6 +92,8 @@ compiler or another one. The status is what main gives, from 0 to 255, or 0.
   --fuel N      let it make at most N steps, from 0 to 18446744073709551615;
                 without the option the greatest number
   --stats       at the end tell on err the steps and the bytes of the module
+  --explain     at the end tell on err what its line means, and
+                what to do
 
   sather exec --fuel 1000000 --stats hello.wasm
 "#;

@@ -13,6 +13,10 @@ use Rattle.sa_words.specs.declared.command.Command.{Command}
 use Rattle.sa_words.specs.declared.command.Command.TheVariants as command
 use Rattle.sa_words.specs.declared.command.Contracts.{Contracts}
 use Rattle.sa_words.specs.declared.command.Contracts.TheVariants.{Dropped, Checked}
+use Rattle.sa_words.specs.declared.command.Detail.{Detail}
+use Rattle.sa_words.specs.declared.command.Detail.TheVariants.{Brief, Explained}
+use Rattle.sa_words.specs.declared.command.Extent.{Extent}
+use Rattle.sa_words.specs.declared.command.Extent.TheVariants.{Needed, All}
 use Rattle.sa_words.specs.Help.{asked_topic, asks_help, asks_version, topic_named}
 use Rattle.sa_words.specs.declared.command.Topic.{Topic}
 use Rattle.sa_words.specs.declared.command.Topic.TheVariants as topic
@@ -21,10 +25,10 @@ use Rattle.sa_words.specs.declared.command.Trace.TheVariants.{Silent, Told}
 
 -- a command with its texts and numbers
 pub data Line : Type 0 where
-  Run : (fuel : ℕ) → (room : ℕ) → (stats : Bool) → (contracts : Contracts) → (trace : Trace) → (files : List Text) → Line
-  Build : (room : ℕ) → (contracts : Contracts) → (out : Text) → (files : List Text) → Line
-  Check : (contracts : Contracts) → (files : List Text) → Line
-  Exec : (fuel : ℕ) → (stats : Bool) → (file : Text) → Line
+  Run : (fuel : ℕ) → (room : ℕ) → (stats : Bool) → (contracts : Contracts) → (trace : Trace) → (detail : Detail) → (files : List Text) → Line
+  Build : (room : ℕ) → (contracts : Contracts) → (detail : Detail) → (out : Text) → (files : List Text) → Line
+  Check : (contracts : Contracts) → (extent : Extent) → (detail : Detail) → (files : List Text) → Line
+  Exec : (fuel : ℕ) → (stats : Bool) → (detail : Detail) → (file : Text) → Line
   Gen : (classes : ℕ) → Line
   Selftest : (classes : ℕ) → Line
   Listing : (file : Text) → Line
@@ -36,10 +40,10 @@ pub data Line : Type 0 where
 
 -- what a command says
 abbrev pub line_of : Command → Line
-line_of (command.Run run) = Run run.fuel run.room run.stats run.contracts run.trace (map (λ file. file.now) run.files.items)
-line_of (command.Build build) = Build build.room build.contracts build.out.now (map (λ file. file.now) build.files.items)
-line_of (command.Check check) = Check check.contracts (map (λ file. file.now) check.files.items)
-line_of (command.Exec exec) = Exec exec.fuel exec.stats exec.«module».now
+line_of (command.Run run) = Run run.fuel run.room run.stats run.contracts run.trace run.detail (map (λ file. file.now) run.files.items)
+line_of (command.Build build) = Build build.room build.contracts build.detail build.out.now (map (λ file. file.now) build.files.items)
+line_of (command.Check check) = Check check.contracts check.extent check.detail (map (λ file. file.now) check.files.items)
+line_of (command.Exec exec) = Exec exec.fuel exec.stats exec.detail exec.«module».now
 line_of (command.Gen classes) = Gen classes
 line_of (command.Selftest classes) = Selftest classes
 line_of (command.Listing listing) = Listing listing.«module».now
@@ -48,6 +52,14 @@ line_of (command.Help topic) = Help topic
 line_of command.Version = Version
 line_of (command.Explain word) = Explain word.now
 line_of (command.Library name) = Library (option_map (λ text. text.now) name)
+
+-- how much a command asks to be told of the cause of its end
+abbrev pub detail_of : Option Line → Detail
+detail_of (Some (Run fuel room stats contracts trace detail files)) = detail
+detail_of (Some (Build room contracts detail out files)) = detail
+detail_of (Some (Check contracts extent detail files)) = detail
+detail_of (Some (Exec fuel stats detail file)) = detail
+detail_of _ = Brief
 
 -- the fuel, which has no limit but that of its type, and else that limit
 abbrev pub fuel_in : List Row → Option ℕ
@@ -70,29 +82,36 @@ contracts_in rows = if is_given (codes "contracts") rows then Checked else Dropp
 abbrev pub trace_in : List Row → Trace
 trace_in rows = if is_given (codes "trace") rows then Told else Silent
 
+abbrev pub detail_in : List Row → Detail
+detail_in rows = if is_given (codes "explain") rows then Explained else Brief
+
+abbrev pub extent_in : List Row → Extent
+extent_in rows = if is_given (codes "all") rows then All else Needed
+
 abbrev pub files_in : List Row → List Text
 files_in rows = unwrap_or (all_of (codes "file") rows) []
 
 abbrev pub run_in : List Row → Option Line
 run_in rows =
     option_and_then
-    (λ fuel. option_map (λ room. Run fuel room (stats_in rows) (contracts_in rows) (trace_in rows) (files_in rows)) (room_in rows))
+    (λ fuel. option_map (λ room. Run fuel room (stats_in rows) (contracts_in rows) (trace_in rows) (detail_in rows) (files_in rows)) (room_in rows))
     (fuel_in rows)
 
 -- a build into this file, if it is none of those that are read
-abbrev pub build_into : ℕ → Contracts → (out : Text) → (files : List Text) → Option Line
-build_into room contracts out files = if list_any (bytes_eq out) files then None else Some (Build room contracts out files)
+abbrev pub build_into : ℕ → Contracts → Detail → (out : Text) → (files : List Text) → Option Line
+build_into room contracts detail out files = if list_any (bytes_eq out) files then None else Some (Build room contracts detail out files)
 
 abbrev pub build_in : List Row → Option Line
 build_in rows =
     option_and_then
-    (λ room. option_and_then (λ out. build_into room (contracts_in rows) out (files_in rows)) (first_of (codes "out") rows)) (room_in rows)
+    (λ room. option_and_then (λ out. build_into room (contracts_in rows) (detail_in rows) out (files_in rows)) (first_of (codes "out") rows))
+    (room_in rows)
 
 abbrev pub check_in : List Row → Line
-check_in rows = Check (contracts_in rows) (files_in rows)
+check_in rows = Check (contracts_in rows) (extent_in rows) (detail_in rows) (files_in rows)
 
 abbrev pub exec_in : List Row → Option Line
-exec_in rows = option_and_then (λ fuel. option_map (λ file. Exec fuel (stats_in rows) file) (first_of (codes "module") rows)) (fuel_in rows)
+exec_in rows = option_and_then (λ fuel. option_map (λ file. Exec fuel (stats_in rows) (detail_in rows) file) (first_of (codes "module") rows)) (fuel_in rows)
 
 -- how many classes the generated program is to have
 abbrev pub classes_in : List Row → Option ℕ

@@ -7,7 +7,7 @@ use Rattle.clap.specs.declared.builder.action.ArgAction.TheVariants.{Append, Set
 abbrev pub option : Text → Rule
 option name = record (new_rule name) { long = Some name }
 
--- an option without a value: `--stats`, `--contracts`, `--trace`
+-- an option without a value: `--stats`, `--contracts`, `--trace`, `--all`, `--explain`
 abbrev pub flag : Text → Rule
 flag name = record (new_rule name) { long = Some name; action = Some SetTrue }
 
@@ -51,17 +51,21 @@ running app = with_rule (with_rule app (option (codes "fuel"))) (flag (codes "st
 abbrev pub compiling : App → App
 compiling app = with_rule (with_rule app (option (codes "room"))) (flag (codes "contracts"))
 
+-- the option of a command that explains the cause of its end
+abbrev pub explaining : App → App
+explaining app = with_rule app (flag (codes "explain"))
+
 abbrev pub run : App
-run = with_rule (with_rule (compiling (running (new_app (codes "run")))) (flag (codes "trace"))) files
+run = with_rule (with_rule (explaining (compiling (running (new_app (codes "run"))))) (flag (codes "trace"))) files
 
 abbrev pub build : App
-build = with_rule (with_rule (compiling (new_app (codes "build"))) out) files
+build = with_rule (with_rule (explaining (compiling (new_app (codes "build")))) out) files
 
 abbrev pub check : App
-check = with_rule (with_rule (new_app (codes "check")) (flag (codes "contracts"))) files
+check = with_rule (with_rule (with_rule (explaining (new_app (codes "check"))) (flag (codes "contracts"))) (flag (codes "all"))) files
 
 abbrev pub exec : App
-exec = with_rule (running (new_app (codes "exec"))) module_file
+exec = with_rule (explaining (running (new_app (codes "exec")))) module_file
 
 abbrev pub gen : App
 gen = with_rule (new_app (codes "gen")) classes

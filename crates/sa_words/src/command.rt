@@ -59,6 +59,24 @@ pub enum Trace {
     Told,
 }
 
+/// How much is told of the cause of an end.
+#[derive(Clone, Copy, Debug, PartialEq, Eq, Hash)]
+pub enum Detail {
+    /// Its line.
+    Brief,
+    /// What it means in words of the source, too.
+    Explained,
+}
+
+/// How much of a program is checked.
+#[derive(Clone, Copy, Debug, PartialEq, Eq, Hash)]
+pub enum Extent {
+    /// What MAIN needs, up to the first refusal.
+    Needed,
+    /// All classes of the files, and each feature.
+    All,
+}
+
 /// The program in the files is to be compiled and run.
 #[derive(Debug, Drop)]
 pub struct Run<'a> {
@@ -70,6 +88,7 @@ pub struct Run<'a> {
     pub stats: bool,
     pub contracts: Contracts,
     pub trace: Trace,
+    pub detail: Detail,
     /// The files' names: one or more.
     pub files: Vec<&'a str>,
 }
@@ -80,6 +99,7 @@ pub struct Build<'a> {
     /// The bytes that the program may charge, in KiB.
     pub room: u32,
     pub contracts: Contracts,
+    pub detail: Detail,
     /// The name of the module's file.
     pub out: &'a str,
     /// The files' names: one or more.
@@ -90,6 +110,8 @@ pub struct Build<'a> {
 #[derive(Debug, Drop)]
 pub struct Check<'a> {
     pub contracts: Contracts,
+    pub extent: Extent,
+    pub detail: Detail,
     /// The files' names: one or more.
     pub files: Vec<&'a str>,
 }
@@ -101,6 +123,7 @@ pub struct Exec<'a> {
     pub fuel: u64,
     /// Whether the steps and the module's length are told at the end.
     pub stats: bool,
+    pub detail: Detail,
     /// The name of the module's file.
     pub module: &'a str,
 }

@@ -5,6 +5,7 @@
 #![tactic(auto)]
 
 mod command;
+mod detail;
 mod fault;
 mod help;
 mod number;
@@ -13,7 +14,10 @@ mod read;
 mod subcommand;
 mod telling;
 
-pub use command::{Assemble, Build, Check, Command, Contracts, Exec, Listing, Run, Topic, Trace};
+pub use command::{
+    Assemble, Build, Check, Command, Contracts, Detail, Exec, Extent, Listing, Run, Topic, Trace,
+};
+pub use detail::detail_of;
 pub use fault::WordsFault;
 pub use read::command_of;
 pub use subcommand::ROOM;

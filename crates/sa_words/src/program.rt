@@ -110,38 +110,50 @@ fn compiling<'a>(alloc: Global, command: Command<'a>) -> Result<Command<'a>, All
         .arg(flag(alloc, "contracts"))
 }
 
-/// `run [--fuel N] [--stats] [--room KIB] [--contracts] [--trace] FILE..`
+/// The option of a command that explains the cause of its end: `[--explain]`
+fn explaining<'a>(alloc: Global, command: Command<'a>) -> Result<Command<'a>, AllocError>
+    requires own { (out-Command command).has_globals ≡ false }
+    ensures { IfOk result (λ c. (app_of c ≡ line.explaining (app_of command.entry)) × ((out-Command c).has_globals ≡ false)) }
+{
+    command.arg(flag(alloc, "explain"))
+}
+
+/// `run [--fuel N] [--stats] [--room KIB] [--contracts] [--trace] [--explain] FILE..`
 fn run<'a>(alloc: Global) -> Result<Command<'a>, AllocError>
     ensures { IfOk result (λ c. (app_of c ≡ line.run) × ((out-Command c).has_globals ≡ false)) }
 {
-    compiling(alloc, running(alloc, Command::new(alloc, "run"))?)?
-        .arg(flag(alloc, "trace"))?
-        .arg(files(alloc))
+    explaining(
+        alloc,
+        compiling(alloc, running(alloc, Command::new(alloc, "run"))?)?,
+    )?
+    .arg(flag(alloc, "trace"))?
+    .arg(files(alloc))
 }
 
-/// `build [--room KIB] [--contracts] -o OUT FILE..`
+/// `build [--room KIB] [--contracts] [--explain] -o OUT FILE..`
 fn build<'a>(alloc: Global) -> Result<Command<'a>, AllocError>
     ensures { IfOk result (λ c. (app_of c ≡ line.build) × ((out-Command c).has_globals ≡ false)) }
 {
-    compiling(alloc, Command::new(alloc, "build"))?
+    explaining(alloc, compiling(alloc, Command::new(alloc, "build"))?)?
         .arg(out(alloc))?
         .arg(files(alloc))
 }
 
-/// `check [--contracts] FILE..`
+/// `check [--contracts] [--all] [--explain] FILE..`
 fn check<'a>(alloc: Global) -> Result<Command<'a>, AllocError>
     ensures { IfOk result (λ c. (app_of c ≡ line.check) × ((out-Command c).has_globals ≡ false)) }
 {
-    Command::new(alloc, "check")
+    explaining(alloc, Command::new(alloc, "check"))?
         .arg(flag(alloc, "contracts"))?
+        .arg(flag(alloc, "all"))?
         .arg(files(alloc))
 }
 
-/// `exec [--fuel N] [--stats] MODULE`
+/// `exec [--fuel N] [--stats] [--explain] MODULE`
 fn exec<'a>(alloc: Global) -> Result<Command<'a>, AllocError>
     ensures { IfOk result (λ c. (app_of c ≡ line.exec) × ((out-Command c).has_globals ≡ false)) }
 {
-    running(alloc, Command::new(alloc, "exec"))?.arg(module_file(alloc))
+    explaining(alloc, running(alloc, Command::new(alloc, "exec"))?)?.arg(module_file(alloc))
 }
 
 /// `gen N`

@@ -3,10 +3,12 @@
 ghost use Rattle.std.specs.List.{list_any};
 ghost use Rattle.std.specs.Prelude.{◌≡◌, IfOk, Some, bytes_eq, map, option_map};
 ghost use Rattle.clap.specs.Words.{all_of, first_of, found_of, rows_of};
-ghost use Rattle.sa_words.specs.Line.{assemble_in, build_in, check_in, classes_in, contracts_in, exec_in, files_in, fuel_in};
-ghost use Rattle.sa_words.specs.Line.{is_given, line_of, listing_in, named_line, room_in, run_in, stats_in, trace_in, Gen, Selftest};
+ghost use Rattle.sa_words.specs.Line.{assemble_in, build_in, check_in, classes_in, contracts_in, detail_in, exec_in, extent_in, files_in};
+ghost use Rattle.sa_words.specs.Line.{fuel_in, is_given, line_of, listing_in, named_line, room_in, run_in, stats_in, trace_in, Gen, Selftest};
 
-use crate::command::{Assemble, Build, Check, Command, Contracts, Exec, Listing, Run, Trace};
+use crate::command::{
+    Assemble, Build, Check, Command, Contracts, Detail, Exec, Extent, Listing, Run, Trace,
+};
 use crate::number::{number_in, number_or};
 use crate::telling::telling;
 use clap::ArgMatches;
@@ -95,6 +97,28 @@ fn trace(matches: &ArgMatches<'_>) -> Trace
     }
 }
 
+/// How much is told of the cause of the end.
+fn detail(matches: &ArgMatches<'_>) -> Detail
+    ensures { result ≡ detail_in (rows_of (found_of matches.now)) }
+{
+    if is_given(matches, "explain") {
+        Detail::Explained
+    } else {
+        Detail::Brief
+    }
+}
+
+/// How much of a program is checked.
+fn extent(matches: &ArgMatches<'_>) -> Extent
+    ensures { result ≡ extent_in (rows_of (found_of matches.now)) }
+{
+    if is_given(matches, "all") {
+        Extent::All
+    } else {
+        Extent::Needed
+    }
+}
+
 /// The names of the files.
 fn files<'a>(alloc: Global, matches: &ArgMatches<'a>) -> Result<Vec<&'a str>, AllocError>
     ensures { IfOk result (λ files. map (λ file. file.now) files.items ≡ files_in (rows_of (found_of matches.now))) }
@@ -118,6 +142,7 @@ fn run<'a>(alloc: Global, matches: &ArgMatches<'a>) -> Result<Option<Command<'a>
         stats: stats(matches),
         contracts: contracts(matches),
         trace: trace(matches),
+        detail: detail(matches),
         files,
     })))
 }
@@ -142,6 +167,7 @@ fn build<'a>(alloc: Global, matches: &ArgMatches<'a>) -> Result<Option<Command<'
     Ok(Some(Command::Build(Build {
         room,
         contracts: contracts(matches),
+        detail: detail(matches),
         out,
         files,
     })))
@@ -151,8 +177,12 @@ fn check<'a>(alloc: Global, matches: &ArgMatches<'a>) -> Result<Option<Command<'
     ensures { IfOk result (λ command. option_map line_of command ≡ Some (check_in (rows_of (found_of matches.now)))) }
 {
     let files = files(alloc, matches)?;
-    let contracts = contracts(matches);
-    Ok(Some(Command::Check(Check { contracts, files })))
+    Ok(Some(Command::Check(Check {
+        contracts: contracts(matches),
+        extent: extent(matches),
+        detail: detail(matches),
+        files,
+    })))
 }
 
 fn exec<'a>(matches: &ArgMatches<'a>) -> Option<Command<'a>>
@@ -160,10 +190,10 @@ fn exec<'a>(matches: &ArgMatches<'a>) -> Option<Command<'a>>
 {
     let fuel = fuel(matches)?;
     let module = value(matches, "module")?;
-    let stats = stats(matches);
     Some(Command::Exec(Exec {
         fuel,
-        stats,
+        stats: stats(matches),
+        detail: detail(matches),
         module,
     }))
 }

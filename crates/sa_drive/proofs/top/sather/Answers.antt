@@ -1,14 +1,16 @@
 use Rattle.std.proofs.Common.{◌∙◌, inl, inr, rules, sym}
 use Rattle.sa_trace.specs.Handing.{sink}
+use Rattle.sa_drive.proofs.OutputLemmas.{explained}
 use Rattle.sa_drive.proofs.top.sather.Goals.{in-Done, in_default}
 use Rattle.sa_drive.proofs.top.sather.Goals as goal
 
 pub returns-clause-answer : goal.returns-clause-answer
 returns-clause-answer g c = (
-  c.obey-outcome.result,
-  sink (g.E.Sink.output c.obey-outcome.new.err) (g.E.Sink.faults c.obey-outcome.new.err),
-  c.obey-outcome.ensures.obeys,
-  record { file = c.obey-outcome.ensures.file; steps = c.obey-outcome.ensures.steps },
+  c.obey.result.outcome,
+  sink (g.E.Sink.output c.obey.new.err) (g.E.Sink.faults c.obey.new.err),
+  sink (g.E.Sink.output c.report-cause.new.err) (g.E.Sink.faults c.report-cause.new.err),
+  c.obey.ensures.obeys,
+  record { file = c.obey.ensures.file; steps = c.obey.ensures.steps; further = c.obey.ensures.further },
   record {
     ends = c.report-cause.ensures.ends;
     done = elim c.match-cause.branch [
@@ -21,13 +23,14 @@ returns-clause-answer g c = (
     ];
     bytes = search rules;
   },
+  explained _ _ _ c.obey.ensures.detail c.tell_more.ensures,
 )
 
 pub returns-clause-done : goal.returns-clause-done
 returns-clause-done g c = λ none done. elim c.report-cause.ensures.stands [
   | inl memory ↦ cc
   | inr same ↦ elim c.match-cause.branch [
-    | in-Done w ↦ w.status-is ∙ c.obey-outcome.ensures.done none (sym same ∙ done)
+    | in-Done w ↦ w.status-is ∙ c.obey.ensures.done none (sym same ∙ done)
     | in_default w ↦ absurd (w.in_default.not-Done done)
   ]
 ]

@@ -1,0 +1,67 @@
+//! What a command asks to be told of the cause of its end, and of which files a fault of the store can be.
+
+ghost use Rattle.std.specs.Prelude.{◌≡◌, Some};
+ghost use Rattle.sa_words.specs.Line.{detail_of, line_of};
+
+use sa_words::{Command, Detail, detail_of};
+
+/// What is to be told, and of which files.
+#[derive(Clone, Copy)]
+pub struct Asked<'a> {
+    pub detail: Detail,
+    /// The name of the file that the command reads, where it reads one.
+    pub read: Option<&'a str>,
+    /// The name of the file that it writes.
+    pub written: Option<&'a str>,
+}
+
+impl<'a> Asked<'a> {
+    /// The line of the cause alone.
+    pub fn brief() -> Asked<'a>
+        ensures { result.detail ≡ Detail.Brief }
+    {
+        Asked {
+            detail: Detail::Brief,
+            read: None,
+            written: None,
+        }
+    }
+
+    /// What the command asks for.
+    pub fn of_command(command: &Command<'a>) -> Asked<'a>
+        ensures { result.detail ≡ detail_of (Some (line_of command.now)) }
+    {
+        Asked {
+            detail: detail_of(command),
+            read: read_by(command),
+            written: written_by(command),
+        }
+    }
+}
+
+/// The file that a command reads, where it reads one.
+fn read_by<'a>(command: &Command<'a>) -> Option<&'a str> {
+    match command {
+        Command::Run(line) => only(line.files.as_slice()),
+        Command::Build(line) => only(line.files.as_slice()),
+        Command::Check(line) => only(line.files.as_slice()),
+        Command::Exec(line) => Some(line.module),
+        _ => None,
+    }
+}
+
+/// The file that a command writes, where it can be asked to explain.
+fn written_by<'a>(command: &Command<'a>) -> Option<&'a str> {
+    match command {
+        Command::Build(line) => Some(line.out),
+        _ => None,
+    }
+}
+
+/// The name of a file that is the only one.
+fn only<'a>(files: &[&'a str]) -> Option<&'a str> {
+    match files {
+        [file] => Some(*file),
+        _ => None,
+    }
+}

@@ -1,0 +1,79 @@
+//! What is told of a cause behind its lines, where the command asks for it.
+
+ghost use Rattle.sa_drive.specs.Report.{TellsMore};
+ghost use Rattle.sa_drive.specs.Seen.{part};
+
+use crate::asked::Asked;
+use crate::cause::Cause;
+use crate::module_end::module_end;
+use crate::outcome::Outcome;
+use crate::outside_end::{outside_end, store_fault};
+use sa_explain::{explain_fault, explain_refusal};
+use sa_outside::Sink;
+use sa_trace::Listening;
+use sa_tree::NoMemory;
+use sa_words::Detail;
+use std::alloc::Global;
+
+/// Puts on err what explains the cause that stands at the end of an outcome, if that is asked for and err still listens. Where memory
+/// runs out in it, or err fails, the lines that are there stay as they are.
+pub fn tell_more<E: Sink>(
+    alloc: Global,
+    asked: Asked<'_>,
+    outcome: &Outcome<'_>,
+    cause: Cause,
+    err: &mut E,
+)
+    ensures { TellsMore asked.detail (part E.output E.faults err.old err.new) }
+{
+    match asked.detail {
+        Detail::Brief => {}
+        Detail::Explained => match outcome.listening {
+            Listening::Yes => put_explanation(alloc, asked, outcome, cause, err),
+            Listening::Failed | Listening::NoMemory => {}
+        },
+    }
+}
+
+/// Puts on err what explains a cause of an outcome.
+fn put_explanation<E: Sink>(
+    alloc: Global,
+    asked: Asked<'_>,
+    outcome: &Outcome<'_>,
+    cause: Cause,
+    err: &mut E,
+)
+    ensures { TellsMore Detail.Explained (part E.output E.faults err.old err.new) }
+{
+    match explanation(alloc, asked, outcome, cause) {
+        Ok(text) => put_more(text.as_slice(), err),
+        Err(NoMemory) => {}
+    }
+}
+
+/// Puts a text on err, or a front of it where err fails or has no memory.
+fn put_more<E: Sink>(text: &[u8], err: &mut E)
+    ensures { TellsMore Detail.Explained (part E.output E.faults err.old err.new) }
+{
+    match err.put(text) {
+        Ok(()) => {}
+        Err(_outage) => {}
+    }
+}
+
+/// What explains a cause of an outcome.
+fn explanation(
+    alloc: Global,
+    asked: Asked<'_>,
+    outcome: &Outcome<'_>,
+    cause: Cause,
+) -> Result<Vec<u8>, NoMemory> {
+    let module = outcome.module.as_slice();
+    match cause {
+        Cause::Refused(refusal) => explain_refusal(alloc, &outcome.sources, refusal),
+        Cause::Fault(kind, pos) => explain_fault(alloc, &outcome.sources, kind, pos),
+        Cause::StoreFault => store_fault(alloc, asked, module.is_empty()),
+        Cause::Spent(_) | Cause::InFault | Cause::OutFault => outside_end(alloc, cause),
+        _ => module_end(alloc, module, cause),
+    }
+}

@@ -1,0 +1,40 @@
+//! The lines of the refusals that are told behind the first one.
+
+ghost use Rattle.std.specs.Prelude.{◌≡◌, IfOk};
+ghost use Rattle.std.specs.List.{All};
+ghost use Rattle.sa_drive.specs.Further.{IsFurther, refusal_line, refusal_lines};
+
+use crate::checkers::is_of_checker;
+use crate::lines::about_place;
+use crate::place::is_place_in;
+use sa_tree::{NoMemory, Refusal, Sources};
+use std::alloc::Global;
+
+/// The lines of refusals of a program of these texts, in order. A refusal that isn't the checker's, or at no place in the texts, which
+/// the checker never gives, is answered as out of memory.
+pub fn refusal_lines(
+    alloc: Global,
+    sources: &Sources,
+    refusals: &[Refusal],
+) -> Result<Vec<u8>, NoMemory>
+    ensures lines { IfOk result (λ lines. lines.items ≡ refusal_lines sources.now refusals.now) }
+    ensures further { IfOk result (λ lines. All (IsFurther sources.now) refusals.now) }
+{
+    let mut lines = Vec::new(alloc);
+    for refusal in refusals {
+        let line = refusal_line(alloc, sources, *refusal)?;
+        lines.extend_from_slice(line.as_slice())?;
+    }
+    Ok(lines)
+}
+
+/// The line of a refusal.
+fn refusal_line(alloc: Global, sources: &Sources, refusal: Refusal) -> Result<Vec<u8>, NoMemory>
+    ensures line { IfOk result (λ line. line.items ≡ refusal_line sources.now refusal) }
+    ensures further { IfOk result (λ line. IsFurther sources.now refusal) }
+{
+    if !is_of_checker(refusal.rule) || !is_place_in(sources.texts.as_slice(), refusal.pos) {
+        return Err(NoMemory);
+    }
+    Ok(about_place(alloc, sources, refusal.pos, "", refusal.rule.text())?)
+}

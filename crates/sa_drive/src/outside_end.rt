@@ -1,0 +1,73 @@
+//! What is said of a command that ended for a file, a stream or its fuel.
+
+use crate::asked::Asked;
+use crate::cause::Cause;
+use sa_explain_scene::{Part, Sentences};
+use sa_tree::NoMemory;
+use std::alloc::{AllocError, Global};
+
+/// What a fault of the store means: a file couldn't be read, or the module couldn't be written.
+pub fn store_fault(alloc: Global, asked: Asked<'_>, is_reading: bool) -> Result<Vec<u8>, NoMemory> {
+    let mut said = Sentences::new(alloc);
+    if is_reading {
+        unread(asked.read, &mut said)?;
+    } else {
+        unwritten(asked.written, &mut said)?;
+    }
+    Ok(said.text)
+}
+
+fn unread(file: Option<&str>, said: &mut Sentences) -> Result<(), AllocError> {
+    let reason = Part::Words(
+        " can't be read: it isn't there, it is a folder or a pipe, or it may not be read.",
+    );
+    match file {
+        Some(name) => {
+            said.say(&[Part::Code(name.as_bytes()), reason])?;
+            said.say_words("See how its name is written, and from which folder it is named.")
+        }
+        None => {
+            said.say(&[Part::Words("One of the files"), reason])?;
+            said.say_words("See how their names are written, and try them one by one.")
+        }
+    }
+}
+
+fn unwritten(file: Option<&str>, said: &mut Sentences) -> Result<(), AllocError> {
+    let what = match file {
+        Some(name) => Part::Code(name.as_bytes()),
+        None => Part::Words("The module's file"),
+    };
+    let reason = Part::Words(
+        " can't be written: its folder isn't there, it may not be written, or the disk is full.",
+    );
+    said.say(&[what, reason])?;
+    said.say_words("Write to another file.")
+}
+
+/// What it means that the fuel was spent, or that a stream failed.
+pub fn outside_end(alloc: Global, cause: Cause) -> Result<Vec<u8>, NoMemory> {
+    let mut said = Sentences::new(alloc);
+    match cause {
+        Cause::Spent(_) => {
+            said.say_words(
+                "It hadn't ended within the steps that `--fuel` gives: it needs more, or it doesn't end at all.",
+            )?;
+            said.say_words("Give more, or look for a loop that nothing ends.")?;
+        }
+        Cause::InFault => {
+            said.say_words(
+                "The program wants to read, and its input can't be read: it was closed, or it is a folder.",
+            )?;
+            said.say_words("Give it an input, as by `< FILE` or `echo Ada |`.")?;
+        }
+        Cause::OutFault => {
+            said.say_words(
+                "What is printed can't be written: the disk is full, out is closed, or nobody reads the pipe any more.",
+            )?;
+            said.say_words("Write to another place.")?;
+        }
+        _ => {}
+    }
+    Ok(said.text)
+}

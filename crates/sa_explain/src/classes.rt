@@ -1,0 +1,414 @@
+//! Classes and their headers: E08, E10, E12, E13, E19, E24; and their features: E11, E16, E20, E22.
+
+use sa_explain_scene::{
+    Part, Quality, Said, Scene, class_near, count_in, feature_in, feature_near, plain_name,
+};
+use sa_lex::{Sign, TokenKind};
+use sa_tree::{Class, Feature, Kind, NoMemory, Part as FeaturePart, Rule, Ty};
+use std::alloc::AllocError;
+
+/// Says what is wrong with the class at the place.
+pub(crate) fn about_class(scene: Scene<'_>, rule: Rule, said: &mut Said) -> Result<(), NoMemory> {
+    match rule {
+        Rule::WordNotTaken => refused_word(scene, said)?,
+        Rule::ClassDefinedTwice => defined_twice(scene, said)?,
+        Rule::ClassNotUsable => not_usable(scene, said)?,
+        Rule::ParameterCount => parameter_count(scene, said)?,
+        Rule::SupertypeNotAbstract => not_abstract(scene, said)?,
+        _ => no_main(scene, said)?,
+    }
+    Ok(())
+}
+
+/// Says what is wrong with the feature at the place.
+pub(crate) fn about_features(
+    scene: Scene<'_>,
+    rule: Rule,
+    said: &mut Said,
+) -> Result<(), NoMemory> {
+    match rule {
+        Rule::FeaturesConflict => conflict(scene, said)?,
+        Rule::NoSuchIncludedFeature => no_such_change(scene, said)?,
+        Rule::StubLeft => stub_left(scene, said)?,
+        _ => lacking_feature(scene, said)?,
+    }
+    Ok(())
+}
+
+fn refused_word(scene: Scene<'_>, said: &mut Said) -> Result<(), AllocError> {
+    said.say(&[
+        Part::Code(scene.name()),
+        Part::Words(
+            " is a word of parallel Sather, which this compiler doesn't take, so it is no name either.",
+        ),
+    ])?;
+    said.say_words("Choose another name.")
+}
+
+/// A class whose name another one has.
+fn defined_twice(scene: Scene<'_>, said: &mut Said) -> Result<(), AllocError> {
+    let name = scene.name();
+    let Some(first) = scene.table.class(name) else {
+        return Ok(());
+    };
+    let pos = first.name.pos;
+    if pos.file == 0 {
+        said.say(&[
+            Part::Code(name),
+            Part::Words(" is a class of the prelude, which every program has."),
+        ])?;
+    } else {
+        said.say(&[
+            Part::Code(name),
+            Part::Words(" is defined in "),
+            Part::Plain(scene.table.file(pos)),
+            Part::Words(":"),
+            Part::Number(scene.table.line(pos)),
+            Part::Words(" too."),
+        ])?;
+    }
+    said.say_words("Give this class another name.")
+}
+
+/// The class that is meant at the place: behind `#`, before `::`, or there.
+fn class_token(scene: Scene<'_>) -> usize {
+    if scene.tokens.is_sign(scene.at, Sign::Hash) {
+        return scene.at.saturating_add(1);
+    }
+    if scene.tokens.is_sign_back(scene.at, 1, Sign::DoubleColon) {
+        return scene.at.saturating_sub(2);
+    }
+    scene.at
+}
+
+/// A type whose class isn't there, or can't stand there.
+fn not_usable(scene: Scene<'_>, said: &mut Said) -> Result<(), AllocError> {
+    let at = class_token(scene);
+    let name = scene.tokens.bytes(at);
+    if !matches!(
+        scene.tokens.kind(at),
+        Some(TokenKind::ClassName | TokenKind::AbstractName)
+    ) {
+        return Ok(());
+    }
+    said.mark = scene.span(at);
+    match scene.table.class(name) {
+        Some(class) => kept_out(scene, class, said),
+        None => unknown_class(scene, name, said),
+    }
+}
+
+/// A class that is there, and can't stand at the place.
+fn kept_out(scene: Scene<'_>, class: &Class, said: &mut Said) -> Result<(), AllocError> {
+    let name = class.name.name.as_slice();
+    match class.kind {
+        Kind::Partial => {
+            said.say(&[
+                Part::Code(name),
+                Part::Words(" is partial: it is there to be included, and is no type."),
+            ])?;
+            said.say_words("Write a class that includes it, and use that.")
+        }
+        Kind::Abstract => {
+            said.say(&[
+                Part::Code(name),
+                Part::Words(" is abstract: it has no objects and no code, and isn't included."),
+            ])?;
+            said.say_words("Write a class that stands below it.")
+        }
+        _ => {
+            said.say(&[
+                Part::Code(name),
+                Part::Words(" is a class, but it can't stand here."),
+            ])?;
+            said.say_words(
+                "The classes BOOL, INT, CHAR, STR, OUT, IN and SYS aren't included, and a parameter hides a class of its name.",
+            )
+        }
+    }
+}
+
+/// A name that no class has.
+fn unknown_class<'a>(scene: Scene<'a>, name: &'a [u8], said: &mut Said) -> Result<(), AllocError> {
+    said.say(&[
+        Part::Words("There is no class "),
+        Part::Code(name),
+        Part::Words("."),
+    ])?;
+    if let Some(remedy) = known_elsewhere(name) {
+        return said.say_words(remedy);
+    }
+    match class_near(scene, name)? {
+        Some(near) => said.say(&[
+            Part::Words("Did you mean "),
+            Part::Code(near),
+            Part::Words("?"),
+        ]),
+        None => said.say_words("Write it, or name its file in the command beside this one."),
+    }
+}
+
+/// What stands here for a class of another language.
+fn known_elsewhere(name: &[u8]) -> Option<&'static str> {
+    Some(match name {
+        b"STRING" | b"TEXT" => "A text is a STR.",
+        b"FLT" | b"FLTD" | b"FLTX" | b"FLOAT" | b"DOUBLE" | b"REAL" => {
+            "There are whole numbers alone: count the parts, as tenths in an INT, and put the point in where it is printed."
+        }
+        b"INTEGER" | b"LONG" | b"SHORT" | b"NUMBER" | b"INTI" =>
+            "A whole number is an INT, up to 2147483647.",
+        b"BOOLEAN" => "The class of `true` and `false` is BOOL.",
+        b"CHARACTER" | b"BYTE" => "A byte is a CHAR.",
+        b"LIST" | b"VECTOR" => "A list that grows is an FLIST, as `FLIST{INT}`.",
+        b"OBJECT" | b"ANY" => "The class above all others is $OB.",
+        b"VOID" => "A routine without a result has no type behind its arguments.",
+        _ => return None,
+    })
+}
+
+/// A type with too many or too few parameters.
+fn parameter_count(scene: Scene<'_>, said: &mut Said) -> Result<(), AllocError> {
+    let at = class_token(scene);
+    let Some(class) = scene.table.class(scene.tokens.bytes(at)) else {
+        return Ok(());
+    };
+    let name = class.name.name.as_slice();
+    said.mark = scene.span(at);
+    match class.params.as_slice() {
+        [] => {
+            said.say(&[Part::Code(name), Part::Words(" has no parameters.")])?;
+            said.say(&[
+                Part::Words("Write "),
+                Part::Code(name),
+                Part::Words(" alone."),
+            ])
+        }
+        [_] => {
+            said.say(&[
+                Part::Code(name),
+                Part::Words(" has one parameter, and becomes a type by one type between braces."),
+            ])?;
+            said.say(&[
+                Part::Words("Write it so, as `"),
+                Part::Plain(name),
+                Part::Words("{INT}`."),
+            ])
+        }
+        params => {
+            said.say(&[
+                Part::Code(name),
+                Part::Words(" has "),
+                Part::Number(params.len()),
+                Part::Words(" parameters, and becomes a type by as many types between braces."),
+            ])?;
+            said.say_words("Write a type for each, with commas between them.")
+        }
+    }
+}
+
+fn not_abstract(scene: Scene<'_>, said: &mut Said) -> Result<(), AllocError> {
+    let name = scene.name();
+    said.say(&[
+        Part::Code(name),
+        Part::Words(" isn't abstract, and only abstract classes have types below them."),
+    ])?;
+    said.say(&[
+        Part::Words("To take over its code write `include "),
+        Part::Plain(name),
+        Part::Words(";` in this class."),
+    ])
+}
+
+/// A program without a routine to begin at.
+fn no_main(scene: Scene<'_>, said: &mut Said) -> Result<(), AllocError> {
+    let Some(class) = scene.table.class(b"MAIN".as_slice()) else {
+        said.say_words("There is no class MAIN, at whose routine `main` a program begins.")?;
+        return said.say_words(
+            "Write `class MAIN is main is .. end; end;`, or name its file in the command.",
+        );
+    };
+    if class.kind != Kind::Reference || !class.params.is_empty() {
+        said.say_words("MAIN is neither immutable nor partial, and has no parameters.")?;
+        return said.say_words("Write `class MAIN is`.");
+    }
+    if !class.includes.is_empty() {
+        return Ok(());
+    }
+    let Some(main) = feature_in(class, b"main".as_slice()) else {
+        said.say_words("MAIN has no routine `main`, at which a program begins.")?;
+        return said.say_words("Write `main is .. end;` in it.");
+    };
+    main_of_another_form(scene, class, main, said)
+}
+
+/// A `main` that can't be run.
+fn main_of_another_form(
+    scene: Scene<'_>,
+    class: &Class,
+    main: &Feature,
+    said: &mut Said,
+) -> Result<(), AllocError> {
+    if count_in(class, b"main".as_slice(), Quality::Any) > 1 {
+        said.say_words(
+            "MAIN has several features `main`, and one of them alone can be run, without arguments.",
+        )?;
+        return said.say_words("Give the others another name.");
+    }
+    let at = scene.tokens.number_at(main.name.pos.at as usize);
+    if main.name.pos.file == scene.pos.file {
+        said.mark = scene.span(at);
+    }
+    if !main.formals.is_empty() {
+        said.say_words("`main` takes no arguments: the words of a command don't reach a program.")?;
+        return said.say_words(
+            "Write `main is`, and read what the program has to know from its input, as by `#IN.get_str`.",
+        );
+    }
+    if !matches!(main.part, FeaturePart::Routine(_)) {
+        said.say_words("`main` of MAIN is no routine with a body.")?;
+        return said.say_words("Write `main is .. end;`.");
+    }
+    said.say_words("`main` gives nothing, or an INT that becomes the status.")?;
+    said.say_words("Write `main is` or `main:INT is`.")
+}
+
+/// A feature that another one of its class can't be told from.
+fn conflict(scene: Scene<'_>, said: &mut Said) -> Result<(), AllocError> {
+    let Some(class) = scene.table.class_at(scene.pos) else {
+        return Ok(());
+    };
+    let name = scene.name();
+    let Some(first) = feature_in(class, name) else {
+        return Ok(());
+    };
+    if first.name.pos == scene.pos {
+        return Ok(());
+    }
+    said.say(&[
+        Part::Plain(class.name.name.as_slice()),
+        Part::Words(" has a feature "),
+        Part::Code(name),
+        Part::Words(" in line "),
+        Part::Number(scene.table.line(first.name.pos)),
+        Part::Words(
+            " too, and no call could tell features of one name and the same arguments apart.",
+        ),
+    ])?;
+    said.say_words(
+        "Take one of them away, or give it another name. An attribute is a routine that reads it.",
+    )
+}
+
+/// A change of a feature that isn't there.
+fn no_such_change(scene: Scene<'_>, said: &mut Said) -> Result<(), AllocError> {
+    let from_iter = matches!(scene.tokens.kind(scene.at), Some(TokenKind::IterName));
+    let to = scene.at.saturating_add(2);
+    if scene.tokens.is_feature_name(to)
+        && from_iter != matches!(scene.tokens.kind(to), Some(TokenKind::IterName))
+    {
+        said.say_words(
+            "A routine gets the name of a routine, and an iter that of an iter, which ends in `!`.",
+        )?;
+        return said.say_words("Write both names of a change with `!`, or none.");
+    }
+    said.say(&[
+        Part::Words("What is included has no feature "),
+        Part::Code(scene.name()),
+        Part::Words(", which is the left name of this change."),
+    ])?;
+    match feature_near(scene, scene.name())? {
+        Some(near) => said.say(&[
+            Part::Words("Did you mean "),
+            Part::Code(near),
+            Part::Words("? The old name stands on the left of `->`, the new one on its right."),
+        ]),
+        None => said.say_words(
+            "The old name stands on the left of `->`, the new one on its right.",
+        ),
+    }
+}
+
+fn stub_left(scene: Scene<'_>, said: &mut Said) -> Result<(), AllocError> {
+    let Some(class) = scene.table.class_at(scene.pos) else {
+        return Ok(());
+    };
+    said.say(&[
+        Part::Code(scene.name()),
+        Part::Words(" is a stub of "),
+        Part::Plain(class.name.name.as_slice()),
+        Part::Words(", and a class that isn't partial has it without a body."),
+    ])?;
+    said.say(&[
+        Part::Words("Write "),
+        Part::Code(scene.name()),
+        Part::Words(" in the class that includes "),
+        Part::Plain(class.name.name.as_slice()),
+        Part::Words("."),
+    ])
+}
+
+/// A class that lacks a feature of an abstract one above it.
+fn lacking_feature(scene: Scene<'_>, said: &mut Said) -> Result<(), AllocError> {
+    let Some(class) = scene.table.class(scene.name()) else {
+        return Ok(());
+    };
+    if !class.includes.is_empty() || class.kind == Kind::Abstract {
+        return Ok(());
+    }
+    for above in class.below.as_slice() {
+        if let Ty::Named(name, _, _) = above
+            && let Some(above) = scene.table.class(name.as_slice())
+            && let Some(wanted) = first_lacking(class, above)
+        {
+            return says_lacking(class, above, wanted, said);
+        }
+    }
+    Ok(())
+}
+
+/// The first signature of a class above for which a class writes no feature of its name, or one of another form alone.
+fn first_lacking<'a>(class: &Class, above: &'a Class) -> Option<&'a Feature> {
+    above
+        .features
+        .as_slice()
+        .iter()
+        .find(|wanted| lacks(class, wanted))
+}
+
+/// Whether a class writes no feature with the name and the number of arguments of a signature.
+fn lacks(class: &Class, wanted: &Feature) -> bool {
+    count_in(
+        class,
+        wanted.name.name.as_slice(),
+        Quality::Takes(wanted.formals.len()),
+    ) == 0
+}
+
+fn says_lacking(
+    class: &Class,
+    above: &Class,
+    wanted: &Feature,
+    said: &mut Said,
+) -> Result<(), AllocError> {
+    let name = wanted.name.name.as_slice();
+    said.say(&[
+        Part::Plain(class.name.name.as_slice()),
+        Part::Words(" has no "),
+        Part::Code(name),
+        Part::Words(" with "),
+        Part::Arguments(wanted.formals.len()),
+        Part::Words(", which "),
+        Part::Plain(above.name.name.as_slice()),
+        Part::Words(" wants of each class below it."),
+    ])?;
+    match &wanted.result {
+        Some(ty) => said.say(&[
+            Part::Words("Write it with the arguments of the signature, and with its result "),
+            Part::Plain(plain_name(ty).unwrap_or(b"type".as_slice())),
+            Part::Words("."),
+        ]),
+        None => said.say_words(
+            "Write it with the arguments of the signature, and without a result.",
+        ),
+    }
+}

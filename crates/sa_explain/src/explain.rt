@@ -1,0 +1,214 @@
+//! The explanation of a refusal or a fault.
+
+ghost use Rattle.std.specs.Prelude.{◌↔◌, ◌<◌, All, IsTrue, length};
+
+use crate::classes::{about_class, about_features};
+use crate::faults::about_fault;
+use crate::general::{Advice, of_rule};
+use sa_explain_bodies::about_body;
+use sa_explain_grammar::{about_bytes, unexpected};
+use sa_explain_scene::{Said, Scene, Span, Table, Tokens, line_in, opened_before, put_marked};
+use sa_lex::{Token, lex};
+use sa_read::{Parsed, parse_program};
+use sa_tree::{Class, FaultKind, NoMemory, Pos, Refusal, Rule, Sources};
+use sqlite_items::Items;
+use std::alloc::Global;
+
+/// The greatest number of bytes that a text may have to be explained.
+const MOST_BYTES: usize = 4_294_967_294;
+
+/// What a refusal of a program with these texts means: the line of the place with the place marked, a sentence about what is wrong
+/// there, and what to do. Nothing where the position is in none of the texts.
+///
+/// # Errors
+///
+/// `NoMemory` where memory runs out.
+pub fn explain_refusal(
+    alloc: Global,
+    sources: &Sources,
+    refusal: Refusal,
+) -> Result<Vec<u8>, NoMemory> {
+    let Some(text) = sources.texts.get(refusal.pos.file as usize) else {
+        return Ok(Vec::new(alloc));
+    };
+    let text = text.as_slice();
+    let said = said_of_refusal(alloc, sources, text, refusal)?;
+    shown(alloc, text, &said)
+}
+
+/// What a fault of this kind at a position means, in the same form. Where the position is in the prelude, the feature there is named.
+///
+/// # Errors
+///
+/// `NoMemory` where memory runs out.
+pub fn explain_fault(
+    alloc: Global,
+    sources: &Sources,
+    kind: FaultKind,
+    pos: Pos,
+) -> Result<Vec<u8>, NoMemory> {
+    let Some(text) = sources.texts.get(pos.file as usize) else {
+        return Ok(Vec::new(alloc));
+    };
+    let text = text.as_slice();
+    let tokens = tokens_of(alloc, text, pos.file)?;
+    let classes = classes_of(alloc, sources)?;
+    let table = Table {
+        classes: classes.as_slice(),
+        sources,
+    };
+    let scene = scene_of(alloc, text, tokens.as_slice(), pos, table)?;
+    let mut said = Said::new(alloc, scene.span(scene.at));
+    about_fault(scene, kind, &mut said)?;
+    shown(alloc, text, &said)
+}
+
+/// The marked line, and behind it what is said.
+fn shown(alloc: Global, text: &[u8], said: &Said) -> Result<Vec<u8>, NoMemory> {
+    let mut lines = Vec::new(alloc);
+    put_marked(&mut lines, text, line_in(text, said.mark.start), said.mark)?;
+    lines.extend_from_slice(said.sentences.text.as_slice())?;
+    Ok(lines)
+}
+
+/// What is said of a refusal at a place of this text.
+fn said_of_refusal(
+    alloc: Global,
+    sources: &Sources,
+    text: &[u8],
+    refusal: Refusal,
+) -> Result<Said, NoMemory> {
+    let mut said = match refusal.rule {
+        Rule::BadByte
+        | Rule::LiteralNotEnded
+        | Rule::NumberTooLarge
+        | Rule::NumberForm
+        | Rule::UnknownEscape => of_bytes(alloc, text, refusal)?,
+        Rule::SourceTooLarge => Said::new(alloc, one_byte(refusal.pos)),
+        _ => of_tokens(alloc, sources, text, refusal)?,
+    };
+    if said.is_silent() {
+        let Advice { wrong, remedy } = of_rule(refusal.rule);
+        said.say_words(wrong)?;
+        said.say_words(remedy)?;
+    }
+    Ok(said)
+}
+
+/// The byte at a position.
+fn one_byte(pos: Pos) -> Span {
+    let start = pos.at as usize;
+    Span {
+        start,
+        end: start.saturating_add(1),
+    }
+}
+
+/// What is said of bytes that are no tokens.
+fn of_bytes(alloc: Global, text: &[u8], refusal: Refusal) -> Result<Said, NoMemory> {
+    let mut said = Said::new(alloc, one_byte(refusal.pos));
+    about_bytes(text, refusal, &mut said)?;
+    Ok(said)
+}
+
+/// What is said of a refusal of a text that has tokens.
+fn of_tokens(
+    alloc: Global,
+    sources: &Sources,
+    text: &[u8],
+    refusal: Refusal,
+) -> Result<Said, NoMemory> {
+    let tokens = tokens_of(alloc, text, refusal.pos.file)?;
+    let classes = classes_of(alloc, sources)?;
+    let table = Table {
+        classes: classes.as_slice(),
+        sources,
+    };
+    let scene = scene_of(alloc, text, tokens.as_slice(), refusal.pos, table)?;
+    let mut said = Said::new(alloc, scene.span(scene.at));
+    about_rule(scene, refusal.rule, &mut said)?;
+    Ok(said)
+}
+
+/// The place in its text, with what is around it.
+fn scene_of<'a>(
+    alloc: Global,
+    text: &'a [u8],
+    list: &'a [Token],
+    pos: Pos,
+    table: Table<'a>,
+) -> Result<Scene<'a>, NoMemory> {
+    let tokens = Tokens { list, src: text };
+    let at = tokens.number_at(pos.at as usize);
+    let opened = opened_before(alloc, tokens, at)?;
+    let feature = match opened.feature(tokens) {
+        Some(open) => open.named,
+        None => at,
+    };
+    Ok(Scene {
+        alloc,
+        tokens,
+        at,
+        pos,
+        feature,
+        table,
+    })
+}
+
+/// The tokens of a text, or none where it has none.
+fn tokens_of(alloc: Global, text: &[u8], file: u32) -> Result<Vec<Token>, NoMemory> {
+    if text.len() > MOST_BYTES {
+        return Ok(Vec::new(alloc));
+    }
+    match lex(alloc, text, file) {
+        Ok(tokens) => Ok(tokens),
+        Err(_) => Ok(Vec::new(alloc)),
+    }
+}
+
+/// The classes of a program, or none where its texts have no grammar.
+fn classes_of(alloc: Global, sources: &Sources) -> Result<Items<Class>, NoMemory> {
+    let texts = sources.texts.as_slice();
+    if !are_short(texts) || texts.len() > MOST_BYTES {
+        return Ok(Items::new(alloc));
+    }
+    match parse_program(alloc, texts) {
+        Ok(
+            Parsed {
+                classes,
+                contracts: _contracts,
+            },
+        ) => Ok(classes),
+        Err(_) => Ok(Items::new(alloc)),
+    }
+}
+
+/// Whether each text may be explained by its length.
+fn are_short(texts: &[Items<u8>]) -> bool
+    ensures { IsTrue result ↔ All (λ text. length text < 4294967295) texts.now }
+{
+    for text in texts {
+        if text.len() > MOST_BYTES {
+            return false;
+        }
+    }
+    true
+}
+
+/// What is said of a rule that is broken at the place.
+fn about_rule(scene: Scene<'_>, rule: Rule, said: &mut Said) -> Result<(), NoMemory> {
+    match rule {
+        Rule::UnexpectedToken => unexpected(scene, said),
+        Rule::WordNotTaken
+        | Rule::ClassDefinedTwice
+        | Rule::ClassNotUsable
+        | Rule::ParameterCount
+        | Rule::SupertypeNotAbstract
+        | Rule::NoMain => about_class(scene, rule, said),
+        Rule::FeaturesConflict
+        | Rule::NoSuchIncludedFeature
+        | Rule::StubLeft
+        | Rule::NoConformingFeature => about_features(scene, rule, said),
+        _ => about_body(scene, rule, said),
+    }
+}

@@ -1,0 +1,419 @@
+//! Names: those that nothing has (E30), those that are private (E34), the variable of a typecase (E42), names that are declared twice (E43),
+//! and what a bind leaves open (E45).
+
+use crate::operators::unknown_operator;
+use crate::values::{
+    Declared, class_named_at, declared_before, declares, is_in_force, receiver_before,
+};
+use sa_explain_scene::{Part, Quality, Said, Scene, count_in, feature_near};
+use sa_lex::{Sign, TokenKind, Word};
+use sa_tree::{NoMemory, Rule};
+use std::alloc::AllocError;
+
+/// Says what has no feature of the name at the place, and which name is near.
+pub(crate) fn unknown_name(scene: Scene<'_>, said: &mut Said) -> Result<(), NoMemory> {
+    match scene.tokens.kind(scene.at) {
+        Some(TokenKind::Sign(Sign::Hash)) => without_create(scene, said)?,
+        Some(TokenKind::Sign(Sign::Assign)) => unknown_target(scene, said)?,
+        Some(TokenKind::Sign(sign)) => unknown_operator(scene, *sign, said)?,
+        Some(TokenKind::Lower | TokenKind::IterName) => unknown_feature(scene, said)?,
+        Some(TokenKind::Word(Word::New)) => {
+            said.say_words("`new` makes an object of a reference class, and this class is none.")?;
+            said.say_words(
+                "A variable `x:SAME` of an immutable class is its void value: change its attributes.",
+            )?;
+        }
+        _ => {}
+    }
+    Ok(())
+}
+
+/// `#A`, where A has no `create`.
+fn without_create(scene: Scene<'_>, said: &mut Said) -> Result<(), AllocError> {
+    let name = scene.at.saturating_add(1);
+    let Some(class) = class_named_at(scene, name) else {
+        said.say_words("`#C` calls the routine `create` of C, and no class has one by itself.")?;
+        return said.say_words("Write `create:SAME is return new; end;` in the class.");
+    };
+    said.mark.end = scene.tokens.end(name);
+    said.say(&[
+        Part::Plain(class),
+        Part::Words(" has no routine `create`, which `#"),
+        Part::Plain(class),
+        Part::Words("` calls."),
+    ])?;
+    said.say(&[
+        Part::Words("Write one in "),
+        Part::Plain(class),
+        Part::Words(", as `create:SAME is return new; end;`."),
+    ])
+}
+
+/// `x := e`, where nothing has the name `x`.
+fn unknown_target(scene: Scene<'_>, said: &mut Said) -> Result<(), AllocError> {
+    let tokens = scene.tokens;
+    let Some(target) = scene.at.checked_sub(1) else {
+        return Ok(());
+    };
+    if tokens.is_sign(target, Sign::RightBracket) {
+        said.say_words(
+            "`a[i] := x` calls `aset`, and the class of what stands before the `[` has none.",
+        )?;
+        return said.say_words("Arrays and FLIST have it.");
+    }
+    if !tokens.is_lower(target) {
+        return Ok(());
+    }
+    said.mark = scene.span(target);
+    said.say(&[
+        Part::Words("Nothing that is named "),
+        Part::Code(tokens.bytes(target)),
+        Part::Words(" can be assigned here."),
+    ])?;
+    near_or_new(scene, target, said)
+}
+
+/// A name near by, or how a variable of this name is declared.
+fn near_or_new(scene: Scene<'_>, at: usize, said: &mut Said) -> Result<(), AllocError> {
+    let name = scene.tokens.bytes(at);
+    if let Some(near) = feature_near(scene, name)? {
+        return did_you_mean(near, said);
+    }
+    if scene.tokens.is_sign_back(at, 1, Sign::Dot) {
+        return said.say_words("See how the attribute is written where it is declared.");
+    }
+    said.say(&[
+        Part::Words("A variable is declared by `"),
+        Part::Plain(name),
+        Part::Words(" ::= ..`, or by its type, as `"),
+        Part::Plain(name),
+        Part::Words(":INT`."),
+    ])
+}
+
+fn did_you_mean(near: &[u8], said: &mut Said) -> Result<(), AllocError> {
+    said.say(&[
+        Part::Words("Did you mean "),
+        Part::Code(near),
+        Part::Words("?"),
+    ])
+}
+
+/// A name of a routine, a variable or an iter that nothing has.
+fn unknown_feature(scene: Scene<'_>, said: &mut Said) -> Result<(), AllocError> {
+    let tokens = scene.tokens;
+    if is_indexed(scene) {
+        return without_index(scene, said);
+    }
+    if tokens.is_sign_back(scene.at, 1, Sign::Dot) {
+        let class = receiver_before(scene, scene.at.saturating_sub(1));
+        lacks_feature(scene, class, said)?;
+    } else if tokens.is_sign_back(scene.at, 1, Sign::DoubleColon) {
+        let class = class_named_at(scene, scene.at.saturating_sub(2));
+        lacks_feature(scene, class, said)?;
+    } else if declared_elsewhere(scene, said)? == Declares::Elsewhere {
+        return said.say_words(
+            "Declare it before that list, by its type, and give it its value by `:=`.",
+        );
+    } else {
+        said.say(&[
+            Part::Words("Nothing that is named "),
+            Part::Code(scene.name()),
+            Part::Words(
+                " is known here: no variable that is declared above, and no feature of the class.",
+            ),
+        ])?;
+    }
+    what_is_meant(scene, said)
+}
+
+/// Whether `[` follows the name or its arguments: then the index may be what isn't there.
+fn is_indexed(scene: Scene<'_>) -> bool {
+    let next = scene.at.saturating_add(1);
+    let behind = if scene.tokens.is_sign(next, Sign::LeftParen) {
+        scene.tokens.behind_bracket(next).unwrap_or(next)
+    } else {
+        next
+    };
+    scene.tokens.is_sign(behind, Sign::LeftBracket)
+        || (scene.tokens.is_sign(behind, Sign::Dot) && has_later_index(scene, behind))
+}
+
+/// `x[i]`, where the class of x has no `aget`.
+fn without_index(scene: Scene<'_>, said: &mut Said) -> Result<(), AllocError> {
+    if !scene
+        .tokens
+        .is_sign(scene.at.saturating_add(1), Sign::LeftBracket)
+    {
+        return Ok(());
+    }
+    let Some(
+        Declared {
+            class: Some(name),
+            ..
+        },
+    ) = declared_before(scene, scene.at)
+    else {
+        return Ok(());
+    };
+    let Some(class) = scene.table.class(name) else {
+        return Ok(());
+    };
+    if !class.includes.is_empty() || count_in(class, b"aget".as_slice(), Quality::Any) > 0 {
+        return Ok(());
+    }
+    said.say(&[
+        Part::Code(scene.name()),
+        Part::Words(" is of type "),
+        Part::Plain(name),
+        Part::Words(", which has no routine `aget`, which `[..]` calls."),
+    ])?;
+    said.say_words("Texts, arrays and FLIST have elements.")
+}
+
+/// Whether `[` stands behind a token before the statement ends.
+fn has_later_index(scene: Scene<'_>, from: usize) -> bool {
+    for at in from..scene.tokens.list.len() {
+        if scene.tokens.is_sign(at, Sign::LeftBracket) {
+            return true;
+        }
+        if scene.tokens.is_sign(at, Sign::Semicolon) {
+            return false;
+        }
+    }
+    false
+}
+
+/// What is called on has no feature of this name.
+fn lacks_feature(
+    scene: Scene<'_>,
+    class: Option<&[u8]>,
+    said: &mut Said,
+) -> Result<(), AllocError> {
+    let what = match scene.tokens.kind(scene.at) {
+        Some(TokenKind::IterName) => "iter ",
+        _ => "routine ",
+    };
+    match class {
+        Some(class) => said.say(&[
+            Part::Plain(class),
+            Part::Words(" has no "),
+            Part::Words(what),
+            Part::Code(scene.name()),
+            Part::Words("."),
+        ]),
+        None => said.say(&[
+            Part::Words("The class of what this is called on has no "),
+            Part::Words(what),
+            Part::Code(scene.name()),
+            Part::Words("."),
+        ]),
+    }
+}
+
+/// Whether a variable of a name is declared in the feature.
+#[derive(Clone, Copy, PartialEq, Eq)]
+enum Declares {
+    Nothing,
+    Elsewhere,
+}
+
+/// Says where a variable of this name is declared that isn't known here.
+fn declared_elsewhere(scene: Scene<'_>, said: &mut Said) -> Result<Declares, AllocError> {
+    let tokens = scene.tokens;
+    let name = scene.name();
+    for at in scene.feature..tokens.list.len() {
+        if at > scene.at && tokens.is_word(at, Word::Is) {
+            break;
+        }
+        if at != scene.at
+            && tokens.is_lower(at)
+            && tokens.bytes(at) == name
+            && tokens.is_sign(at.saturating_add(1), Sign::Declare)
+        {
+            said.say(&[
+                Part::Code(name),
+                Part::Words(" is declared in line "),
+                Part::Number(tokens.line(at)),
+                Part::Words(
+                    ", and isn't known here: a variable is known from there to the end of its list of statements.",
+                ),
+            ])?;
+            return Ok(Declares::Elsewhere);
+        }
+    }
+    Ok(Declares::Nothing)
+}
+
+/// An iter of this name, what it is called elsewhere, or a name near by.
+fn what_is_meant(scene: Scene<'_>, said: &mut Said) -> Result<(), AllocError> {
+    let name = scene.name();
+    if says_other_kind(scene, said)? {
+        return Ok(());
+    }
+    if let Some(remedy) = known_elsewhere(name) {
+        return said.say_words(remedy);
+    }
+    if let Some(near) = feature_near(scene, name)? {
+        return did_you_mean(near, said);
+    }
+    said.say_words("See how the name is written where it is declared.")
+}
+
+/// Says that there is an iter of this name, or a routine, and whether there is.
+fn says_other_kind(scene: Scene<'_>, said: &mut Said) -> Result<bool, AllocError> {
+    let name = scene.name();
+    if let [routine @ .., b'!'] = name {
+        if scene.table.count(routine, Quality::Any) == 0 {
+            return Ok(false);
+        }
+        said.say(&[
+            Part::Words("There is a routine of this name: write "),
+            Part::Code(routine),
+            Part::Words("."),
+        ])?;
+        return Ok(true);
+    }
+    let mut iter = Vec::from_slice(scene.alloc, name)?;
+    iter.push(b'!')?;
+    if scene.table.count(iter.as_slice(), Quality::Any) == 0 {
+        return Ok(false);
+    }
+    said.say(&[
+        Part::Words("There is an iter of this name: write "),
+        Part::Code(iter.as_slice()),
+        Part::Words(", in a loop."),
+    ])?;
+    Ok(true)
+}
+
+/// What to write for a name of another language.
+fn known_elsewhere(name: &[u8]) -> Option<&'static str> {
+    Some(match name {
+        b"print" | b"println" | b"printf" | b"puts" | b"write" | b"writeln" | b"echo" => {
+            "To print a value write `#OUT + x`."
+        }
+        b"null" | b"nil" | b"none" => "No object is `void` here, and `void(x)` asks for it.",
+        b"this" => "The object itself is `self` here.",
+        b"not" => "\"Not\" is `~` here.",
+        b"length" | b"len" | b"count" => "How many there are is `size` here.",
+        b"append" | b"add" => "To put something at the end of an FLIST is `push` here.",
+        b"break" => "To leave a loop is `break!` here.",
+        b"continue" => "There is no `continue`: put the rest of the loop into an `if`.",
+        b"while" => "To go on while something holds is `while!(..)`, inside a loop.",
+        b"until" => "To go on until something holds is `until!(..)`, inside a loop.",
+        b"super" | b"base" =>
+            "An included feature gets another name, as `include C f->old_f`, and is called by that.",
+        b"to_string" | b"toString" => "The text of a value is `str` here.",
+        _ => return None,
+    })
+}
+
+/// Says what is known of a name beside its rule.
+pub(crate) fn about_name(scene: Scene<'_>, rule: Rule, said: &mut Said) -> Result<(), NoMemory> {
+    match rule {
+        Rule::PrivateFeature => private_feature(scene, said)?,
+        Rule::DeclaredTwice => declared_twice(scene, said)?,
+        Rule::BadBind => bad_bind(scene, said)?,
+        _ => tested_variable(scene, said)?,
+    }
+    Ok(())
+}
+
+fn private_feature(scene: Scene<'_>, said: &mut Said) -> Result<(), AllocError> {
+    let target = if scene.tokens.is_sign(scene.at, Sign::Assign) {
+        scene.at.saturating_sub(1)
+    } else {
+        scene.at
+    };
+    let name = scene.tokens.bytes(target);
+    if !scene.tokens.is_feature_name(target) {
+        return Ok(());
+    }
+    said.mark = scene.span(target);
+    said.say(&[
+        Part::Code(name),
+        Part::Words(" is private: the code of its own class alone sees it."),
+    ])?;
+    said.say_words(
+        "Call it inside its class, or write `readonly` in place of `private`, which lets others read it.",
+    )
+}
+
+/// A variable that is declared where one of its name is known.
+fn declared_twice(scene: Scene<'_>, said: &mut Said) -> Result<(), AllocError> {
+    let tokens = scene.tokens;
+    for at in scene.feature..scene.at {
+        let is_same = tokens.is_lower(at) && tokens.bytes(at) == scene.name();
+        if is_same && declares(tokens, at) && is_in_force(tokens, at, scene.at) {
+            said.say(&[
+                Part::Code(scene.name()),
+                Part::Words(" is declared in line "),
+                Part::Number(tokens.line(at)),
+                Part::Words(" already, and is still known here."),
+            ])?;
+            return said.say_words(
+                "To give it a value write `:=`; for another variable choose another name.",
+            );
+        }
+    }
+    Ok(())
+}
+
+/// `#ROUT(..)` of older Sather, and `_` where no bind is.
+fn bad_bind(scene: Scene<'_>, said: &mut Said) -> Result<(), AllocError> {
+    let tokens = scene.tokens;
+    if !tokens.is_sign(scene.at, Sign::Underscore) {
+        return Ok(());
+    }
+    if has_old_bind(scene) {
+        said.say_words(
+            "A bound routine or iter is made by `bind` here, and `_` leaves an argument open there alone.",
+        )?;
+        return said.say_words("Write `bind(f(_))` in place of `#ROUT(f(_))`.");
+    }
+    said.say_words("`_` leaves an argument open, which a call inside `bind(..)` alone can.")?;
+    said.say_words("Give the argument, or bind the call, as `bind(f(_))`.")
+}
+
+/// Whether `#ROUT` or `#ITER` stands a few tokens before the place.
+fn has_old_bind(scene: Scene<'_>) -> bool {
+    let tokens = scene.tokens;
+    for at in scene.at.saturating_sub(12)..scene.at {
+        let is_bound_type = tokens.is_word(at, Word::Rout) || tokens.is_word(at, Word::Iter);
+        if is_bound_type && tokens.is_sign_back(at, 1, Sign::Hash) {
+            return true;
+        }
+    }
+    false
+}
+
+/// The variable of a `typecase`.
+fn tested_variable(scene: Scene<'_>, said: &mut Said) -> Result<(), AllocError> {
+    if scene.tokens.is_word(scene.at, Word::Typecase) {
+        let name = scene.at.saturating_add(1);
+        said.mark = scene.span(name);
+        said.say(&[
+            Part::Code(scene.tokens.bytes(name)),
+            Part::Words(" is no variable of this feature, and a `typecase` tests one."),
+        ])?;
+        return said.say(&[
+            Part::Words("Put it into one first: `x ::= "),
+            Part::Plain(scene.tokens.bytes(name)),
+            Part::Words(";`, and test `x`."),
+        ]);
+    }
+    let target = if scene.tokens.is_sign(scene.at, Sign::Assign) {
+        scene.at.saturating_sub(1)
+    } else {
+        scene.at
+    };
+    if !scene.tokens.is_lower(target) {
+        return Ok(());
+    }
+    said.mark = scene.span(target);
+    said.say_words(
+        "In a branch of a `typecase` the variable that is tested has the type of the branch, and isn't written.",
+    )?;
+    said.say_words("Put the new value into another variable.")
+}

@@ -1,0 +1,280 @@
+//! What tokens alone tell of types: the class of a literal, of a new object, and of a variable that is declared with one.
+//! Where they don't tell, no class is given.
+
+use sa_explain_scene::{Scene, Tokens, has_parameter, is_block};
+use sa_lex::{Sign, TokenKind, Word};
+
+/// The class of a value, and the number of the token behind it.
+#[derive(Clone, Copy)]
+pub(crate) struct Value<'a> {
+    pub class: &'a [u8],
+    pub behind: usize,
+}
+
+/// The value that begins at a token, where it is a literal, a new object or a variable and nothing is done with it.
+pub(crate) fn value_at<'a>(scene: Scene<'a>, at: usize) -> Option<Value<'a>> {
+    let value = primary_at(scene, at)?;
+    if goes_on(scene.tokens.kind(value.behind)) {
+        return None;
+    }
+    Some(value)
+}
+
+/// The literal, the new object or the variable at a token.
+fn primary_at<'a>(scene: Scene<'a>, at: usize) -> Option<Value<'a>> {
+    if scene.tokens.is_lower(at) {
+        let declared = declared_before(scene, at)?;
+        return Some(Value {
+            class: declared.class?,
+            behind: at.saturating_add(1),
+        });
+    }
+    made_at(scene, at)
+}
+
+/// The literal or the new object at a token.
+fn made_at<'a>(scene: Scene<'a>, at: usize) -> Option<Value<'a>> {
+    let tokens = scene.tokens;
+    if tokens.is_sign(at, Sign::Hash) {
+        return object_at(scene, at.saturating_add(1));
+    }
+    let class: &'a str = match tokens.kind(at)? {
+        TokenKind::Int(_) => "INT",
+        TokenKind::Char(_) => "CHAR",
+        TokenKind::Word(Word::True | Word::False) => "BOOL",
+        TokenKind::Text(_) => "STR",
+        _ => return None,
+    };
+    Some(Value {
+        class: class.as_bytes(),
+        behind: behind_texts(tokens, at),
+    })
+}
+
+/// The number of the token behind a literal, and behind the texts that go on with a text.
+fn behind_texts(tokens: Tokens<'_>, at: usize) -> usize {
+    let from = at.saturating_add(1);
+    for behind in from..tokens.list.len() {
+        if !matches!(tokens.kind(behind), Some(TokenKind::Text(_))) {
+            return behind;
+        }
+    }
+    tokens.list.len()
+}
+
+/// The new object whose class is named at a token.
+fn object_at<'a>(scene: Scene<'a>, name: usize) -> Option<Value<'a>> {
+    let class = class_named_at(scene, name)?;
+    let next = name.saturating_add(1);
+    if scene.tokens.is_sign(next, Sign::LeftParen) {
+        let behind = scene.tokens.behind_bracket(next)?;
+        return Some(Value { class, behind });
+    }
+    Some(Value {
+        class,
+        behind: next,
+    })
+}
+
+/// The name at a token, where it is that of a class without parameters, and of no parameter.
+pub(crate) fn class_named_at<'a>(scene: Scene<'a>, at: usize) -> Option<&'a [u8]> {
+    let name = scene.tokens.bytes(at);
+    let class = scene.table.class(name)?;
+    if !class.params.is_empty() || is_parameter(scene, name) {
+        return None;
+    }
+    Some(class.name.name.as_slice())
+}
+
+/// Whether the class that the place is in has a parameter of this name.
+fn is_parameter(scene: Scene<'_>, name: &[u8]) -> bool {
+    match scene.table.class_at(scene.pos) {
+        Some(class) => has_parameter(class, name),
+        None => true,
+    }
+}
+
+/// Whether a value goes on with this token.
+fn goes_on(kind: Option<&TokenKind>) -> bool {
+    !matches!(
+        kind,
+        Some(
+            TokenKind::Sign(
+                Sign::Semicolon | Sign::Comma | Sign::RightParen | Sign::RightBracket | Sign::Bar
+            ) | TokenKind::Word(Word::Then | Word::End | Word::Else | Word::Elsif | Word::When)
+        )
+    )
+}
+
+/// Where a variable is declared, and its class where the tokens tell it.
+#[derive(Clone, Copy)]
+pub(crate) struct Declared<'a> {
+    pub at: usize,
+    pub class: Option<&'a [u8]>,
+}
+
+/// The declaration of the variable that is named at a token: the last one of its feature up to there, if it is still in force.
+pub(crate) fn declared_before<'a>(scene: Scene<'a>, at: usize) -> Option<Declared<'a>> {
+    let tokens = scene.tokens;
+    let name = tokens.bytes(at);
+    let mut found = None;
+    for place in scene.feature..at.saturating_add(1) {
+        if tokens.is_lower(place) && tokens.bytes(place) == name {
+            if is_tested(tokens, place) {
+                return None;
+            }
+            if declares(tokens, place) {
+                found = Some(place);
+            }
+        }
+    }
+    let place = found?;
+    if !is_in_force(tokens, place, at) {
+        return None;
+    }
+    Some(Declared {
+        at: place,
+        class: class_of_declaration(scene, place),
+    })
+}
+
+/// Whether a `typecase` tests the variable at a token, so that its branches see another type.
+fn is_tested(tokens: Tokens<'_>, at: usize) -> bool {
+    tokens.is_word_back(at, 1, Word::Typecase)
+}
+
+/// Whether the name at a token is declared there: `::=` follows, or names between commas and `:`.
+pub(crate) fn declares(tokens: Tokens<'_>, at: usize) -> bool {
+    let next = at.saturating_add(1);
+    tokens.is_sign(next, Sign::Declare) || colon_behind(tokens, at).is_some()
+}
+
+/// The `:` behind a list of names that goes on from a token.
+fn colon_behind(tokens: Tokens<'_>, name: usize) -> Option<usize> {
+    for at in name.saturating_add(1)..tokens.list.len() {
+        if tokens.is_sign(at, Sign::Colon) {
+            return Some(at);
+        }
+        if !tokens.is_sign(at, Sign::Comma) && !tokens.is_lower(at) {
+            return None;
+        }
+    }
+    None
+}
+
+/// Whether what is declared at a token is still known at a later one: the list of statements around it hasn't ended.
+pub(crate) fn is_in_force(tokens: Tokens<'_>, from: usize, to: usize) -> bool {
+    let mut depth = 0usize;
+    for at in from..to {
+        let kind = tokens.kind(at);
+        if is_block(kind) {
+            depth = depth.saturating_add(1);
+        } else if depth == 0 && ends_statements(kind) {
+            return false;
+        } else if matches!(kind, Some(TokenKind::Word(Word::End))) {
+            depth = depth.saturating_sub(1);
+        }
+    }
+    true
+}
+
+/// Whether a list of statements ends at a token.
+fn ends_statements(kind: Option<&TokenKind>) -> bool {
+    matches!(
+        kind,
+        Some(TokenKind::Word(Word::End | Word::Else | Word::Elsif | Word::When))
+    )
+}
+
+/// The class of what is declared at a token.
+fn class_of_declaration<'a>(scene: Scene<'a>, at: usize) -> Option<&'a [u8]> {
+    let tokens = scene.tokens;
+    let next = at.saturating_add(1);
+    if tokens.is_sign(next, Sign::Declare) {
+        let value = made_at(scene, next.saturating_add(1))?;
+        if goes_on(tokens.kind(value.behind)) {
+            return None;
+        }
+        return Some(value.class);
+    }
+    let ty = colon_behind(tokens, at)?.saturating_add(1);
+    if tokens.is_sign(ty.saturating_add(1), Sign::LeftBrace) {
+        return None;
+    }
+    class_named_at(scene, ty)
+}
+
+/// The class of what stands before the `.` at a token, where it is a literal, a new object or a variable.
+pub(crate) fn receiver_before<'a>(scene: Scene<'a>, dot: usize) -> Option<&'a [u8]> {
+    let first = first_of_primary(scene.tokens, dot)?;
+    if is_part(scene.tokens, first) {
+        return None;
+    }
+    let value = primary_at(scene, first)?;
+    if value.behind != dot {
+        return None;
+    }
+    Some(value.class)
+}
+
+/// The class of the whole left operand of the operator at a token, where it is a literal, a new object or a variable.
+pub(crate) fn operand_before<'a>(scene: Scene<'a>, operator: usize) -> Option<&'a [u8]> {
+    let first = first_of_primary(scene.tokens, operator)?;
+    if !begins_operand(scene.tokens.kind_back(first, 1)) {
+        return None;
+    }
+    let value = primary_at(scene, first)?;
+    if value.behind != operator {
+        return None;
+    }
+    Some(value.class)
+}
+
+/// Whether an operand begins behind this token, and none goes on.
+fn begins_operand(kind: Option<&TokenKind>) -> bool {
+    matches!(
+        kind,
+        Some(
+            TokenKind::Sign(
+                Sign::LeftParen
+                    | Sign::LeftBracket
+                    | Sign::Comma
+                    | Sign::Semicolon
+                    | Sign::Assign
+                    | Sign::Declare
+            ) | TokenKind::Word(
+                Word::Return
+                    | Word::Yield
+                    | Word::If
+                    | Word::Elsif
+                    | Word::Then
+                    | Word::Else
+                    | Word::Is
+                    | Word::Loop
+                    | Word::And
+                    | Word::Or
+                    | Word::Raise
+                    | Word::Assert
+            )
+        )
+    )
+}
+
+/// The token with which a primary begins that ends before a token.
+fn first_of_primary(tokens: Tokens<'_>, behind: usize) -> Option<usize> {
+    let last = behind.checked_sub(1)?;
+    if tokens.is_sign(last, Sign::RightParen) {
+        return tokens.opening_of(last)?.checked_sub(2);
+    }
+    if tokens.is_class_name(last) {
+        return last.checked_sub(1);
+    }
+    Some(last)
+}
+
+/// Whether the token at a place goes on with what stands before it.
+fn is_part(tokens: Tokens<'_>, at: usize) -> bool {
+    tokens.is_sign_back(at, 1, Sign::Dot)
+        || tokens.is_sign_back(at, 1, Sign::DoubleColon)
+        || matches!(tokens.kind_back(at, 1), Some(TokenKind::Text(_)))
+}

@@ -1,0 +1,444 @@
+//! What the classes, bodies, statements and brackets tell of an unexpected token that are open around it.
+
+use sa_explain_scene::{
+    Closed, Open, Opened, Part, Said, Scene, Span, Tokens, begins_statement, ends_value,
+    is_closing, is_opening, last_else_if,
+};
+use sa_lex::{Sign, TokenKind, Word};
+use std::alloc::AllocError;
+
+/// What the parts tell that are open around the token.
+pub(crate) fn open_around(
+    scene: Scene<'_>,
+    opened: &Opened,
+    said: &mut Said,
+) -> Result<(), AllocError> {
+    let tokens = scene.tokens;
+    let Some(open) = opened.innermost() else {
+        return outside_classes(scene, opened.closed, said);
+    };
+    if is_opening(tokens.kind(open.at)) {
+        return in_bracket(scene, open, said);
+    }
+    let place = if opened.list.len() > 1 {
+        Inside::Body
+    } else {
+        Inside::Class
+    };
+    missing_semicolon(scene, place, said)?;
+    if said.is_silent() && place == Inside::Class {
+        bare_attribute(scene, said)?;
+    }
+    if !said.is_silent() {
+        return Ok(());
+    }
+    if tokens.kind(scene.at).is_none() {
+        return at_the_end(scene, opened, open, said);
+    }
+    let begins = begins_beside(tokens, scene.at) || begins_body(tokens, scene.at);
+    if begins && opened.list.len() > 1 {
+        return unclosed(scene, opened, open, said);
+    }
+    stray_word(scene, open, said)
+}
+
+/// `x:INT;` as a feature
+fn bare_attribute(scene: Scene<'_>, said: &mut Said) -> Result<(), AllocError> {
+    let tokens = scene.tokens;
+    let at = scene.at;
+    let ends = tokens.is_sign(at, Sign::Semicolon) || tokens.is_sign(at, Sign::Assign);
+    let is_plain = tokens.is_sign_back(at, 2, Sign::Colon) && tokens.is_lower(at.saturating_sub(3));
+    if !ends || !is_plain {
+        return Ok(());
+    }
+    said.say(&[
+        Part::Words("What the objects of a class hold is an "),
+        Part::Code(b"attr".as_slice()),
+        Part::Words(", and a routine has a body between "),
+        Part::Code(b"is".as_slice()),
+        Part::Words(" and "),
+        Part::Code(b"end".as_slice()),
+        Part::Words("."),
+    ])?;
+    said.say(&[
+        Part::Words("Write "),
+        Part::Code(b"attr".as_slice()),
+        Part::Words(" before "),
+        Part::Code(tokens.bytes_back(at, 3)),
+        Part::Words("."),
+    ])
+}
+
+/// A token where no class is open.
+fn outside_classes(
+    scene: Scene<'_>,
+    closed: Option<Closed>,
+    said: &mut Said,
+) -> Result<(), AllocError> {
+    let tokens = scene.tokens;
+    let (Some(_), Some(closed)) = (tokens.kind(scene.at), closed) else {
+        return Ok(());
+    };
+    if begins_class(tokens, scene.at) {
+        return semicolon_behind(tokens, closed.end, said);
+    }
+    said.say(&[
+        Part::Words("No class is open here: the "),
+        Part::Code(b"end".as_slice()),
+        Part::Words(" of line "),
+        Part::Number(tokens.line(closed.end)),
+        Part::Words(" has closed "),
+        Part::Code(tokens.bytes(closed.open.named)),
+        Part::Words(", which was opened in line "),
+        Part::Number(tokens.line(closed.open.named)),
+        Part::Words("."),
+    ])?;
+    said.say_words("Everything stands in a class: is there an `end` too many before this place?")
+}
+
+fn begins_class(tokens: Tokens<'_>, at: usize) -> bool {
+    matches!(
+        tokens.kind(at),
+        Some(TokenKind::Word(Word::Class | Word::Abstract | Word::Immutable | Word::Partial))
+    ) && tokens.is_word_back(at, 1, Word::End)
+}
+
+/// A token that can't stand inside an open bracket.
+fn in_bracket(scene: Scene<'_>, open: Open, said: &mut Said) -> Result<(), AllocError> {
+    let tokens = scene.tokens;
+    let leaves = match tokens.kind(scene.at) {
+        None => true,
+        Some(TokenKind::Word(word)) => is_of_statement(*word),
+        Some(TokenKind::Sign(sign)) => matches!(
+            sign,
+            Sign::Semicolon | Sign::Assign | Sign::Declare
+        ),
+        Some(_) => false,
+    };
+    let closing = closing_of(tokens.kind(open.at));
+    let closes_another = is_closing(tokens.kind(scene.at)) && scene.name() != closing.as_bytes();
+    if !leaves && !closes_another {
+        return Ok(());
+    }
+    said.say(&[
+        Part::Code(tokens.bytes(open.at)),
+        Part::Words(" of line "),
+        Part::Number(tokens.line(open.at)),
+        Part::Words(" isn't closed yet, and this can't stand inside it."),
+    ])?;
+    said.say(&[
+        Part::Words("Write "),
+        Part::Code(closing.as_bytes()),
+        Part::Words(" where it ends."),
+    ])
+}
+
+/// Whether a word stands in statements and around them, and in no brackets.
+fn is_of_statement(word: Word) -> bool {
+    matches!(
+        word,
+        Word::End
+            | Word::Then
+            | Word::Loop
+            | Word::Is
+            | Word::Else
+            | Word::Elsif
+            | Word::When
+            | Word::If
+            | Word::Case
+            | Word::Typecase
+            | Word::Protect
+            | Word::Return
+            | Word::Yield
+            | Word::Quit
+            | Word::Raise
+            | Word::Assert
+            | Word::Class
+    )
+}
+
+fn closing_of(open: Option<&TokenKind>) -> &'static str {
+    match open {
+        Some(TokenKind::Sign(Sign::LeftBracket)) => "]",
+        Some(TokenKind::Sign(Sign::LeftBrace)) => "}",
+        _ => ")",
+    }
+}
+
+/// What a place is inside of.
+#[derive(Clone, Copy, PartialEq, Eq)]
+enum Inside {
+    Class,
+    Body,
+}
+
+/// A statement or a feature that begins behind one that hasn't ended.
+fn missing_semicolon(scene: Scene<'_>, place: Inside, said: &mut Said) -> Result<(), AllocError> {
+    let tokens = scene.tokens;
+    let at = scene.at;
+    let Some(before) = at.checked_sub(1) else {
+        return Ok(());
+    };
+    if !ends_value(tokens.kind(before)) || !begins_statement(tokens.kind(at)) {
+        return Ok(());
+    }
+    if place == Inside::Class && !is_between_features(tokens, at) {
+        return Ok(());
+    }
+    let is_behind = tokens.has_line_feed(before, at) || !tokens.is_feature_name(at);
+    if is_behind && let Some(word) = open_condition(tokens, at) {
+        said.say(&[
+            Part::Words("Behind "),
+            Part::Code(tokens.bytes(word)),
+            Part::Words(" of line "),
+            Part::Number(tokens.line(word)),
+            Part::Words(" no "),
+            Part::Code(b"then".as_slice()),
+            Part::Words(" stands before this."),
+        ])?;
+        return said.say_words("Write `then` between the condition and its statements.");
+    }
+    if !ends_surely(tokens, before) && !tokens.has_line_feed(before, at) {
+        return Ok(());
+    }
+    semicolon_behind(tokens, before, said)
+}
+
+/// Whether a value or a statement ends with a token, and no word or name of another language stands there.
+fn ends_surely(tokens: Tokens<'_>, at: usize) -> bool {
+    !matches!(
+        tokens.kind(at),
+        Some(TokenKind::Lower | TokenKind::ClassName | TokenKind::AbstractName)
+    )
+}
+
+/// Whether one feature of a class ends before a token, and another one begins there.
+fn is_between_features(tokens: Tokens<'_>, at: usize) -> bool {
+    let next = at.saturating_add(1);
+    tokens.is_word_back(at, 1, Word::End)
+        || (!tokens.is_lower(at.saturating_sub(1))
+            && (tokens.is_word(next, Word::Is) || tokens.is_sign(next, Sign::Colon)))
+}
+
+fn semicolon_behind(tokens: Tokens<'_>, before: usize, said: &mut Said) -> Result<(), AllocError> {
+    said.mark = Span {
+        start: tokens.end(before).saturating_sub(1),
+        end: tokens.end(before),
+    };
+    said.say(&[
+        Part::Words("No "),
+        Part::Code(b";".as_slice()),
+        Part::Words(" stands behind "),
+        Part::Code(tokens.bytes(before)),
+        Part::Words(" in line "),
+        Part::Number(tokens.line(before)),
+        Part::Words(", and what comes next can't go on with it."),
+    ])?;
+    said.say_words("Write `;` there.")
+}
+
+/// The `if`, `elsif` or `when` before a token behind which no `then` stands.
+fn open_condition(tokens: Tokens<'_>, before: usize) -> Option<usize> {
+    for back in 0..before {
+        let at = before - 1 - back;
+        match tokens.kind(at) {
+            Some(TokenKind::Word(Word::If | Word::Elsif | Word::When)) => return Some(at),
+            Some(
+                TokenKind::Word(
+                    Word::Then
+                    | Word::Else
+                    | Word::Is
+                    | Word::Loop
+                    | Word::End
+                    | Word::Protect
+                    | Word::Return
+                    | Word::Yield
+                    | Word::Raise
+                    | Word::Assert
+                    | Word::Case
+                    | Word::Typecase,
+                ),
+            ) => return None,
+            Some(TokenKind::Sign(Sign::Semicolon | Sign::Assign | Sign::Declare)) => return None,
+            _ => {}
+        }
+    }
+    None
+}
+
+/// The end of the file, where something is open.
+fn at_the_end(
+    scene: Scene<'_>,
+    opened: &Opened,
+    open: Open,
+    said: &mut Said,
+) -> Result<(), AllocError> {
+    mark_open(scene, open, said);
+    said.say(&[
+        Part::Words("The file ends, and "),
+        Part::Code(scene.tokens.bytes(open.named)),
+        Part::Words(" of line "),
+        Part::Number(scene.tokens.line(open.named)),
+        Part::Words(" isn't closed: an "),
+        Part::Code(b"end".as_slice()),
+        Part::Words(" is missing."),
+    ])?;
+    where_to_end(scene, opened, said)
+}
+
+/// Something that begins a feature or a class where the body of another feature is still open.
+fn unclosed(
+    scene: Scene<'_>,
+    opened: &Opened,
+    open: Open,
+    said: &mut Said,
+) -> Result<(), AllocError> {
+    mark_open(scene, open, said);
+    said.say(&[
+        Part::Code(scene.tokens.bytes(open.named)),
+        Part::Words(" of line "),
+        Part::Number(scene.tokens.line(open.named)),
+        Part::Words(" isn't closed before "),
+        Part::Code(scene.tokens.bytes(scene.at)),
+        Part::Words(" of line "),
+        Part::Number(scene.tokens.line(scene.at)),
+        Part::Words(": an "),
+        Part::Code(b"end".as_slice()),
+        Part::Words(" is missing between them."),
+    ])?;
+    where_to_end(scene, opened, said)
+}
+
+fn mark_open(scene: Scene<'_>, open: Open, said: &mut Said) {
+    said.mark = scene.span(open.named);
+}
+
+/// Where the `end` may be missing: at an `else if`, or before one that stands elsewhere than what it closes.
+fn where_to_end(scene: Scene<'_>, opened: &Opened, said: &mut Said) -> Result<(), AllocError> {
+    let tokens = scene.tokens;
+    let from = match opened.crooked {
+        Some(closed) => closed.open.at,
+        None => scene.feature,
+    };
+    if let Some(place) = last_else_if(tokens, from, scene.at) {
+        said.mark = Span {
+            start: tokens.start(place.saturating_sub(1)),
+            end: tokens.end(place),
+        };
+        return said.say(&[
+            Part::Code(b"else if".as_slice()),
+            Part::Words(" in line "),
+            Part::Number(tokens.line(place)),
+            Part::Words(" begins an "),
+            Part::Code(b"if".as_slice()),
+            Part::Words(" that wants an "),
+            Part::Code(b"end".as_slice()),
+            Part::Words(" of its own: write "),
+            Part::Code(b"elsif".as_slice()),
+            Part::Words("."),
+        ]);
+    }
+    let Some(crooked) = opened.crooked else {
+        return said.say_words("Write `end;` where it ends.");
+    };
+    said.mark = scene.span(crooked.open.named);
+    said.say(&[
+        Part::Words("Each "),
+        Part::Code(b"end".as_slice()),
+        Part::Words(" closes what was opened last: that of line "),
+        Part::Number(tokens.line(crooked.end)),
+        Part::Words(" closes "),
+        Part::Code(tokens.bytes(crooked.open.named)),
+        Part::Words(" of line "),
+        Part::Number(tokens.line(crooked.open.named)),
+        Part::Words(", though it is indented otherwise. Is the "),
+        Part::Code(b"end".as_slice()),
+        Part::Words(" missing there?"),
+    ])
+}
+
+/// Whether what stands at a token begins a feature or a class, and no statement.
+fn begins_beside(tokens: Tokens<'_>, at: usize) -> bool {
+    matches!(
+        tokens.kind(at),
+        Some(TokenKind::Word(
+            Word::Class
+                | Word::Abstract
+                | Word::Immutable
+                | Word::Partial
+                | Word::Attr
+                | Word::Shared
+                | Word::Const
+                | Word::Private
+                | Word::Readonly
+                | Word::Include
+                | Word::Stub
+                | Word::Invariant
+                | Word::Pre
+                | Word::Post
+        ))
+    )
+}
+
+/// Whether an `is` stands at a token, behind what may be the name, the arguments and the result of a feature.
+fn begins_body(tokens: Tokens<'_>, word: usize) -> bool {
+    if !tokens.is_word(word, Word::Is) {
+        return false;
+    }
+    let mut depth = 0usize;
+    for back in 0..word {
+        let at = word - 1 - back;
+        let kind = tokens.kind(at);
+        if is_closing(kind) {
+            depth = depth.saturating_add(1);
+        } else if depth > 0 {
+            if is_opening(kind) {
+                depth -= 1;
+            }
+        } else if tokens.is_sign(at, Sign::Semicolon) {
+            return true;
+        } else if !is_of_header(kind) {
+            return false;
+        }
+    }
+    false
+}
+
+/// Whether a token stands in the header of a feature, outside of brackets.
+fn is_of_header(kind: Option<&TokenKind>) -> bool {
+    match kind {
+        Some(TokenKind::Sign(sign)) => *sign == Sign::Colon,
+        Some(TokenKind::Word(word)) => matches!(word, Word::Same | Word::Private),
+        Some(_) => true,
+        None => false,
+    }
+}
+
+/// A word that belongs to a statement which isn't the innermost open one.
+fn stray_word(scene: Scene<'_>, open: Open, said: &mut Said) -> Result<(), AllocError> {
+    let Some(TokenKind::Word(word)) = scene.tokens.kind(scene.at) else {
+        return Ok(());
+    };
+    let belongs = match word {
+        Word::Elsif => "an `if`",
+        Word::Else => "an `if`, a `case`, a `typecase` or a `protect`",
+        Word::When => "a `case`, a `typecase` or a `protect`",
+        _ => return Ok(()),
+    };
+    if !ends_value(scene.tokens.kind_back(scene.at, 1))
+        && !scene.tokens.is_sign_back(scene.at, 1, Sign::Semicolon)
+    {
+        return Ok(());
+    }
+    said.say(&[
+        Part::Code(scene.name()),
+        Part::Words(" belongs to "),
+        Part::Words(belongs),
+        Part::Words(", and what is open here is "),
+        Part::Code(scene.tokens.bytes(open.named)),
+        Part::Words(" of line "),
+        Part::Number(scene.tokens.line(open.named)),
+        Part::Words("."),
+    ])?;
+    said.say_words("Look for an `end` too many or too few before it.")
+}

@@ -1,0 +1,174 @@
+//! A token that can't stand where it does: E06.
+
+use crate::around::open_around;
+use crate::elsewhere::{doubled, foreign};
+use sa_explain_scene::{Part, Said, Scene, Span, opened_before};
+use sa_lex::{Sign, TokenKind, Word};
+use sa_tree::NoMemory;
+use std::alloc::AllocError;
+
+/// Says what is wrong at the token, or before it.
+///
+/// # Errors
+///
+/// `NoMemory` where memory runs out.
+pub fn unexpected(scene: Scene<'_>, said: &mut Said) -> Result<(), NoMemory> {
+    let opened = opened_before(scene.alloc, scene.tokens, scene.at)?;
+    near_by(scene, said)?;
+    if said.is_silent() {
+        foreign(scene, said)?;
+    }
+    if said.is_silent() {
+        open_around(scene, &opened, said)?;
+    }
+    if said.is_silent() {
+        beside(scene, said)?;
+    }
+    Ok(())
+}
+
+/// What the token and the ones beside it tell.
+fn near_by(scene: Scene<'_>, said: &mut Said) -> Result<(), AllocError> {
+    let tokens = scene.tokens;
+    let at = scene.at;
+    if tokens.is_sign(at, Sign::RightParen) && tokens.is_sign_back(at, 1, Sign::LeftParen) {
+        return empty_parentheses(scene, said);
+    }
+    if tokens.is_lower(at) {
+        small_class_name(scene, said)?;
+    }
+    if said.is_silent() {
+        doubled(scene, said)?;
+    }
+    if said.is_silent() && tokens.is_sign(at, Sign::Equal) {
+        equal_sign(scene, said)?;
+    }
+    if said.is_silent() {
+        word_as_name(scene, said)?;
+    }
+    Ok(())
+}
+
+/// `f()`
+fn empty_parentheses(scene: Scene<'_>, said: &mut Said) -> Result<(), AllocError> {
+    let Some(open) = scene.at.checked_sub(1) else {
+        return Ok(());
+    };
+    said.mark = Span {
+        start: scene.tokens.start(open),
+        end: scene.tokens.end(scene.at),
+    };
+    let name = scene.tokens.bytes_back(scene.at, 2);
+    said.say_words("A list of arguments isn't empty: without arguments there are no parentheses.")?;
+    if matches!(
+        scene.tokens.kind_back(scene.at, 2),
+        Some(TokenKind::Lower | TokenKind::IterName)
+    ) {
+        return said.say(&[Part::Words("Write "), Part::Code(name), Part::Words(".")]);
+    }
+    said.say_words("Take the parentheses away.")
+}
+
+/// `x:int`, `class stack`, `#stack`
+fn small_class_name(scene: Scene<'_>, said: &mut Said) -> Result<(), AllocError> {
+    let tokens = scene.tokens;
+    let at = scene.at;
+    let wants_class = tokens.is_sign_back(at, 1, Sign::Colon)
+        || tokens.is_word_back(at, 1, Word::Class)
+        || tokens.is_sign_back(at, 1, Sign::Hash)
+        || tokens.is_sign_back(at, 1, Sign::LeftBrace);
+    if !wants_class {
+        return Ok(());
+    }
+    if let Some(class) = class_here(scene.name()) {
+        said.say_words("Here stands the name of a class, and these are in capitals.")?;
+        return said.say(&[
+            Part::Words("Write "),
+            Part::Code(class.as_bytes()),
+            Part::Words("."),
+        ]);
+    }
+    let mut name = Vec::from_slice(scene.alloc, scene.name())?;
+    for byte in name.iter_mut() {
+        *byte = byte.to_ascii_uppercase();
+    }
+    said.say(&[
+        Part::Words("Here stands the name of a class, and these are in capitals: "),
+        Part::Code(scene.name()),
+        Part::Words(" is a name of a routine or a variable."),
+    ])?;
+    said.say(&[
+        Part::Words("Write "),
+        Part::Code(name.as_slice()),
+        Part::Words("."),
+    ])
+}
+
+/// `x:INT = 3`
+fn equal_sign(scene: Scene<'_>, said: &mut Said) -> Result<(), AllocError> {
+    let tokens = scene.tokens;
+    let is_declaration = tokens.is_class_name(scene.at.saturating_sub(1))
+        && tokens.is_sign_back(scene.at, 2, Sign::Colon);
+    if !is_declaration {
+        return Ok(());
+    }
+    said.say_words("`=` compares two values; a declaration gives its variable a value by `:=`.")?;
+    said.say_words("Write `:=`.")
+}
+
+/// A word of the language where a name is declared or assigned.
+fn word_as_name(scene: Scene<'_>, said: &mut Said) -> Result<(), AllocError> {
+    let tokens = scene.tokens;
+    let Some(TokenKind::Word(word)) = tokens.kind(scene.at) else {
+        return Ok(());
+    };
+    let next = scene.at.saturating_add(1);
+    let names = tokens.is_sign(next, Sign::Declare)
+        || tokens.is_sign(next, Sign::Assign)
+        || (tokens.is_sign(next, Sign::Colon) && *word != Word::Invariant)
+        || tokens.is_sign_back(scene.at, 1, Sign::Dot);
+    if !names {
+        return Ok(());
+    }
+    said.say(&[
+        Part::Code(scene.name()),
+        Part::Words(" is a word of the language, so it is no name."),
+    ])?;
+    said.say_words("Choose another name.")
+}
+
+/// What stands at the place and what stands before it.
+fn beside(scene: Scene<'_>, said: &mut Said) -> Result<(), AllocError> {
+    let tokens = scene.tokens;
+    if tokens.kind(scene.at).is_none() {
+        said.say_words("The file ends in the middle of a class or a statement.")?;
+        return said.say_words("Write its end.");
+    }
+    if scene.at == 0 {
+        said.say(&[
+            Part::Words("A file is a list of classes, and "),
+            Part::Code(scene.name()),
+            Part::Words(" begins none."),
+        ])?;
+        return said.say_words("Write `class NAME is .. end;` around what stands here.");
+    }
+    said.say(&[
+        Part::Code(scene.name()),
+        Part::Words(" can't stand behind "),
+        Part::Code(tokens.bytes_back(scene.at, 1)),
+        Part::Words(" here."),
+    ])?;
+    said.say_words("The mistake is at this token or before it.")
+}
+
+/// The class that is here what other languages call by a name.
+fn class_here(name: &[u8]) -> Option<&'static str> {
+    Some(match name {
+        b"string" => "STR",
+        b"integer" | b"long" | b"number" => "INT",
+        b"boolean" => "BOOL",
+        b"character" | b"byte" => "CHAR",
+        b"list" | b"vector" => "FLIST",
+        _ => return None,
+    })
+}

@@ -1,0 +1,226 @@
+//! Bytes that are no tokens: E01 to E05.
+
+use sa_explain_scene::{Part, Said, Span};
+use sa_tree::{Refusal, Rule};
+use std::alloc::AllocError;
+
+/// How many bytes of a text are written out in a remedy.
+const MOST_SHOWN: usize = 30;
+
+/// Says what is wrong with the bytes at a place of a text, where more is known of them than the rule.
+///
+/// # Errors
+///
+/// `AllocError` where memory runs out.
+pub fn about_bytes(text: &[u8], refusal: Refusal, said: &mut Said) -> Result<(), AllocError> {
+    let at = refusal.pos.at as usize;
+    let behind = if at <= text.len() { &text[at..] } else { text };
+    match refusal.rule {
+        Rule::BadByte => about_byte(behind, said),
+        Rule::LiteralNotEnded => about_literal(behind, said),
+        Rule::NumberTooLarge | Rule::NumberForm => about_number(behind, said),
+        Rule::UnknownEscape => about_escape(behind, said),
+        _ => Ok(()),
+    }
+}
+
+/// Signs of other languages and of word processors.
+fn about_byte(behind: &[u8], said: &mut Said) -> Result<(), AllocError> {
+    match behind {
+        [b'&', b'&', ..] => sign(said, 2, "`&&` is the word `and` here.", "Write `and`."),
+        [b'&', ..] => sign(
+            said,
+            1,
+            "`&` is no sign here: of BOOLs it is the word `and`, of INTs the routine `band`.",
+            "Write `and`, or `a.band(b)`.",
+        ),
+        [b'!', b'=', ..] => sign(said, 2, "\"Not equal\" is `/=` here.", "Write `/=`."),
+        [b'!', ..] => sign(
+            said,
+            1,
+            "A `!` stands directly behind the name of an iter alone; \"not\" is `~`.",
+            "Write `~` for \"not\", and no blank before the `!` of an iter.",
+        ),
+        [b'?', ..] => sign(
+            said,
+            1,
+            "There is no `?` here.",
+            "Choose between two values by an `if` with its statements.",
+        ),
+        [b'\\', ..] => sign(
+            said,
+            1,
+            "A backslash stands in texts and characters alone.",
+            "Take it away: a statement goes on to its `;` by itself.",
+        ),
+        [b'$', ..] => sign(
+            said,
+            1,
+            "Behind `$` stands the name of an abstract class, in capitals.",
+            "Write its name, as `$STR`.",
+        ),
+        [0xef, 0xbb, 0xbf, ..] => sign(
+            said,
+            3,
+            "This is the byte order mark that an editor has put here.",
+            "Save the file without it.",
+        ),
+        [0xe2, 0x80, 0x98..=0x9f, ..] => sign(
+            said,
+            3,
+            "This is a curly quote of a word processor.",
+            "Write `\"` around a text and `'` around a character.",
+        ),
+        [0xe2, 0x80, 0x93..=0x94, ..] => sign(
+            said,
+            3,
+            "This is a dash of a word processor.",
+            "Write `-`, or `--` before a comment.",
+        ),
+        [0xc2, 0xa0, ..] => sign(
+            said,
+            2,
+            "This is a blank of a word processor, which no line breaks at.",
+            "Write a plain blank.",
+        ),
+        [0x80..=0xff, ..] => sign(
+            said,
+            1,
+            "Letters beyond ASCII are taken in texts and comments alone.",
+            "Write the name with the letters `a` to `z`.",
+        ),
+        _ => Ok(()),
+    }
+}
+
+/// Marks so many bytes, and says this.
+fn sign(said: &mut Said, bytes: usize, wrong: &str, remedy: &str) -> Result<(), AllocError> {
+    mark_bytes(said, bytes);
+    said.say_words(wrong)?;
+    said.say_words(remedy)
+}
+
+/// Marks so many bytes from the place on.
+fn mark_bytes(said: &mut Said, bytes: usize) {
+    said.mark = Span {
+        start: said.mark.start,
+        end: said.mark.start.saturating_add(bytes),
+    };
+}
+
+/// A literal that doesn't end, or a character of no or several bytes.
+fn about_literal(behind: &[u8], said: &mut Said) -> Result<(), AllocError> {
+    let (b'\'', inside) = (first(behind), rest(behind)) else {
+        return Ok(());
+    };
+    let Some(len) = quoted_len(inside) else {
+        return Ok(());
+    };
+    mark_bytes(said, len.saturating_add(2));
+    if len == 0 {
+        said.say_words("A character is one byte, and here is none; the empty text is `\"\"`.")?;
+        return said.say_words("Write `\"\"`, or a byte between the quotes.");
+    }
+    let inside = if len <= inside.len() {
+        &inside[..len]
+    } else {
+        inside
+    };
+    said.say_words(
+        "A character is one byte between single quotes; a text stands between double quotes.",
+    )?;
+    if len > MOST_SHOWN {
+        return said.say_words("Write it between double quotes.");
+    }
+    said.say(&[
+        Part::Words("Write `\""),
+        Part::Plain(inside),
+        Part::Words("\"`."),
+    ])
+}
+
+fn first(bytes: &[u8]) -> u8 {
+    match bytes {
+        [byte, ..] => *byte,
+        [] => 0,
+    }
+}
+
+fn rest(bytes: &[u8]) -> &[u8] {
+    match bytes {
+        [_, rest @ ..] => rest,
+        [] => bytes,
+    }
+}
+
+/// How many bytes stand before the single quote that closes a character, in a line without double quotes up to there.
+fn quoted_len(bytes: &[u8]) -> Option<usize> {
+    let mut escaped = false;
+    for (at, byte) in bytes.iter().enumerate() {
+        match *byte {
+            b'\'' if !escaped => return Some(at),
+            b'\n' | b'"' => return None,
+            _ => escaped = !escaped && *byte == b'\\',
+        }
+    }
+    None
+}
+
+/// A number that is too large or of another form.
+fn about_number(behind: &[u8], said: &mut Said) -> Result<(), AllocError> {
+    let len = number_len(behind);
+    mark_bytes(said, len);
+    let spelled = if len <= behind.len() {
+        &behind[..len]
+    } else {
+        behind
+    };
+    if has_fraction(spelled) {
+        said.say(&[
+            Part::Code(spelled),
+            Part::Words(" has a fraction, and there are whole numbers alone: no FLT."),
+        ])?;
+        return said.say_words(
+            "Count the parts, as tenths in an INT, and put the point in where it is printed.",
+        );
+    }
+    Ok(())
+}
+
+/// How many bytes of digits, letters and points stand at the front.
+fn number_len(bytes: &[u8]) -> usize {
+    bytes
+        .iter()
+        .take_while(|byte| byte.is_ascii_alphanumeric() || **byte == b'_' || **byte == b'.')
+        .count()
+}
+
+/// Whether a point stands among digits, and the number is a decimal one.
+fn has_fraction(spelled: &[u8]) -> bool {
+    spelled.contains(&b'.')
+        && spelled
+            .iter()
+            .all(|byte| byte.is_ascii_digit() || *byte == b'.')
+}
+
+fn about_escape(behind: &[u8], said: &mut Said) -> Result<(), AllocError> {
+    if let [b'\\', byte, ..] = behind
+        && byte.is_ascii_graphic()
+        && !byte.is_ascii_digit()
+    {
+        mark_bytes(said, 2);
+        let escape = [b'\\', *byte];
+        said.say(&[
+            Part::Code(escape.as_slice()),
+            Part::Words(
+                " is no escape: there are \\a \\b \\f \\n \\r \\t \\v \\\\ \\' \\\", and one to three octal digits.",
+            ),
+        ])?;
+        return said.say(&[
+            Part::Words("A backslash itself is written twice: `\\"),
+            Part::Plain(escape.as_slice()),
+            Part::Words("`."),
+        ]);
+    }
+    Ok(())
+}

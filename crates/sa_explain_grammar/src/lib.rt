@@ -1,0 +1,10 @@
+//! What is said of bytes that are no tokens, and of tokens that can't stand where they do.
+#![tactic(auto)]
+
+mod around;
+mod elsewhere;
+mod grammar;
+mod lexical;
+
+pub use grammar::unexpected;
+pub use lexical::about_bytes;

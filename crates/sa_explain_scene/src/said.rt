@@ -1,0 +1,159 @@
+//! Sentences as they are put together: words, names between backquotes, numbers; and the place that they are about.
+
+use itoa::Buffer;
+use std::alloc::{AllocError, Global};
+
+/// How many bytes of a name or a literal are shown.
+const LONGEST: usize = 40;
+
+/// The bytes from one place of a text up to another.
+#[derive(Clone, Copy, Debug, PartialEq, Eq)]
+pub struct Span {
+    pub start: usize,
+    pub end: usize,
+}
+
+/// A part of a sentence.
+#[derive(Clone, Copy)]
+pub enum Part<'a> {
+    Words(&'a str),
+    /// What the source spells, between backquotes.
+    Code(&'a [u8]),
+    /// What the source spells, as it is.
+    Plain(&'a [u8]),
+    Number(usize),
+    /// So many arguments.
+    Arguments(usize),
+}
+
+/// Sentences, each on its line.
+#[derive(Drop)]
+pub struct Sentences {
+    pub text: Vec<u8>,
+}
+
+impl Sentences {
+    /// None.
+    pub fn new(alloc: Global) -> Sentences {
+        Sentences {
+            text: Vec::new(alloc),
+        }
+    }
+
+    /// Adds a sentence of these parts.
+    ///
+    /// # Errors
+    ///
+    /// `AllocError` where memory runs out; a part of the sentence may stand then.
+    pub fn say(&mut self, parts: &[Part<'_>]) -> Result<(), AllocError> {
+        for part in parts {
+            self.put(*part)?;
+        }
+        self.text.push(b'\n')?;
+        Ok(())
+    }
+
+    /// Adds a sentence of words alone.
+    ///
+    /// # Errors
+    ///
+    /// `AllocError` where memory runs out; a part of the sentence may stand then.
+    pub fn say_words(&mut self, words: &str) -> Result<(), AllocError> {
+        self.text.extend_from_slice(words.as_bytes())?;
+        self.text.push(b'\n')?;
+        Ok(())
+    }
+
+    fn put(&mut self, part: Part<'_>) -> Result<(), AllocError> {
+        match part {
+            Part::Words(words) => self.text.extend_from_slice(words.as_bytes()),
+            Part::Code(bytes) => self.put_code(bytes),
+            Part::Plain(bytes) => self.put_shown(bytes),
+            Part::Number(number) => self.put_number(number),
+            Part::Arguments(count) => self.put_arguments(count),
+        }
+    }
+
+    fn put_number(&mut self, number: usize) -> Result<(), AllocError> {
+        let mut buffer = Buffer::new();
+        let digits = buffer.format(number as u64);
+        self.text.extend_from_slice(digits.as_bytes())
+    }
+
+    fn put_arguments(&mut self, count: usize) -> Result<(), AllocError> {
+        self.put_number(count)?;
+        let noun = if count == 1 {
+            " argument"
+        } else {
+            " arguments"
+        };
+        self.text.extend_from_slice(noun.as_bytes())
+    }
+
+    fn put_code(&mut self, bytes: &[u8]) -> Result<(), AllocError> {
+        self.text.push(b'`')?;
+        self.put_shown(bytes)?;
+        self.text.push(b'`')?;
+        Ok(())
+    }
+
+    /// Adds the front of some bytes, with a blank in place of each byte that moves the cursor.
+    fn put_shown(&mut self, bytes: &[u8]) -> Result<(), AllocError> {
+        for byte in bytes.iter().take(LONGEST) {
+            self.text.push(shown(*byte))?;
+        }
+        if bytes.len() > LONGEST {
+            self.text.extend_from_slice(b"..")?;
+        }
+        Ok(())
+    }
+}
+
+/// What is said of a place.
+#[derive(Drop)]
+pub struct Said {
+    pub sentences: Sentences,
+    pub mark: Span,
+}
+
+impl Said {
+    /// Nothing, about what stands there.
+    pub fn new(alloc: Global, mark: Span) -> Said {
+        Said {
+            sentences: Sentences::new(alloc),
+            mark,
+        }
+    }
+
+    /// Whether nothing has been said.
+    pub fn is_silent(&self) -> bool {
+        self.sentences.text.is_empty()
+    }
+
+    /// Adds a sentence of these parts.
+    ///
+    /// # Errors
+    ///
+    /// `AllocError` where memory runs out; a part of the sentence may stand then.
+    pub fn say(&mut self, parts: &[Part<'_>]) -> Result<(), AllocError> {
+        self.sentences.say(parts)
+    }
+
+    /// Adds a sentence of words alone.
+    ///
+    /// # Errors
+    ///
+    /// `AllocError` where memory runs out; a part of the sentence may stand then.
+    pub fn say_words(&mut self, words: &str) -> Result<(), AllocError> {
+        self.sentences.say_words(words)
+    }
+}
+
+/// The byte as it is shown.
+pub(crate) fn shown(byte: u8) -> u8 {
+    if byte < b' ' || byte == 0x7f {
+        b' '
+    } else {
+        byte
+    }
+}
