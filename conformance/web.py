@@ -36,7 +36,7 @@ INDENTED = 'class MAIN is\n   main is\n      loop\n         #OUT + 1.upto!(3) + 
 COPY = 'class MAIN is main is loop b ::= #IN.get_byte; while!(b >= 0); #OUT + b.char; end; end; end;'
 ENDLESS = 'class MAIN is main is #OUT + "begun"; loop end; end; end;'
 REFUSED = 'class MAIN is\n   main is\n      x ::= 3 +;\n   end;\nend;\n'
-OUTSIDE = 'class MAIN is\n   main is\n      i ::= 1.upto!(3);\n   end;\nend;\n'
+UNLOOPED = 'class MAIN is\n   main is\n      i ::= 1.upto!(3);\n   end;\nend;\n'
 FAULTY = 'class MAIN is\n   main is\n      #OUT + "a";\n      #OUT + 1 / 0;\n   end;\nend;\n'
 SUMS = '''class MAIN is
    sum!(x:INT):INT is
@@ -264,7 +264,7 @@ def is_refused(page):
 
 
 def is_explained(page):
-    write(page, OUTSIDE)
+    write(page, UNLOOPED)
     run(page)
     expect('what is said of it', ['Line 3: E35: iter call outside a loop', 'Write `loop .. end;` around the statement.'],
            page.value("[told.firstChild.data, told.lastChild.textContent]"))
