@@ -1,0 +1,10 @@
+use Rattle.wa_text.specs.Reading.{texts}
+use Rattle.wa_text.proofs.Refusals.{refused_none, refused_words, returned}
+use Rattle.wa_text.proofs.reader.line.item.Goals as goal
+
+pub returns-in_err-words-clause-refused : goal.returns-in_err-words-clause-refused
+returns-in_err-words-clause-refused g c = returned _ _ _ c.from_residual.ensures.1 (refused_none _ c.args.text.now c.args.at c.in_err-words.field-0.0 c.in_err-words.ensures.refused)
+
+pub returns-in-Err-clause-refused : goal.returns-in-Err-clause-refused
+returns-in-Err-clause-refused g c =
+    refused_words _ (texts c.in_ok-words.words.items) c.in-Err.fault c.at.result c.at.ensures.wrong c.at.ensures.memory c.in_ok-words.ensures.found c.in-Err.ensures
