@@ -202,6 +202,9 @@ params_results ps rs s rest back last h is k ends =
 pub head_is : {X : Type 0} {a b : X} {s t : List X} → a ∷ s ≡ b ∷ t → a ≡ b
 head_is h = cc
 
+pub tail_is : {X : Type 0} {a b : X} {s t : List X} → a ∷ s ≡ b ∷ t → s ≡ t
+tail_is h = cc
+
 -- no words
 pub no_texts : (words : List (Bor (List ℕ))) → length words ≡ 0 → texts words ≡ []
 no_texts [] none = refl

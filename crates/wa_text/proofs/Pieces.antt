@@ -1,8 +1,8 @@
 -- The words at the places of a line, and the rows at those of a table.
-use Rattle.std.proofs.Common.{◌≡◌, ◌≢◌, ℕ, zero, suc, ◌+◌, ◌<◌, ◌≤◌, Bool, true, false, List, [], ◌∷◌, ◌++◌, length, get_or, take, drop, map, Option, None, Some, refl, sym, ap, subst, ◌∙◌, arith}
+use Rattle.std.proofs.Common.{◌≡◌, ◌≢◌, ℕ, zero, suc, ◌+◌, ◌-◌, ◌<◌, ◌≤◌, Bool, true, false, List, [], ◌∷◌, ◌++◌, length, get_or, take, drop, map, Option, None, Some, refl, sym, ap, subst, ◌∙◌, arith}
 use Rattle.std.proofs.lemmas.Bool.{eqb-true, ne_eqb}
 use Rattle.std.proofs.lemmas.Bool.Decides.{nat_tests}
-use Rattle.std.proofs.lemmas.List.{get_or-map, length-map, take_all, take_more}
+use Rattle.std.proofs.lemmas.List.{get_or-map, length-map, map-append, take_all, take_more}
 use Rattle.std.proofs.lemmas.List.Elements.{All-contains, All-from_recursion, Contains-append_left, Contains-append_right, Contains-get_or, Contains-push}
 use Rattle.std.specs.List.{AllByRecursion}
 use Rattle.std.specs.Prelude.{◌==◌, cond, Contains, MatchOption}
@@ -48,6 +48,13 @@ four_words (t ∷ u ∷ []) d e f g long = absurd (omega arith)
 four_words (t ∷ u ∷ v ∷ []) d e f g long = absurd (omega arith)
 four_words (t ∷ u ∷ v ∷ w ∷ []) d e f g long = refl
 four_words (t ∷ u ∷ v ∷ w ∷ x ∷ words) d e f g long = absurd (omega arith)
+
+-- the last word, and those in front of it
+pub last_word : (words : List (Bor (List ℕ))) (d : Bor (List ℕ)) → 1 ≤ length words → texts words ≡ texts (take (length words - 1) words) ++ (get_or words (length words - 1) d).now ∷ []
+last_word words d long =
+    let last = length words - 1 in
+    let whole : words ≡ take last words ++ get_or words last d ∷ [] = sym (take_all (last + 1) words (omega arith)) ∙ take_more words last d (omega arith) in
+    ap texts whole ∙ map-append (λ (w : Bor (List ℕ)). w.now) (take last words) (get_or words last d ∷ [])
 
 -- one more word
 pub texts_more : (words : List (Bor (List ℕ))) (i : ℕ) (d : Bor (List ℕ)) → i < length words → take (i + 1) (texts words) ≡ take i (texts words) ++ (get_or words i d).now ∷ []

@@ -42,10 +42,10 @@ pub fn behind_line(text: &[u8], at: u32, word: &[u8]) -> Option<u32>
     ensures found { IfSome result (λ end. Spelled (form.line (form.word word.now)) text.now at end) }
     ensures none { IfNone result (begins_not (word.now ∷ []) (rows_at text.now at)) }
 {
-    match line_at(text, at) {
-        Some((line, end)) if line == word => Some(end),
-        _ => None,
-    }
+    let Some((line, end)) = line_at(text, at) else {
+        return None;
+    };
+    if line == word { Some(end) } else { None }
 }
 
 /// The place behind a line that can't be another than this word alone.

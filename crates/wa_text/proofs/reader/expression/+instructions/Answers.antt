@@ -97,7 +97,7 @@ structured-returns-in_err-otherwise-in-If-clause-refused t c =
 pub else_end-returns-in_err-word_line-clause-refused : goal.else_end-returns-in_err-word_line-clause-refused
 else_end-returns-in_err-word_line-clause-refused t c =
     let fault = c.in_err-word_line.ensures.refused in
-    returned _ _ _ c.from_residual.ensures.1 (refused_wrong c.in_err-word_line.field-0.0 fault.0 (refused_else_end c.args.levels fault.1 c.in-None.ensures.none))
+    returned _ _ _ c.from_residual.ensures.1 (refused_wrong c.in_err-word_line.field-0.0 fault.0 (refused_else_end c.args.levels fault.1 c.in_default.ensures.none))
 
 pub else_end-returns-in_err-branch-clause-refused : goal.else_end-returns-in_err-branch-clause-refused
 else_end-returns-in_err-branch-clause-refused t c =

@@ -1,4 +1,6 @@
-use Rattle.wa_text.specs.Reading.{texts}
+use Rattle.std.proofs.Common.{ℕ, List, subst}
+use denote.Ref.{Bor}
+use Rattle.wa_text.specs.Reading.{Refuses, first_line, texts}
 use Rattle.wa_text.proofs.Refusals.{refused_none, refused_words, returned}
 use Rattle.wa_text.proofs.reader.expression.first_line.Goals as goal
 
@@ -7,4 +9,5 @@ returns-in_err-words-clause-refused c = returned _ _ _ c.from_residual.ensures.1
 
 pub returns-in-Err-clause-refused : goal.returns-in-Err-clause-refused
 returns-in-Err-clause-refused c =
-    refused_words _ (texts c.in_ok-words.words.items) c.in-Err.fault c.at.result c.at.ensures.wrong c.at.ensures.memory c.in_ok-words.ensures.found c.in-Err.ensures
+    let none = subst (λ (words : List (Bor (List ℕ))). Refuses first_line (texts words) c.in-Err.fault) c.as_slice.ensures.value c.in-Err.ensures in
+    refused_words first_line (texts c.in_ok-words.words.items) c.in-Err.fault c.at.result c.at.ensures.wrong c.at.ensures.memory c.in_ok-words.ensures.found none

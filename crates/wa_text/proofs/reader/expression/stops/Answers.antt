@@ -7,12 +7,12 @@ pub returns-then-is_some : goal.returns-then-is_some
 returns-then-is_some c =
     let some : is_some c.behind_line.result ≡ true = search rules in
     let k = line_found (codes "end") c.args.text.now c.args.at c.behind_line.result some c.behind_line.ensures.found in
-    (λ yes. (k.0, inl k.1), λ h. refl)
+    (λ yes. (k.0, inl k.1), λ h. c.if-is_some.true)
 
 pub returns-else-is_some : goal.returns-else-is_some
 returns-else-is_some c =
     let none : is_some c.behind_line.result ≡ false = search rules in
     let no_end = not_found _ c.behind_line.result none c.behind_line.ensures.none in
-    let is : c.is_some-2.result ≡ is_some c.behind_line-2.result = search rules in
-    (λ yes. let some : is_some c.behind_line-2.result ≡ true = cc in let k = line_found (codes "else") c.args.text.now c.args.at c.behind_line-2.result some c.behind_line-2.ensures.found in (k.0, inr k.1),
-     λ h. is ∙ halts_some c.behind_line-2.result _ c.behind_line-2.ensures.none no_end h)
+    let is : c.is_some-else-is_some.result ≡ is_some c.behind_line-else-is_some.result = search rules in
+    (λ yes. let some : is_some c.behind_line-else-is_some.result ≡ true = cc in let k = line_found (codes "else") c.args.text.now c.args.at c.behind_line-else-is_some.result some c.behind_line-else-is_some.ensures.found in (k.0, inr k.1),
+     λ h. is ∙ halts_some c.behind_line-else-is_some.result _ c.behind_line-else-is_some.ensures.none no_end h)

@@ -73,7 +73,7 @@ pub returns : goal.returns
 returns c = λ i h.
     let first = c.args.first.now in
     let index = c.args.index in
-    let words = by_index i first index (c.ranges.index, refl) h in
+    let words = by_index i first index (c.ranges.index.fits, refl) h in
     let not_Br : first ≢ codes "br" = λ same. let equal : c.eq.result ≡ true = (slice_eq-Decides Decides-eqb first c.as_slice.result.now c.eq.result c.eq.ensures).1 (same ∙ sym c.as_slice.ensures) in let other = c.if-eq.false in let no : ⊥ = cc in no in
     let not_BrIf : first ≢ codes "br_if" = λ same. let equal : c.eq-2.result ≡ true = (slice_eq-Decides Decides-eqb first c.as_slice-2.result.now c.eq-2.result c.eq-2.ensures).1 (same ∙ sym c.as_slice-2.ensures) in let other = c.if-eq-2.false in let no : ⊥ = cc in no in
     let not_Call : first ≢ codes "call" = λ same. let equal : c.eq-3.result ≡ true = (slice_eq-Decides Decides-eqb first c.as_slice-3.result.now c.eq-3.result c.eq-3.ensures).1 (same ∙ sym c.as_slice-3.ensures) in let other = c.if-eq-3.false in let no : ⊥ = cc in no in

@@ -11,4 +11,4 @@ returns-in_err-ty-clause-refused c = returned _ _ _ c.from_residual.ensures.1 (r
 
 pub returns-in_err-body-clause-refused : goal.returns-in_err-body-clause-refused
 returns-in_err-body-clause-refused c =
-    returned _ _ _ c.from_residual-in_err-body.ensures.1 (refuses_at c.in_err-body.field-0.0 (λ at r. refused_code c.in_ok-ty.ty c.in_ok-ty.locals c.in_ok-ty.ensures.found r) c.in_err-body.ensures.refused)
+    returned _ _ _ c.from_residual-in_err-body.ensures.1 (refuses_at c.in_err-body.field-0.0 (λ at r. refused_code c.in_ok-ty.field-0-0.ty c.in_ok-ty.field-0-0.locals c.in_ok-ty.ensures.found r) c.in_err-body.ensures.refused)

@@ -34,7 +34,7 @@ returns-in-Ok-2-clause-complete c = λ m h.
 pub returns-in-Ok-2-clause-clear : goal.returns-in-Ok-2-clause-clear
 returns-in-Ok-2-clause-clear c =
     subst (NoneBegins c.args.text.now) (sym c.not_listing.ensures.number)
-    (λ m other h. none_ends_so c.args.text.now other c.in-Ok-2.end _ _ m c.in-Ok-2.ensures.reaches.1 (omega arith) c.in-Ok-2.ensures.found c.in-Ok-2.ensures.whole refl h)
+    (λ m other h. none_ends_so c.args.text.now other c.in-Ok.end _ _ m c.in-Ok.ensures.reaches.1 (omega arith) c.in-Ok.ensures.found c.in-Ok.ensures.whole refl h)
 
 pub returns-in-Err-Wrong-clause-complete : goal.returns-in-Err-Wrong-clause-complete
 returns-in-Err-Wrong-clause-complete c = λ m h.
