@@ -95,7 +95,7 @@ agree (w ∷ front) are tail other same =
     let bytes = join_with_byte 32 w in
     let unbroken = unbroken_line w are.0 in
     let lines : first_lines (suc (suc (length front))) other ≡ bytes ++ 10 ∷ first_lines (suc (length front)) (text_of front ++ tail) =
-        same ∙ ap (first_lines (suc (suc (length front)))) (text_line w front tail) ∙ first_line_of (suc (length front)) bytes (text_of front ++ tail) unbroken in
+    same ∙ ap (first_lines (suc (suc (length front)))) (text_line w front tail) ∙ first_line_of (suc (length front)) bytes (text_of front ++ tail) unbroken in
     let first = same_line (suc (length front)) bytes other (first_lines (suc (length front)) (text_of front ++ tail)) unbroken lines in
     let more = agree front are.1 tail first.0 first.2 in
     (more.0, first.1 ∙ ap (λ (s : List ℕ). bytes ++ 10 ∷ s) more.1 ∙ sym (text_line w front more.0), more.2)
@@ -193,7 +193,7 @@ none_ends_so text other at n l m within more h refuse is listing same = by_rows 
         let tail = drop at text in
         let rest : k.0 ≡ tail = by_feed tail none k.0 k.2 (cut_at_feed tail) in
         let lines : h.lines ≡ listing.0 =
-            sym (append-nil h.lines) ∙ ap (λ (b : List Line). h.lines ++ b) (sym (ap rows rest ∙ none)) ∙ sym (rows_front h.lines passed.filled passed.are k.0) ∙ ap rows (sym k.1) ∙ listed_rows other m listing in
+        sym (append-nil h.lines) ∙ ap (λ (b : List Line). h.lines ++ b) (sym (ap rows rest ∙ none)) ∙ sym (rows_front h.lines passed.filled passed.are k.0) ∙ ap rows (sym k.1) ∙ listed_rows other m listing in
         let texts_are : text_of h.lines ++ k.0 ≡ text_of h.lines ++ [] = sym k.1 ∙ listing.3 ∙ ap text_of (sym lines) ∙ sym (append-nil (text_of h.lines)) in
         let empty : k.0 ≡ [] = append_cancel_left (text_of h.lines) k.0 [] texts_are in
         omega (arith, ap length (sym rest ∙ empty), length-drop at text)

@@ -1,5 +1,5 @@
 -- Which words stand for no instruction.
-use Rattle.std.proofs.Common.{◌≡◌, ◌≢◌, ℕ, ◌+◌, ◌≤◌, List, [], ◌∷◌, ◌++◌, length, Option, Some, refl, sym, ap, subst, ◌∙◌, arith, length-append}
+use Rattle.std.proofs.Common.{◌≡◌, ◌≢◌, ℕ, ◌≤◌, List, [], ◌∷◌, ◌++◌, length, Option, Some, refl, sym, ap, subst, ◌∙◌, arith, length-append}
 use Rattle.std.proofs.lemmas.List.{same_from_push}
 use Rattle.std.specs.Prelude.{MatchResult, Result, Ok, Err, codes, decimal}
 use Rattle.wa_syntax.specs.declared.instr.Instr.{Instr, out-Instr}

@@ -6,7 +6,6 @@ use Rattle.wa_syntax.specs.declared.instr.Instr.TheOpen.{Instr-F}
 use Rattle.wa_syntax.specs.declared.instr.Instr.TheVariants as variant
 use Rattle.wa_syntax.specs.declared.instr.Instr.TheViews.{roll-Instr, roll-out-Instr}
 use Rattle.wa_syntax.specs.declared.module.ValTy.{ValTy}
-use Rattle.wa_text.specs.declared.fault.TextFault.TheVariants as text_fault
 use Rattle.wa_text.specs.declared.reader.instruction.BlockKind.{BlockKind}
 use Rattle.wa_text.specs.declared.reader.instruction.BlockKind.TheVariants as kind
 use Rattle.wa_text.specs.declared.reader.instruction.FirstLine.{FirstLine}
@@ -201,9 +200,9 @@ pub refused_end : (n : ℕ) (body : List Instr) {text : List ℕ} {from mid : �
 refused_end n body {text} {from} {mid} h stops none =
     refused_behind body (one_sequence n) halts-local h stops (λ u s x e follows. halts_end s x e)
     (refused_here (λ u lines same g.
-        let row : lines ≡ (codes "end" ∷ []) ∷ g.1 = g.2 ∙ ap (λ (front : List Line). front ++ g.1) (g.3.2 ∙ ap (λ (w : Line). w ∷ []) g.3.1) in
-        let first = same_first (codes "end" ∷ []) g.1 lines (rows_at text mid) row same in
-        none first.0 first.1))
+    let row : lines ≡ (codes "end" ∷ []) ∷ g.1 = g.2 ∙ ap (λ (front : List Line). front ++ g.1) (g.3.2 ∙ ap (λ (w : Line). w ∷ []) g.3.1) in
+    let first = same_first (codes "end" ∷ []) g.1 lines (rows_at text mid) row same in
+    none first.0 first.1))
 
 pub refused_Block : (k : BlockKind) (t : Option ValTy) (n : ℕ) {text : List ℕ} {from at : ℕ} → k ≡ kind.Block → Refused (pair (each (instr n)) the_end) anything text from at → Refused (behind_first k t (each (instr n))) anything text from at
 refused_Block k t n {text} {from} {at} is r =
@@ -248,7 +247,7 @@ after_else Body [] more h =
 after_else Body (i ∷ is) more h =
     let g = h.3 in
     let rows : (codes "else" ∷ []) ∷ more ≡ (codes "else" ∷ []) ∷ (g.1 ++ h.1) =
-        h.2 ∙ ap (λ (front : List Line). front ++ h.1) (g.2 ∙ ap (λ (front : List Line). front ++ g.1) (g.3.2 ∙ ap (λ (w : Line). w ∷ []) g.3.1)) in
+    h.2 ∙ ap (λ (front : List Line). front ++ h.1) (g.2 ∙ ap (λ (front : List Line). front ++ g.1) (g.3.2 ∙ ap (λ (w : Line). w ∷ []) g.3.1)) in
     let tails : more ≡ g.1 ++ h.1 = cc in
     ((i ∷ is, λ none. let no : ⊥ = cc in no), (g.1, h.1, tails, g.4, tt))
 

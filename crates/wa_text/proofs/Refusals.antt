@@ -242,11 +242,11 @@ pub refused_words : {V : Type 0} (F : V → Form Word) {text : List ℕ} {at mid
 refused_words {V} F {text} {at} {mid} words line_fault.Wrong f wrong memory h none =
     subst (RefusesAt (λ (v : V). line (F v)) anything text at) (sym (wrong refl))
     (refused_here (λ v lines same g.
-        let row : rows_at text at ≡ words ∷ rows_at text mid = h.rows_are ∙ ap (λ (l : List Line). l ++ rows_at text mid) h.spelling in
-        let first = same_first words (rows_at text mid) (rows_at text at) lines row (sym same) in
-        let both : words ∷ first.0 ≡ g.3.0 ∷ g.1 = sym first.1 ∙ g.2 ∙ ap (λ (l : List Line). l ++ g.1) g.3.2 in
-        let is : g.3.0 ≡ words = cc in
-        none v (subst (F v) is g.3.1)))
+    let row : rows_at text at ≡ words ∷ rows_at text mid = h.rows_are ∙ ap (λ (l : List Line). l ++ rows_at text mid) h.spelling in
+    let first = same_first words (rows_at text mid) (rows_at text at) lines row (sym same) in
+    let both : words ∷ first.0 ≡ g.3.0 ∷ g.1 = sym first.1 ∙ g.2 ∙ ap (λ (l : List Line). l ++ g.1) g.3.2 in
+    let is : g.3.0 ≡ words = cc in
+    none v (subst (F v) is g.3.1)))
 refused_words {V} F {text} {at} words line_fault.NoMemory f wrong memory h none =
     subst (RefusesAt (λ (v : V). line (F v)) anything text at) (sym (memory refl)) tt
 
@@ -255,9 +255,9 @@ pub refused_none : {V : Type 0} (F : V → Form Word) (text : List ℕ) (at : �
 refused_none {V} F text at f (inl h) =
     subst (RefusesAt (λ (v : V). line (F v)) anything text at) (sym h.0)
     (refused_here (λ v lines same g.
-        let none : lines ≡ [] = none_first (rows_at text at) lines h.1 (sym same) in
-        let no : [] ≡ g.3.0 ∷ g.1 = sym none ∙ g.2 ∙ ap (λ (l : List Line). l ++ g.1) g.3.2 in
-        cc))
+    let none : lines ≡ [] = none_first (rows_at text at) lines h.1 (sym same) in
+    let no : [] ≡ g.3.0 ∷ g.1 = sym none ∙ g.2 ∙ ap (λ (l : List Line). l ++ g.1) g.3.2 in
+    cc))
 refused_none {V} F text at f (inr h) = subst (RefusesAt (λ (v : V). line (F v)) anything text at) (sym h) tt
 
 -- the fault is known

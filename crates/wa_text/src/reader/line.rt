@@ -5,7 +5,17 @@ ghost use Rattle.std.specs.List.{AllByRecursion, slice_split};
 ghost use Rattle.wa_text.specs.Forms.{◌then◌, each, exactly};
 ghost use Rattle.wa_text.specs.Places.{EndsIn, ReachesIn};
 ghost use Rattle.wa_text.specs.Reading.{
-    IsUnbroken, Reads, RefusesAt, Spelled, anything, begins_not, begins_otherwise, begins_with, rows_at, texts, words_of,
+  IsUnbroken,
+  Reads,
+  RefusesAt,
+  Spelled,
+  anything,
+  begins_not,
+  begins_otherwise,
+  begins_with,
+  rows_at,
+  texts,
+  words_of,
 };
 ghost use Rattle.wa_text.specs.Words.{line, word};
 ghost use Rattle.wa_text.specs.Words as form;

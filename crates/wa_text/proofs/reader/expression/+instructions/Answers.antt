@@ -52,8 +52,8 @@ sequence-returns-in_err-instr-clause-refused t c =
     let levels = c.args.levels in
     returned _ _ _ c.from_residual.ensures.1 (refuses_at c.in_err-instr.field-0.0
     (λ at r. refused_each c.loop-alloc.instrs (cut_one (one-instr levels)) (instr_never levels) halts-local
-        (λ h. let yes : c.stops.result ≡ true = c.stops.ensures.1 h in let test : c.stops.result ≡ false = search rules in let no : ⊥ = cc in no)
-        c.loop-alloc.invariant.row r)
+    (λ h. let yes : c.stops.result ≡ true = c.stops.ensures.1 h in let test : c.stops.result ≡ false = search rules in let no : ⊥ = cc in no)
+    c.loop-alloc.invariant.row r)
     c.in_err-instr.ensures.refused)
 
 pub instruction-returns-in_err-first-clause-refused : goal.instruction-returns-in_err-first-clause-refused
