@@ -88,7 +88,10 @@ fn empty_main(alloc: Global) -> Result<Class, NoMemory> {
 fn with_types(alloc: Global, flat: Flat, types: Items<Formal>) -> Result<Flat, NoMemory> {
     let Flat { classes } = flat;
     let mut classes = classes;
-    let mut main = classes.remove(held(place_of_main(classes.as_slice()))?);
+    let Some(place) = place_of_main(classes.as_slice()) else {
+        return Err(NoMemory);
+    };
+    let mut main = classes.remove(place);
     let naming = feature(alloc, b"", main.name.pos, types, Part::Stub)?;
     main.features.push(naming)?;
     classes.push(main)?;
