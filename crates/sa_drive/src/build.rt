@@ -54,7 +54,7 @@ fn write_built<S: WriteFiles>(
     built: &Built,
     store: &mut S,
 ) -> Cause
-    ensures { WritesModule (part S.files S.faults store.old store.new) line.now.out.now built.now.bytes.items
+    ensures writes { WritesModule (part S.files S.faults store.old store.new) line.now.out.now built.now.bytes.items
         (option_map (λ file. file.now) line.now.sites) sources.now result }
     ensures count { S.faults store.old ≤ S.faults store.new }
 {
@@ -75,7 +75,7 @@ fn both_written<S: WriteFiles>(
     other: &str,
     text: &[u8],
 ) -> Cause
-    ensures { AreWritten (part S.files S.faults store.old store.new) out.now «module».now (Some (other.now, text.now)) result }
+    ensures written { AreWritten (part S.files S.faults store.old store.new) out.now «module».now (Some (other.now, text.now)) result }
     ensures count { S.faults store.old ≤ S.faults store.new }
 {
     match written(store, out, module) {
