@@ -173,11 +173,7 @@ fn is_among(class: &Class, which: Others) -> bool {
 }
 
 /// Adds an argument of the type of a class, if it is one at its bounds.
-fn add_formal(
-    alloc: Global,
-    class: &Class,
-    formals: &mut Items<Formal>,
-) -> Result<(), NoMemory> {
+fn add_formal(alloc: Global, class: &Class, formals: &mut Items<Formal>) -> Result<(), NoMemory> {
     if let Some(ty) = at_bounds(alloc, class)? {
         let local = local(alloc, b"", class.name.pos)?;
         let mode = Mode::In;

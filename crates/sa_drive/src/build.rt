@@ -61,7 +61,13 @@ fn write_built<S: WriteFiles>(
     match line.sites {
         None => written(store, line.out, built.bytes.as_slice()),
         Some(file) => match sites_text(alloc, sources, built.positions.as_slice()) {
-            Ok(text) => both_written(store, line.out, built.bytes.as_slice(), file, text.as_slice()),
+            Ok(text) => both_written(
+                store,
+                line.out,
+                built.bytes.as_slice(),
+                file,
+                text.as_slice(),
+            ),
             Err(NoMemory) => Cause::NoMemory,
         },
     }

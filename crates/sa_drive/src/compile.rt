@@ -205,7 +205,13 @@ fn check_texts(alloc: Global, sources: Sources, contracts: Contracts, extent: Ex
     ensures fault { IfErr result.core (Explains sources.texts) }
 {
     let mut further = Vec::new(alloc);
-    let core = typed(alloc, sources.texts.as_slice(), contracts, extent, &mut further);
+    let core = typed(
+        alloc,
+        sources.texts.as_slice(),
+        contracts,
+        extent,
+        &mut further,
+    );
     Checked {
         sources,
         core,

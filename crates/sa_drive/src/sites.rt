@@ -11,11 +11,7 @@ use std::alloc::Global;
 
 /// An array with an object for each position, in order, that has the name of its file and its line, from 1. A position that is in none of
 /// the texts, or in one whose name is no UTF-8, which no program has, is answered as out of memory.
-pub fn sites_text(
-    alloc: Global,
-    sources: &Sources,
-    positions: &[Pos],
-) -> Result<Vec<u8>, NoMemory>
+pub fn sites_text(alloc: Global, sources: &Sources, positions: &[Pos]) -> Result<Vec<u8>, NoMemory>
     ensures { IfOk result (λ text. text.items ≡ sites_text sources.now positions.now) }
 {
     let mut writer = Writer::new(Vec::new(alloc));
