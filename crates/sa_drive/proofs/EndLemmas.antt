@@ -10,7 +10,12 @@ use Rattle.sa_read.specs.Program.{IsReadAs}
 use Rattle.sa_read.specs.declared.program.Program.{Program}
 use Rattle.sa_statement.specs.Runnable.{SpellsRunnable}
 use Rattle.wa_syntax.specs.Binary.{SpellsModule}
-use Rattle.sa_drive.specs.Answer.{GivesNone}
+use Rattle.sa_words.specs.Line.{Check}
+use Rattle.sa_words.specs.declared.command.Contracts.{Contracts}
+use Rattle.sa_words.specs.declared.command.Detail.{Detail}
+use Rattle.sa_words.specs.declared.command.Extent.{Extent}
+use Rattle.sa_words.specs.declared.command.Extent.TheVariants.{All, Needed}
+use Rattle.sa_drive.specs.Answer.{GivesNone, TellsOne}
 use Rattle.sa_drive.specs.Built.{IsTried}
 use Rattle.sa_drive.specs.Ends.{AreWritten, IsWritten, PrintEnds, WriteEnds, since}
 use Rattle.sa_drive.specs.Files.{ComesOfFiles, ComesOfGenerated, Explains, ExplainsProgram, IsTakenGenerated, IsTakenProgram, generated_sources}
@@ -151,3 +156,8 @@ pub of_generated : {X : Type 0} (classes : ℕ) (program : Program) (made : Resu
 of_generated classes program (Ok built) same none whole fault = (same, whole.1)
 of_generated classes program (Err ends) same none whole (inl (refusal, cut, is)) = cc
 of_generated classes program (Err ends) same none whole (inr (uncut, explains)) = generated_explained classes program.sources ends same explains
+
+-- a check of what is needed tells one refusal
+pub tells_one : (contracts : Contracts) (extent : Extent) (detail : Detail) (names : List (List ℕ)) (further : List ℕ) → (extent ≡ Needed → further ≡ []) → TellsOne (Some (Check contracts extent detail names)) → further ≡ []
+tells_one contracts Needed detail names further none one = none refl
+tells_one contracts All detail names further none one = absurd one
