@@ -119,7 +119,7 @@ def zsh_differs():
         return 'expected the commands %s, and came %s' % (list(synopsis()), commands)
     for command, options in synopsis().items():
         line = re.search(r'^  (?:\w+\|)?%s(?:\|\w+)?\) (.*) ;;$' % command, text, re.M).group(1)
-        found = re.findall(r'\$(fuel|room|stats|contracts|trace)\b|\'(-o)\[', line)
+        found = re.findall(r'\$(fuel|room|stats|contracts|trace|explain)\b|\'(-o)\[', line)
         if ['--' + name if name else other for name, other in found] != options:
             return '%s: expected the options %s, and came the line %s' % (command, options, line)
     return None
