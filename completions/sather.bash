@@ -9,7 +9,7 @@ _sather() {
   fi
   case ${COMP_WORDS[1]} in
     run) options='--fuel --room --stats --contracts --trace --explain' ;;
-    build) options='--room --contracts --explain -o' ;;
+    build) options='--room --contracts --explain --sites -o' ;;
     check) options='--contracts --all --explain' ;;
     exec) options='--fuel --stats --explain' endings='*.wasm' ;;
     listing) endings='*.wasm' ;;
@@ -23,6 +23,7 @@ _sather() {
   case $before in
     --fuel | --room) return ;;
     -o) endings='*.wasm' ;;
+    --sites) endings='*.json' ;;
   esac
   case $word in
     -*) mapfile -t COMPREPLY < <(compgen -W "$options" -- "$word") ;;

@@ -28,6 +28,7 @@ SPENT = 122         # the status of a run whose time is up
 RUNTIME = os.environ.get('WASM2C_RUNTIME', '/usr/share/wabt/wasm2c')
 DEEP = b'class MAIN is f(n:INT):INT is a ::= n * 2; return f(n + 1) + a; end; main is #OUT + "a\\n"; #OUT + f(0); end; end;'
 ENDLESS = b'class MAIN is main is #OUT + "a\\n"; loop end; end; end;'
+DIVIDES = b'class MAIN is main is #OUT + "a";\n#OUT + 1 / 0; end; end;'
 COPY = b'class MAIN is main is loop b ::= #IN.get_byte; while!(b >= 0); #OUT + b.char; end; end; end;'
 
 
@@ -55,6 +56,9 @@ OPTIONS = [
     ('a run within its time ends by itself', ['--seconds', '100', 'm.wasm'], COPY, Left()),
     ('a memory past the limit isn\'t given', ['--memory', '1', 'm.wasm'], COPY, Left(lines=b'out of memory\n', status=125)),
     ('a small stack ends deep calls', ['--stack', '1', 'm.wasm'], DEEP, Left(b'a\n', b'm.wasm: too deep\n', 126)),
+    ('the sites tell the line of a fault', ['--sites', 'm.json', 'm.wasm'], DIVIDES,
+     Left(b'a', b'm.sa:2: fault: division by zero\n', 121)),
+    ('sites that are missing are a store fault', ['--sites', 'n.json', 'm.wasm'], DIVIDES, Left(lines=b'store fault\n', status=123)),
     ('a text is no module', ['m.sa'], COPY, Left(lines=b'm.sa: invalid\n', status=126)),
     ('a module that is missing is a store fault', ['n.wasm'], COPY, Left(lines=b'store fault\n', status=123)),
 ]
@@ -116,7 +120,7 @@ def with_options(program, option):
     """What differs from what the host of Node has to leave with these options, or None."""
     _, words, source, wanted = option
     with report.folder_with({'m.sa': source}) as folder:
-        report.run([program, 'build', '-o', 'm.wasm', 'm.sa'], folder)
+        report.run([program, 'build', '--sites', 'm.json', '-o', 'm.wasm', 'm.sa'], folder)
         left = report.run(['node', RUN_JS, *words], folder)
         # Where the machine is busy, the time may be up before anything was put out.
         return report.difference(wanted, left, output_may_be_cut=wanted.status == SPENT)

@@ -50,6 +50,7 @@ class MAIN is
    end;
 end;
 """
+UNUSED = b'class BOX{T < $STR} is attr of:T; text:STR is return of.str + nope; end; end; class MAIN is main is nope; end; end;'
 COPY = b'class MAIN is main is loop b ::= #IN.get_byte; while!(b >= 0); #OUT + b.char; end; end; end;'
 SPENT = b'class MAIN is main is loop #OUT + "and so on\\n"; end; end; end;'
 GROWS = binary.PREAMBLE + b''.join((
@@ -110,7 +111,9 @@ def commands(program):
     yield Command('run out of fuel', 'run --room 64 --fuel 30000 --stats f.sa', {'f.sa': SPENT})
     yield Command('run of a refused program', 'run e.sa f.sa', {'e.sa': b'-- nothing\n' * 9000, 'f.sa': UNKNOWN})
     yield Command('build', 'build -o m f.sa', hello, writes='m')
+    yield Command('build with sites', 'build --sites s -o m f.sa', hello, writes='m')
     yield Command('check', 'check f.sa', iters)
+    yield Command('check of all', 'check --all f.sa', {'f.sa': UNUSED})
     yield Command('exec', 'exec --stats m', {'m': module})
     yield Command('exec of a module that grows', 'exec m', {'m': GROWS})
     yield Command('exec of no module', 'exec m', {'m': module[:-1]})

@@ -3,7 +3,9 @@
 
 Tries the program from the shell, with real files and streams: files that are written, missing or may not be read, folders, and
 streams that are files, full or closed. --only takes the tries whose names hold a word."""
+import json
 import os
+import re
 import shutil
 import sys
 
@@ -77,6 +79,26 @@ class Shell:
         yield 'a module that can\'t be written is a store fault', full, STORE_FAULT
         yield 'a text is no module', self.run('exec', 'f.sa'), Left(lines=b'f.sa: malformed\n', status=126)
 
+    def sites(self):
+        """The sites of faults, in a file of their own."""
+        name = 'a "\\\x7f\t\u00e4.sa'
+        shutil.copy(self.path('fault.sa'), self.path(name))
+        for source in ('fault.sa', name):
+            yield 'a module is written with its sites: %r' % source, self.run('build', '--sites', 's', '-o', 'm', source), Left()
+            told = self.run('exec', 'm').lines
+            site = int(re.fullmatch(rb'm: stop [0-9]+ at ([0-9]+)\n', told).group(1))
+            with open(self.path('s'), encoding='utf-8') as file:
+                found = json.load(file)[site]
+            line = '%s:%d: fault: division by zero\n' % (found['file'], found['line'])
+            yield 'the site of a stop is the line of the fault: %r' % source, Left(lines=line.encode()), \
+                Left(lines=self.run('run', source).lines)
+        os.remove(self.path('s'))
+        full = self.run('build', '--sites', 's', '-o', '/dev/full', 'fault.sa')
+        yield 'sites aren\'t written where the module can\'t be', full, STORE_FAULT
+        yield 'there is no file of these sites', Left(str(os.path.exists(self.path('s'))).encode()), Left(b'False')
+        full = self.run('build', '--sites', '/dev/full', '-o', 'm', 'fault.sa')
+        yield 'sites that can\'t be written are a store fault', full, STORE_FAULT
+
     def listings(self):
         """Modules that are listed, and listings that are made modules."""
         yield 'a listing is made a module', self.run('assemble', '-o', 'main', 'main.txt'), Left()
@@ -105,7 +127,7 @@ def try_all(program, told, word=''):
     """Tries what has a name that holds the word."""
     with report.folder_with(SOURCES) as folder:
         shell = Shell(program, folder)
-        parts = (shell.programs, shell.files, shell.modules, shell.listings, shell.streams)
+        parts = (shell.programs, shell.files, shell.modules, shell.sites, shell.listings, shell.streams)
         chosen = [(name, report.difference(wanted, left)) for part in parts for name, left, wanted in part() if word in name]
     told.part('command lines', len(chosen))
     for name, wrong in chosen:

@@ -66,6 +66,14 @@ def refusal_of(text, left):
     return name, int(line), code.decode()
 
 
+def refusals_of(text, left):
+    """The refusals that `check --all` tells, none where the source is accepted."""
+    if left == ACCEPTED:
+        return []
+    require(left.lines.endswith(b'\n'), 'check --all accepts or refuses', left)
+    return [refusal_of(text, Left(left.output, line, left.status)) for line in left.lines.splitlines(keepends=True)]
+
+
 # ---- runs
 
 @dataclasses.dataclass

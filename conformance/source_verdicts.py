@@ -1,7 +1,8 @@
 """Judges what the program answers for a source that nobody has looked at, by what docs/LANGUAGE.md promises of every one.
 
 It is refused by E01 to E08 exactly where source_reader.py says so, with a text of the table, inside the text; a line above it moves
-the line of a refusal by one and changes nothing else; `check`, `build` and `run` agree, and a refused build leaves its file.
+the line of a refusal by one and changes nothing else; `check`, `build` and `run` agree, and a refused build leaves its file. The first
+line of `check --all` is that of `check`, and it is the only one where that isn't about a body; what is accepted may be refused by it.
 
 What is accepted has a module that `exec` runs as `run` runs the source, to an end of the table; the steps are within the fuel, with
 fuel for all of them the run is the same, and with a step less the fuel is spent; V8 and wabt take the module, and V8 runs it alike.
@@ -19,11 +20,12 @@ import source_reader
 import turns
 import verdicts
 from engine_verdicts import engines_agree
-from source_answers import ROOM, building, checking, compiled, executing, refusal_of, running
+from source_answers import ROOM, building, checking, compiled, executing, refusal_of, refusals_of, running
 from verdicts import GIVEN, SPENT, require
 
 OLD = b'what the file held'
 ABOVE = b'-- above\n'
+OF_BODIES = (*('E%d' % number for number in range(30, 46)), 'E53', 'E54')
 READ_FIRST = ('E01', 'E02', 'E03', 'E04', 'E05', 'E06', 'E07', 'E08', 'E50')
 FEWEST = 1_000          # steps for a turn, which the bound of each program allows
 INTERPRETED = 200_000   # steps of a run that is interpreted though its source isn't judged in full
@@ -59,6 +61,15 @@ def refused_alike(host, one, refused, checked):
         with_a_line_above(host, one.content, refused, checking())
         require(host.call(*building()) == checked, 'build refuses as check does', checked.lines)
     require(host.content('m') == OLD, 'a refused build leaves the file', host.content('m')[:40])
+
+
+def all_told(host, one, refused):
+    """`check --all` tells first what `check` tells, and goes on where that is about a body. Without MAIN it has one of its own."""
+    told = refusals_of(one.content, host.call(*checking(('--all',))))
+    if refused is None or refused[2] == 'E24':
+        return
+    require(told[:1] == [refused], 'check --all begins as check does', 'expected %s' % (refused,), 'came %s' % (told[:1],))
+    require(len(told) == 1 or refused[2] in OF_BODIES, 'check --all goes on behind a body alone', told)
 
 
 # ---- runs
@@ -115,6 +126,7 @@ def of_source(host, one):
         as_read(one.content, refused)
     if one.fully:
         require(host.call_anew(*checking()) == checked, 'a start of its own answers alike', checked.lines)
+        all_told(host, one, refused)
     if not refused:
         accepted(host, one)
         return

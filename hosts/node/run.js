@@ -1,7 +1,8 @@
 #!/usr/bin/env node
-// run.js [--seconds N] [--stack MIB] [--memory MIB] MODULE
+// run.js [--seconds N] [--stack MIB] [--memory MIB] [--sites SITES] MODULE
 //
-// Runs a module that `sather build` wrote, with the statuses and the lines on err of `sather exec`.
+// Runs a module that `sather build` wrote, with the statuses and the lines on err of `sather exec`; with the sites that it wrote beside the
+// module, a fault has its line of the source, as by `sather run`.
 //
 // A worker runs the module, and the main thread reads and writes for it. So a run can be ended from outside, whatever it is doing,
 // and what it has put out before still comes out: the bytes stand in memory that the two share.
@@ -13,12 +14,15 @@ const {setTimeout} = require('timers/promises');
 const {parseArgs} = require('util');
 const {Worker, isMainThread, parentPort, receiveMessageOnPort, workerData} = require('worker_threads');
 
-const USAGE = 'usage: node run.js [--seconds N] [--stack MIB] [--memory MIB] MODULE';
+const USAGE = 'usage: node run.js [--seconds N] [--stack MIB] [--memory MIB] [--sites SITES] MODULE';
 const STACK = 1024;                 // MiB of stack without the option: calls 10,000 deep have room in it
 const PAGES = 16;                   // pages of a memory in a MiB
 const BUFFER = 65536;               // bytes that are written together
 const LONGEST = 2 ** 31 - 1;        // milliseconds that node can wait
 const [PENDING, ANSWERED] = [0, 1]; // places of `counts`: bytes that are to be written; whether the worker may go on
+// The texts of the faults, by the codes of `env.stop`.
+const FAULTS = ['', 'overflow', 'division by zero', 'void', 'index', 'no branch', 'no return', 'assert', 'uncaught', 'no room',
+  'too deep', 'frames'];
 const NO_MEMORY = ['ERR_WORKER_INIT_FAILED', 'ERR_WORKER_OUT_OF_MEMORY'];
 
 // How a run ends: its status, and the line on err where there is one.
@@ -31,15 +35,16 @@ class End extends Error {
 
 // The main thread.
 
-// The limits and the module that the words ask for. A number is one to nine digits, and not 0.
+// The limits, the sites and the module that the words ask for. A number is one to nine digits, and not 0.
 function command(words) {
   const option = {type: 'string'};
   try {
     const {values, positionals} = parseArgs({
-      args: words, allowPositionals: true, options: {seconds: option, stack: option, memory: option},
+      args: words, allowPositionals: true, options: {seconds: option, stack: option, memory: option, sites: option},
     });
-    const numbers = Object.values(values).every((text) => /^0*[1-9][0-9]{0,8}$/.test(text));
-    if (numbers && positionals.length === 1) return {...values, name: positionals[0]};
+    const {sites, ...limits} = values;
+    const numbers = Object.values(limits).every((text) => /^0*[1-9][0-9]{0,8}$/.test(text));
+    if (numbers && positionals.length === 1) return {...limits, sites, name: positionals[0]};
   } catch {
     // An option that isn't known, or has no value.
   }
@@ -49,6 +54,15 @@ function command(words) {
 function bytesOf(name) {
   try {
     return fs.readFileSync(name);
+  } catch {
+    throw new End(123, 'store fault');
+  }
+}
+
+// The sites of the faults in a file that `sather build --sites` wrote.
+function sitesOf(name) {
+  try {
+    return JSON.parse(bytesOf(name));
   } catch {
     throw new End(123, 'store fault');
   }
@@ -98,15 +112,16 @@ async function timeLimit(seconds, worker, shared) {
 }
 
 async function main(words) {
-  const {name, seconds, stack, memory} = command(words);
+  const {name, seconds, stack, memory, sites: file} = command(words);
   const bytes = bytesOf(name);
+  const sites = file === undefined ? [] : sitesOf(file);
   if (memory) v8.setFlagsFromString(`--wasm-max-mem-pages=${Math.min(memory * PAGES, 65536)}`);
   const shared = {
     output: new Uint8Array(new SharedArrayBuffer(BUFFER)),
     counts: new Int32Array(new SharedArrayBuffer(8)),
   };
   const worker = new Worker(__filename, {
-    workerData: {name, bytes, shared}, resourceLimits: {stackSizeMb: Number(stack ?? STACK)},
+    workerData: {name, bytes, sites, shared}, resourceLimits: {stackSizeMb: Number(stack ?? STACK)},
   });
   const ends = [serve(worker, shared)];
   if (seconds) ends.push(timeLimit(Number(seconds), worker, shared));
@@ -131,8 +146,15 @@ function ask(what, counts) {
   return receiveMessageOnPort(parentPort)?.message;
 }
 
+// The line of a stop: that of the fault in the source, where its site is known.
+function lineOfStop(name, sites, code, site) {
+  const place = sites[site];
+  const text = FAULTS[code];
+  return place && text ? `${place.file}:${place.line}: fault: ${text}` : `${name}: stop ${code} at ${site}`;
+}
+
 // The functions of docs/WEBASSEMBLY.md.
-function environment(name, {output, counts}) {
+function environment(name, sites, {output, counts}) {
   let input = [];
   let at = 0;
   return {
@@ -149,7 +171,7 @@ function environment(name, {output, counts}) {
       return input === null ? -1 : input[at++];
     },
     stop: (code, site) => {
-      throw new End(121, `${name}: stop ${code >>> 0} at ${site >>> 0}`);
+      throw new End(121, lineOfStop(name, sites, code >>> 0, site >>> 0));
     },
   };
 }
@@ -175,8 +197,8 @@ function endOf(error, name) {
   throw error;
 }
 
-function runModule({name, bytes, shared}) {
-  const env = environment(name, shared);
+function runModule({name, bytes, sites, shared}) {
+  const env = environment(name, sites, shared);
   try {
     const result = new WebAssembly.Instance(linked(name, bytes, env), {env}).exports.main();
     return new End(result === undefined ? 0 : result & 255, '');

@@ -88,7 +88,10 @@ fn empty_main(alloc: Global) -> Result<Class, NoMemory> {
 fn with_types(alloc: Global, flat: Flat, types: Items<Formal>) -> Result<Flat, NoMemory> {
     let Flat { classes } = flat;
     let mut classes = classes;
-    let mut main = classes.remove(held(place_of_main(classes.as_slice()))?);
+    let Some(place) = place_of_main(classes.as_slice()) else {
+        return Err(NoMemory);
+    };
+    let mut main = classes.remove(place);
     let naming = feature(alloc, b"", main.name.pos, types, Part::Stub)?;
     main.features.push(naming)?;
     classes.push(main)?;
@@ -170,11 +173,7 @@ fn is_among(class: &Class, which: Others) -> bool {
 }
 
 /// Adds an argument of the type of a class, if it is one at its bounds.
-fn add_formal(
-    alloc: Global,
-    class: &Class,
-    formals: &mut Items<Formal>,
-) -> Result<(), NoMemory> {
+fn add_formal(alloc: Global, class: &Class, formals: &mut Items<Formal>) -> Result<(), NoMemory> {
     if let Some(ty) = at_bounds(alloc, class)? {
         let local = local(alloc, b"", class.name.pos)?;
         let mode = Mode::In;

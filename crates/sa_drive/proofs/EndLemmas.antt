@@ -1,8 +1,8 @@
 -- The ends of commands.
-use Rattle.std.proofs.Common.{◌≡◌, ◌≤◌, ◌⊎◌, ℕ, List, [], length, Option, None, Result, Ok, Err, IfOk, inl, inr, subst, sym}
+use Rattle.std.proofs.Common.{◌≡◌, ◌≤◌, ◌⊎◌, ℕ, List, [], length, Option, None, Some, Result, Ok, Err, IfOk, inl, inr, refl, subst, sym}
 use Rattle.std.specs.Prelude.{IfErr, MatchResult}
 use Rattle.sa_outside.specs.Faults.{Rose}
-use Rattle.sa_outside.specs.Files.{Files}
+use Rattle.sa_outside.specs.Files.{Files, Writes}
 use Rattle.sa_outside.proofs.Counts.{Rose-earlier}
 use Rattle.sa_tree.specs.declared.pos.Sources.{Sources}
 use Rattle.sa_read.specs.Front.{IsTakenUpTo}
@@ -10,12 +10,18 @@ use Rattle.sa_read.specs.Program.{IsReadAs}
 use Rattle.sa_read.specs.declared.program.Program.{Program}
 use Rattle.sa_statement.specs.Runnable.{SpellsRunnable}
 use Rattle.wa_syntax.specs.Binary.{SpellsModule}
-use Rattle.sa_drive.specs.Answer.{GivesNone}
+use Rattle.sa_words.specs.Line.{Check}
+use Rattle.sa_words.specs.declared.command.Contracts.{Contracts}
+use Rattle.sa_words.specs.declared.command.Detail.{Detail}
+use Rattle.sa_words.specs.declared.command.Extent.{Extent}
+use Rattle.sa_words.specs.declared.command.Extent.TheVariants.{All, Needed}
+use Rattle.sa_drive.specs.Answer.{GivesNone, TellsOne}
 use Rattle.sa_drive.specs.Built.{IsTried}
-use Rattle.sa_drive.specs.Ends.{IsWritten, PrintEnds, WriteEnds}
+use Rattle.sa_drive.specs.Ends.{AreWritten, IsWritten, PrintEnds, WriteEnds, since}
 use Rattle.sa_drive.specs.Files.{ComesOfFiles, ComesOfGenerated, Explains, ExplainsProgram, IsTakenGenerated, IsTakenProgram, generated_sources}
 use Rattle.sa_drive.specs.Lines.{IsPlaced}
 use Rattle.sa_drive.specs.Seen.{Failed, Part}
+use Rattle.sa_drive.specs.Sites.{WritesModule}
 use Rattle.sa_drive.specs.declared.cause.Cause.{Cause}
 use Rattle.sa_drive.specs.declared.cause.Cause.TheVariants as cause
 use Rattle.sa_drive.specs.declared.module.Built.{Built}
@@ -88,6 +94,15 @@ given_none store names made sources ends outcome is match files same cause bytes
   files = files;
 }
 
+-- the same where memory may have run out meanwhile
+pub given_none_or : {X : Type 0} (store : Part Files) (names : List (List ℕ)) (made : Result X Cause) (sources : Sources) (ends : Cause) (outcome : Outcome) → made ≡ Err ends → MatchResult made (λ _. IsTakenProgram store.before names sources) (ComesOfFiles store.before (Failed store) names sources) → store.after ≡ store.before → outcome.sources ≡ sources → (outcome.cause ≡ ends) ⊎ (outcome.cause ≡ cause.NoMemory) → outcome.«module».items ≡ [] → GivesNone store names outcome
+given_none_or store names made sources ends outcome is match files same (inl cause) bytes = given_none store names made sources ends outcome is match files same cause bytes
+given_none_or store names made sources ends outcome is match files same (inr memory) bytes = record {
+  comes = subst (ComesOfFiles store.before (Failed store) names outcome.sources) (sym memory) tt;
+  bytes = bytes;
+  files = files;
+}
+
 -- the end of a command that writes, counted from earlier on
 ends_earlier : (a b c : ℕ) (ends : Cause) → a ≤ b → WriteEnds (Rose b c) ends → WriteEnds (Rose a c) ends
 ends_earlier a b c cause.Done less end = tt
@@ -107,6 +122,29 @@ written_earlier before middle after a b c name bytes told_bytes ends told same l
       front = written.front;
     })
 
+-- so of two files
+both_earlier : (before middle after : Option Files) (a b c : ℕ) (name bytes : List ℕ) (other : Option (List ℕ × List ℕ)) (ends : Cause) → middle ≡ before → a ≤ b → AreWritten (part_of middle after b c) name bytes other ends → AreWritten (part_of before after a c) name bytes other ends
+both_earlier before middle after a b c name bytes None ends same less written = written_earlier before middle after a b c name bytes bytes ends ends same less refl refl written
+both_earlier before middle after a b c name bytes (Some (other, text)) ends same less (inl (written, undone)) =
+    inl (written_earlier before middle after a b c name bytes bytes ends ends same less refl refl written, undone)
+both_earlier before middle after a b c name bytes (Some (other, text)) ends same less (inr (between, faults, whole, written)) =
+    inr (between, faults, subst (λ files. Writes files between name bytes) same whole, written)
+
+-- and of a module with its sites, reported by this outcome
+pub module_earlier : (before middle after : Option Files) (a b c : ℕ) (name bytes told_bytes : List ℕ) (sites : Option (List ℕ)) (sources told_sources : Sources) (ends told : Cause) → middle ≡ before → a ≤ b → told_bytes ≡ bytes → told_sources ≡ sources → told ≡ ends → WritesModule (part_of middle after b c) name bytes sites sources ends → WritesModule (part_of before after a c) name told_bytes sites told_sources told
+module_earlier before middle after a b c name bytes told_bytes sites sources told_sources ends told same less same_bytes same_sources same_ends (positions, written) =
+    rw (same_ends, same_bytes, same_sources) (positions, both_earlier before middle after a b c name bytes _ ends same less written)
+
+-- the end of a command that writes them names no position
+placed_both : (store : Part Files) (name bytes : List ℕ) (other : Option (List ℕ × List ℕ)) (sources : Sources) (ends : Cause) → AreWritten store name bytes other ends → IsPlaced sources ends
+placed_both store name bytes None sources ends written = placed_write (Failed store) sources ends written.comes
+placed_both store name bytes (Some (other, text)) sources ends (inl (written, undone)) = placed_write (Failed store) sources ends written.comes
+placed_both store name bytes (Some (other, text)) sources ends (inr (between, faults, whole, written)) =
+    placed_write (Failed (since between faults store)) sources ends written.comes
+
+pub placed_module : (store : Part Files) (name bytes : List ℕ) (sites : Option (List ℕ)) (texts sources : Sources) (ends : Cause) → WritesModule store name bytes sites texts ends → IsPlaced sources ends
+placed_module store name bytes sites texts sources ends (positions, written) = placed_both store name bytes _ sources ends written
+
 -- texts of the generated program that give no module
 generated_explained : (classes : ℕ) (sources : Sources) (ends : Cause) → sources ≡ generated_sources classes → Explains sources.texts ends → ComesOfGenerated classes sources ends
 generated_explained classes sources (cause.Refused refusal) same explains = (same, explains)
@@ -118,3 +156,8 @@ pub of_generated : {X : Type 0} (classes : ℕ) (program : Program) (made : Resu
 of_generated classes program (Ok built) same none whole fault = (same, whole.1)
 of_generated classes program (Err ends) same none whole (inl (refusal, cut, is)) = cc
 of_generated classes program (Err ends) same none whole (inr (uncut, explains)) = generated_explained classes program.sources ends same explains
+
+-- a check of what is needed tells one refusal
+pub tells_one : (contracts : Contracts) (extent : Extent) (detail : Detail) (names : List (List ℕ)) (further : List ℕ) → (extent ≡ Needed → further ≡ []) → TellsOne (Some (Check contracts extent detail names)) → further ≡ []
+tells_one contracts Needed detail names further none one = none refl
+tells_one contracts All detail names further none one = absurd one

@@ -13,13 +13,14 @@ use Rattle.sa_words.specs.Line.{Assemble, Build, Check, Exec, Explain, Gen, Help
 use Rattle.sa_words.specs.declared.command.Extent.{Extent}
 use Rattle.sa_words.specs.declared.command.Extent.TheVariants as extent
 use Rattle.sa_words.specs.declared.command.Trace.TheVariants as tracing
-use Rattle.sa_drive.specs.Ends.{IsOfModule, IsPrinted, IsWritten}
+use Rattle.sa_drive.specs.Ends.{IsOfModule, IsPrinted}
 use Rattle.sa_drive.specs.Files.{ComesOfFiles, ComesOfGenerated, IsTakenGenerated, IsTakenProgram}
 use Rattle.sa_drive.specs.Further.{MayTellFurther}
 use Rattle.sa_drive.specs.Lines.{selftest_line}
 use Rattle.sa_drive.specs.Listings.{Assembles, ListsModule}
 use Rattle.sa_drive.specs.Runs.{Ran, RanBuilt, RanTraced}
 use Rattle.sa_drive.specs.Seen.{Failed, IsKept, IsUntouched, Outside, Part}
+use Rattle.sa_drive.specs.Sites.{WritesModule}
 use Rattle.sa_drive.specs.declared.cause.Cause.{Cause}
 use Rattle.sa_drive.specs.declared.cause.Cause.TheVariants as cause
 use Rattle.sa_drive.specs.declared.outcome.Outcome.{Outcome}
@@ -51,13 +52,14 @@ IsTraced outside fuel names outcome =
     ⊎ (IsTakenProgram outside.store.before names outcome.sources
     × RanTraced outside.input outside.out outside.err fuel (IsOfModule outcome.sources) outcome)
 
--- the module of the program in these files can be run, and was written under this name, or there is none, and nothing is written
-abbrev pub IsBuilt : Part Files → List ℕ → List (List ℕ) → Outcome → Type 0
-IsBuilt store name names outcome =
+-- the module of the program in these files can be run, and was written under this name, and then its sites, where they have a file,
+-- as positions in the texts; or there is none, and nothing is written
+abbrev pub IsBuilt : Part Files → List ℕ → (sites : Option (List ℕ)) → List (List ℕ) → Outcome → Type 0
+IsBuilt store name sites names outcome =
     GivesNone store names outcome
     ⊎ (IsTakenProgram store.before names outcome.sources
     × SpellsRunnable outcome.«module».items
-    × IsWritten store name outcome.«module».items outcome.cause)
+    × WritesModule store name outcome.«module».items sites outcome.sources outcome.cause)
 
 -- out took that the program in these files is accepted, or it isn't, and further refusals are told, if all are asked for
 abbrev pub IsChecked : Part Files → Part (List ℕ) → Extent → List (List ℕ) → Outcome → Type 0
@@ -167,7 +169,8 @@ abbrev pub Does : Outside → Line → Outcome → Type 0
 Does outside (Run fuel room stats contracts tracing.Silent detail names) outcome =
     IsRun outside.store outside.input outside.out fuel names outcome × IsSilent outside.err outcome
 Does outside (Run fuel room stats contracts tracing.Told detail names) outcome = IsTraced outside fuel names outcome
-Does outside (Build room contracts detail out names) outcome = IsBuilt outside.store out names outcome × IsSilent outside.err outcome
+Does outside (Build room contracts detail out sites names) outcome =
+    IsBuilt outside.store out sites names outcome × IsSilent outside.err outcome
 Does outside (Check contracts extent detail names) outcome =
     IsChecked outside.store outside.out extent names outcome × IsSilent outside.err outcome
 Does outside (Exec fuel stats detail file) outcome =
@@ -247,13 +250,13 @@ ReadsNone _ = ⊥
 
 -- the command writes no file
 abbrev pub WritesNone : Option Line → Type 0
-WritesNone (Some (Build room contracts detail out names)) = ⊥
+WritesNone (Some (Build room contracts detail out sites names)) = ⊥
 WritesNone (Some (Assemble out file)) = ⊥
 WritesNone _ = ⊤
 
 -- the command puts nothing on out
 abbrev pub PrintsNone : Option Line → Type 0
 PrintsNone None = ⊤
-PrintsNone (Some (Build room contracts detail out names)) = ⊤
+PrintsNone (Some (Build room contracts detail out sites names)) = ⊤
 PrintsNone (Some (Assemble out file)) = ⊤
 PrintsNone _ = ⊥

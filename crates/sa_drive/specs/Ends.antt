@@ -1,5 +1,5 @@
 -- What a cause says of the outside, once there is something to write, to print or to run.
-use Rattle.std.specs.Prelude.{◌≡◌, ◌⊎◌, ⊤, ℕ, List}
+use Rattle.std.specs.Prelude.{◌≡◌, ◌≢◌, ◌⊎◌, ⊤, ℕ, List, Option, None, Some}
 use Rattle.sa_outside.specs.Files.{Files, Writes, WritesFront}
 use Rattle.sa_outside.specs.Output.{Took, TookFront}
 use Rattle.sa_tree.specs.Faults.{fault_number}
@@ -23,6 +23,17 @@ pub record IsWritten (store : Part Files) (name bytes : List ℕ) (ends : Cause)
   pub comes : WriteEnds (Failed store) ends
   pub whole : ends ≡ cause.Done → Writes store.before store.after name bytes
   pub front : WritesFront store.before store.after name bytes
+
+-- from this time on, when it held this and had failed so often
+abbrev pub since : (middle : Option Files) → (faults : ℕ) → Part Files → Part Files
+since middle faults store = record store { before = middle; faults_before = faults }
+
+-- the file of this name was to get these bytes, and once it has got them another file, if there is one, what belongs to that
+abbrev pub AreWritten : Part Files → (name bytes : List ℕ) → (other : Option (List ℕ × List ℕ)) → Cause → Type 0
+AreWritten store name bytes None ends = IsWritten store name bytes ends
+AreWritten store name bytes (Some (other, text)) ends =
+    (IsWritten store name bytes ends × (ends ≢ cause.Done))
+    ⊎ ((middle : Option Files) × (faults : ℕ) × Writes store.before middle name bytes × IsWritten (since middle faults store) other text ends)
 
 -- the end of a command that puts a text on out
 abbrev pub PrintEnds : (out_failed : Type 0) → Cause → Type 0

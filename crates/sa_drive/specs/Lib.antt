@@ -8,4 +8,5 @@ pub mod Listings
 pub mod Report
 pub mod Runs
 pub mod Seen
+pub mod Sites
 pub mod Status

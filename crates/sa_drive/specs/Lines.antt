@@ -17,11 +17,14 @@ use Rattle.sa_drive.specs.declared.cause.Cause.TheVariants.{NoPage, NoLibraryFil
 abbrev pub line_number : Sources → Pos → ℕ
 line_number sources pos = 1 + count_by (λ byte. byte == 10) (take pos.at (text_of sources pos.file))
 
+-- the name of the text that a place is in, or nothing where it has none
+abbrev pub file_name : Sources → Pos → List ℕ
+file_name sources pos = unwrap_or (slice_get sources.names pos.file) []
+
 -- `FILE:LINE: TEXT` about a place
 abbrev pub about_place : Sources → Pos → List ℕ → List ℕ
 about_place sources pos text =
-    let file = unwrap_or (slice_get sources.names pos.file) [] in
-    file ++ codes ":" ++ decimal (line_number sources pos) ++ codes ": " ++ text ++ codes "\n"
+    file_name sources pos ++ codes ":" ++ decimal (line_number sources pos) ++ codes ": " ++ text ++ codes "\n"
 
 -- `FILE: TEXT` about a file
 abbrev pub about_file : List ℕ → List ℕ → List ℕ

@@ -11,7 +11,7 @@ pub struct Asked<'a> {
     pub detail: Detail,
     /// The name of the file that the command reads, where it reads one.
     pub read: Option<&'a str>,
-    /// The name of the file that it writes.
+    /// The name of the file that it writes, where it writes one.
     pub written: Option<&'a str>,
 }
 
@@ -50,10 +50,13 @@ fn read_by<'a>(command: &Command<'a>) -> Option<&'a str> {
     }
 }
 
-/// The file that a command writes, where it can be asked to explain.
+/// The file that a command writes, where it writes one alone and can be asked to explain.
 fn written_by<'a>(command: &Command<'a>) -> Option<&'a str> {
     match command {
-        Command::Build(line) => Some(line.out),
+        Command::Build(line) => match line.sites {
+            Some(_) => None,
+            None => Some(line.out),
+        },
         _ => None,
     }
 }

@@ -1,23 +1,27 @@
-//! The command `build`: the module of a program is written to a file.
+//! The command `build`: the module of a program is written to a file, and the positions of its faults to another one.
 
-ghost use Rattle.std.specs.Prelude.{◌≡◌, ◌≤◌, [], None, map};
+ghost use Rattle.std.specs.Prelude.{◌≡◌, ◌≤◌, [], None, Some, map, option_map};
 ghost use Rattle.sa_trace.specs.declared.sinks.Listening.TheVariants as listening;
 ghost use Rattle.sa_drive.specs.Answer.{IsBuilt};
-ghost use Rattle.sa_drive.specs.Ends.{IsWritten};
+ghost use Rattle.sa_drive.specs.Sites.{WritesModule};
+ghost use Rattle.sa_drive.specs.Ends.{AreWritten, IsWritten};
 ghost use Rattle.sa_drive.specs.Lines.{IsPlaced};
 ghost use Rattle.sa_drive.specs.Seen.{part};
 
 use crate::cause::Cause;
 use crate::compile::{Compiled, compile_files};
+use crate::module::Built;
 use crate::outcome::Outcome;
+use crate::sites::sites_text;
 use sa_outside::{Outage, WriteFiles};
+use sa_tree::{NoMemory, Sources};
 use sa_words::{Build, Trace};
 use std::alloc::Global;
 
-/// Compiles the program and writes its module.
+/// Compiles the program and writes its module, and then the positions of its faults, where they have a file.
 pub fn build<'a, S: WriteFiles>(alloc: Global, line: &Build<'a>, store: &mut S) -> Outcome<'a>
     ensures does { IsBuilt (part S.files S.faults store.old store.new) line.now.out.now
-        (map (λ file. file.now) line.now.files.items) result }
+        (option_map (λ file. file.now) line.now.sites) (map (λ file. file.now) line.now.files.items) result }
     ensures placed { IsPlaced result.sources result.cause }
     ensures steps { result.steps ≡ None }
     ensures further { result.further.items ≡ [] }
@@ -35,10 +39,54 @@ pub fn build<'a, S: WriteFiles>(alloc: Global, line: &Build<'a>, store: &mut S) 
     );
     match module {
         Ok(built) => {
-            let cause = written(store, line.out, built.bytes.as_slice());
+            let cause = write_built(alloc, line, &sources, &built, store);
             Outcome::without_run(alloc, cause, sources, built.bytes)
         }
         Err(cause) => Outcome::without_module(alloc, cause, sources),
+    }
+}
+
+/// The cause after the module was written, and the positions of its faults, or one of them wasn't.
+fn write_built<S: WriteFiles>(
+    alloc: Global,
+    line: &Build<'_>,
+    sources: &Sources,
+    built: &Built,
+    store: &mut S,
+) -> Cause
+    ensures writes { WritesModule (part S.files S.faults store.old store.new) line.now.out.now built.now.bytes.items
+        (option_map (λ file. file.now) line.now.sites) sources.now result }
+    ensures count { S.faults store.old ≤ S.faults store.new }
+{
+    match line.sites {
+        None => written(store, line.out, built.bytes.as_slice()),
+        Some(file) => match sites_text(alloc, sources, built.positions.as_slice()) {
+            Ok(text) => both_written(
+                store,
+                line.out,
+                built.bytes.as_slice(),
+                file,
+                text.as_slice(),
+            ),
+            Err(NoMemory) => Cause::NoMemory,
+        },
+    }
+}
+
+/// The cause after the module was written and then the text to the other file, or one of them wasn't.
+fn both_written<S: WriteFiles>(
+    store: &mut S,
+    out: &str,
+    module: &[u8],
+    other: &str,
+    text: &[u8],
+) -> Cause
+    ensures written { AreWritten (part S.files S.faults store.old store.new) out.now «module».now (Some (other.now, text.now)) result }
+    ensures count { S.faults store.old ≤ S.faults store.new }
+{
+    match written(store, out, module) {
+        Cause::Done => written(store, other, text),
+        cause => cause,
     }
 }
 

@@ -78,9 +78,12 @@ fn unaccepted<'a>(
     ensures listening { result.listening ≡ listening.Yes }
     ensures done { result.done ≡ 0 }
 {
-    match (extent, cause) {
-        (Extent::All, Cause::Refused(first)) => all_refused(alloc, first, sources, further),
-        _ => Outcome::without_module(alloc, cause, sources),
+    match extent {
+        Extent::Needed => Outcome::without_module(alloc, cause, sources),
+        Extent::All => match cause {
+            Cause::Refused(first) => all_refused(alloc, first, sources, further),
+            _ => Outcome::without_module(alloc, cause, sources),
+        },
     }
 }
 

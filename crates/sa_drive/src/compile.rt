@@ -56,7 +56,11 @@ pub fn check_files<S: ReadFiles>(
 {
     match read_program(alloc, store, files) {
         Ok(program) => check_program(alloc, program, contracts, extent),
-        Err(fault) => unchecked(alloc, no_sources(alloc), unread(fault)),
+        Err(fault) => Checked {
+            sources: no_sources(alloc),
+            core: Err(unread(fault)),
+            further: Vec::new(alloc),
+        },
     }
 }
 
@@ -129,7 +133,11 @@ fn check_generated(alloc: Global, classes: u32) -> Checked
             let program = Program { sources, cut: None };
             check_program(alloc, program, Contracts::Dropped, Extent::Needed)
         }
-        Err(NoMemory) => unchecked(alloc, no_sources(alloc), Cause::NoMemory),
+        Err(NoMemory) => Checked {
+            sources: no_sources(alloc),
+            core: Err(Cause::NoMemory),
+            further: Vec::new(alloc),
+        },
     }
 }
 
@@ -146,19 +154,11 @@ fn check_program(alloc: Global, program: Program, contracts: Contracts, extent: 
     let Program { sources, cut } = program;
     match cut {
         None => check_texts(alloc, sources, contracts, extent),
-        Some(refusal) => unchecked(alloc, sources, Cause::Refused(refusal)),
-    }
-}
-
-/// The texts of a program that isn't checked, for this cause.
-fn unchecked(alloc: Global, sources: Sources, cause: Cause) -> Checked
-    ensures sources { result.sources ≡ sources }
-    ensures core { result.core ≡ Err cause }
-{
-    Checked {
-        sources,
-        core: Err(cause),
-        further: Vec::new(alloc),
+        Some(refusal) => Checked {
+            sources,
+            core: Err(Cause::Refused(refusal)),
+            further: Vec::new(alloc),
+        },
     }
 }
 
@@ -205,7 +205,13 @@ fn check_texts(alloc: Global, sources: Sources, contracts: Contracts, extent: Ex
     ensures fault { IfErr result.core (Explains sources.texts) }
 {
     let mut further = Vec::new(alloc);
-    let core = typed(alloc, sources.texts.as_slice(), contracts, extent, &mut further);
+    let core = typed(
+        alloc,
+        sources.texts.as_slice(),
+        contracts,
+        extent,
+        &mut further,
+    );
     Checked {
         sources,
         core,

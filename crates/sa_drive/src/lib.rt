@@ -23,6 +23,7 @@ mod print;
 mod report;
 mod run;
 mod selftest;
+mod sites;
 mod texts;
 mod told;
 mod top;

@@ -36,7 +36,7 @@ fn unread(file: Option<&str>, said: &mut Sentences) -> Result<(), AllocError> {
 fn unwritten(file: Option<&str>, said: &mut Sentences) -> Result<(), AllocError> {
     let what = match file {
         Some(name) => Part::Code(name.as_bytes()),
-        None => Part::Words("The module's file"),
+        None => Part::Words("One of the files that are written"),
     };
     let reason = Part::Words(
         " can't be written: its folder isn't there, it may not be written, or the disk is full.",

@@ -384,10 +384,10 @@ fn lacks(class: &Class, wanted: &Feature) -> bool {
     ) == 0
 }
 
-fn says_lacking(
-    class: &Class,
-    above: &Class,
-    wanted: &Feature,
+fn says_lacking<'a>(
+    class: &'a Class,
+    above: &'a Class,
+    wanted: &'a Feature,
     said: &mut Said,
 ) -> Result<(), AllocError> {
     let name = wanted.name.name.as_slice();

@@ -124,7 +124,7 @@ fn is_written_here(scene: Scene<'_>, name: &[u8]) -> bool {
 }
 
 /// The type of the attribute that is assigned, where there is one of its name alone, and that of the value.
-fn assigned_type(scene: Scene<'_>, name: &[u8], said: &mut Said) -> Result<(), AllocError> {
+fn assigned_type<'a>(scene: Scene<'a>, name: &'a [u8], said: &mut Said) -> Result<(), AllocError> {
     let next = scene.at.saturating_add(1);
     let (Some(wanted), Some(value)) = (only_type(scene, name), value_at(scene, next)) else {
         return Ok(());

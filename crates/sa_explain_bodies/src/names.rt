@@ -185,9 +185,9 @@ fn has_later_index(scene: Scene<'_>, from: usize) -> bool {
 }
 
 /// What is called on has no feature of this name.
-fn lacks_feature(
-    scene: Scene<'_>,
-    class: Option<&[u8]>,
+fn lacks_feature<'a>(
+    scene: Scene<'a>,
+    class: Option<&'a [u8]>,
     said: &mut Said,
 ) -> Result<(), AllocError> {
     let what = match scene.tokens.kind(scene.at) {
@@ -279,12 +279,16 @@ fn says_other_kind(scene: Scene<'_>, said: &mut Said) -> Result<bool, AllocError
     if scene.table.count(iter.as_slice(), Quality::Any) == 0 {
         return Ok(false);
     }
+    there_is_iter(iter.as_slice(), said)?;
+    Ok(true)
+}
+
+fn there_is_iter(name: &[u8], said: &mut Said) -> Result<(), AllocError> {
     said.say(&[
         Part::Words("There is an iter of this name: write "),
-        Part::Code(iter.as_slice()),
+        Part::Code(name),
         Part::Words(", in a loop."),
-    ])?;
-    Ok(true)
+    ])
 }
 
 /// What to write for a name of another language.

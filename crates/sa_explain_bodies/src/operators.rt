@@ -52,7 +52,7 @@ pub(crate) fn unknown_operator(
     let Some(name) = called(sign) else {
         return Ok(());
     };
-    lacks(scene, name, said)?;
+    lacks(scene, name.as_bytes(), said)?;
     said.say_words(equality_or(sign))
 }
 
@@ -70,7 +70,7 @@ fn equality_or(sign: Sign) -> &'static str {
 }
 
 /// The left operand has no such routine.
-fn lacks(scene: Scene<'_>, name: &str, said: &mut Said) -> Result<(), AllocError> {
+fn lacks<'a>(scene: Scene<'a>, name: &'a [u8], said: &mut Said) -> Result<(), AllocError> {
     let class = operand_before(scene, scene.at);
     let what = match class {
         Some(class) => Part::Plain(class),
@@ -79,7 +79,7 @@ fn lacks(scene: Scene<'_>, name: &str, said: &mut Said) -> Result<(), AllocError
     said.say(&[
         what,
         Part::Words(" has no routine "),
-        Part::Code(name.as_bytes()),
+        Part::Code(name),
         Part::Words(", which "),
         Part::Code(scene.name()),
         Part::Words(" calls."),
@@ -120,12 +120,13 @@ pub(crate) fn operator_without_fit(
     let Some(name) = called(sign) else {
         return Ok(());
     };
+    let name = name.as_bytes();
     let right = value_at(scene, scene.at.saturating_add(1));
     let (Some(left), Some(right)) = (operand_before(scene, scene.at), right) else {
         said.say(&[
             Part::Code(scene.name()),
             Part::Words(" calls "),
-            Part::Code(name.as_bytes()),
+            Part::Code(name),
             Part::Words(
                 " of its left operand with the right one, and none that is there takes it, or gives a value just where one is wanted.",
             ),
@@ -140,7 +141,7 @@ pub(crate) fn operator_without_fit(
     said.say(&[
         Part::Code(scene.name()),
         Part::Words(" calls "),
-        Part::Code(name.as_bytes()),
+        Part::Code(name),
         Part::Words(" of "),
         Part::Plain(left),
         Part::Words(" with "),

@@ -188,10 +188,10 @@ fn given_back(scene: Scene<'_>, said: &mut Said) -> Result<(), AllocError> {
 }
 
 /// A value of another type than that of the result.
-fn other_result(
-    scene: Scene<'_>,
-    name: &[u8],
-    wanted: Option<&[u8]>,
+fn other_result<'a>(
+    scene: Scene<'a>,
+    name: &'a [u8],
+    wanted: Option<&'a [u8]>,
     value: usize,
     said: &mut Said,
 ) -> Result<(), AllocError> {

@@ -115,8 +115,8 @@ fn in_bracket(scene: Scene<'_>, open: Open, said: &mut Said) -> Result<(), Alloc
         ),
         Some(_) => false,
     };
-    let closing = closing_of(tokens.kind(open.at));
-    let closes_another = is_closing(tokens.kind(scene.at)) && scene.name() != closing.as_bytes();
+    let closing = closing_of(tokens.kind(open.at)).as_bytes();
+    let closes_another = is_closing(tokens.kind(scene.at)) && scene.name() != closing;
     if !leaves && !closes_another {
         return Ok(());
     }
@@ -126,9 +126,13 @@ fn in_bracket(scene: Scene<'_>, open: Open, said: &mut Said) -> Result<(), Alloc
         Part::Number(tokens.line(open.at)),
         Part::Words(" isn't closed yet, and this can't stand inside it."),
     ])?;
+    write_where_it_ends(closing, said)
+}
+
+fn write_where_it_ends(closing: &[u8], said: &mut Said) -> Result<(), AllocError> {
     said.say(&[
         Part::Words("Write "),
-        Part::Code(closing.as_bytes()),
+        Part::Code(closing),
         Part::Words(" where it ends."),
     ])
 }

@@ -64,7 +64,7 @@ fn empty_parentheses(scene: Scene<'_>, said: &mut Said) -> Result<(), AllocError
         scene.tokens.kind_back(scene.at, 2),
         Some(TokenKind::Lower | TokenKind::IterName)
     ) {
-        return said.say(&[Part::Words("Write "), Part::Code(name), Part::Words(".")]);
+        return write_it(name, said);
     }
     said.say_words("Take the parentheses away.")
 }
@@ -82,11 +82,7 @@ fn small_class_name(scene: Scene<'_>, said: &mut Said) -> Result<(), AllocError>
     }
     if let Some(class) = class_here(scene.name()) {
         said.say_words("Here stands the name of a class, and these are in capitals.")?;
-        return said.say(&[
-            Part::Words("Write "),
-            Part::Code(class.as_bytes()),
-            Part::Words("."),
-        ]);
+        return write_it(class.as_bytes(), said);
     }
     let mut name = Vec::from_slice(scene.alloc, scene.name())?;
     for byte in name.iter_mut() {
@@ -97,11 +93,12 @@ fn small_class_name(scene: Scene<'_>, said: &mut Said) -> Result<(), AllocError>
         Part::Code(scene.name()),
         Part::Words(" is a name of a routine or a variable."),
     ])?;
-    said.say(&[
-        Part::Words("Write "),
-        Part::Code(name.as_slice()),
-        Part::Words("."),
-    ])
+    write_it(name.as_slice(), said)
+}
+
+/// Says that this is to be written there.
+fn write_it(code: &[u8], said: &mut Said) -> Result<(), AllocError> {
+    said.say(&[Part::Words("Write "), Part::Code(code), Part::Words(".")])
 }
 
 /// `x:INT = 3`

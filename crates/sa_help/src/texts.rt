@@ -58,6 +58,8 @@ Compiles the program in the files, and writes its module to OUT, which is none
 of these files. A program that is refused leaves OUT as it is.
 
   -o OUT        the file to which the module is written
+  --sites SITES write the file and the line of each site of a fault to SITES, as
+                JSON; it is another file than OUT and these
   --room KIB    give it so many KiB for objects and texts, from 64 to 1048576;
                 without the option 65536
   --contracts   check pre, post and invariant while it runs

@@ -1,5 +1,5 @@
 -- Which command a line of words is.
-use Rattle.std.specs.Prelude.{◌^◌, ◌-◌, ◌&&◌, ℕ, Bool, false, List, [], Option, None, Some, codes}
+use Rattle.std.specs.Prelude.{◌^◌, ◌-◌, ◌&&◌, ◌||◌, ℕ, Bool, false, List, [], Option, None, Some, codes}
 use Rattle.std.specs.Prelude.{length, map, if◌then◌else◌, nat_le, option_map, option_and_then, unwrap_or}
 use Rattle.std.specs.List.{list_any}
 use Rattle.std.specs.Option.{option_map_or}
@@ -26,7 +26,7 @@ use Rattle.sa_words.specs.declared.command.Trace.TheVariants.{Silent, Told}
 -- a command with its texts and numbers
 pub data Line : Type 0 where
   Run : (fuel : ℕ) → (room : ℕ) → (stats : Bool) → (contracts : Contracts) → (trace : Trace) → (detail : Detail) → (files : List Text) → Line
-  Build : (room : ℕ) → (contracts : Contracts) → (detail : Detail) → (out : Text) → (files : List Text) → Line
+  Build : (room : ℕ) → (contracts : Contracts) → (detail : Detail) → (out : Text) → (sites : Option Text) → (files : List Text) → Line
   Check : (contracts : Contracts) → (extent : Extent) → (detail : Detail) → (files : List Text) → Line
   Exec : (fuel : ℕ) → (stats : Bool) → (detail : Detail) → (file : Text) → Line
   Gen : (classes : ℕ) → Line
@@ -41,7 +41,8 @@ pub data Line : Type 0 where
 -- what a command says
 abbrev pub line_of : Command → Line
 line_of (command.Run run) = Run run.fuel run.room run.stats run.contracts run.trace run.detail (map (λ file. file.now) run.files.items)
-line_of (command.Build build) = Build build.room build.contracts build.detail build.out.now (map (λ file. file.now) build.files.items)
+line_of (command.Build build) =
+    Build build.room build.contracts build.detail build.out.now (option_map (λ file. file.now) build.sites) (map (λ file. file.now) build.files.items)
 line_of (command.Check check) = Check check.contracts check.extent check.detail (map (λ file. file.now) check.files.items)
 line_of (command.Exec exec) = Exec exec.fuel exec.stats exec.detail exec.«module».now
 line_of (command.Gen classes) = Gen classes
@@ -56,7 +57,7 @@ line_of (command.Library name) = Library (option_map (λ text. text.now) name)
 -- how much a command asks to be told of the cause of its end
 abbrev pub detail_of : Option Line → Detail
 detail_of (Some (Run fuel room stats contracts trace detail files)) = detail
-detail_of (Some (Build room contracts detail out files)) = detail
+detail_of (Some (Build room contracts detail out sites files)) = detail
 detail_of (Some (Check contracts extent detail files)) = detail
 detail_of (Some (Exec fuel stats detail file)) = detail
 detail_of _ = Brief
@@ -97,14 +98,23 @@ run_in rows =
     (λ fuel. option_map (λ room. Run fuel room (stats_in rows) (contracts_in rows) (trace_in rows) (detail_in rows) (files_in rows)) (room_in rows))
     (fuel_in rows)
 
--- a build into this file, if it is none of those that are read
-abbrev pub build_into : ℕ → Contracts → Detail → (out : Text) → (files : List Text) → Option Line
-build_into room contracts detail out files = if list_any (bytes_eq out) files then None else Some (Build room contracts detail out files)
+-- the name is one of these
+abbrev pub is_among : Text → List Text → Bool
+is_among name names = list_any (bytes_eq name) names
+
+-- two files that are to be written have one name, or one of them is among those that are read
+abbrev pub do_clash : (out : Text) → (sites : Option Text) → (files : List Text) → Bool
+do_clash out sites files = is_among out files || option_map_or (λ name. bytes_eq name out || is_among name files) sites false
+
+-- a build of these files into OUT, with their sites in a file of its own, if there is one
+abbrev pub build_into : List Row → ℕ → (out : Text) → (sites : Option Text) → (files : List Text) → Option Line
+build_into rows room out sites files =
+    if do_clash out sites files then None else Some (Build room (contracts_in rows) (detail_in rows) out sites files)
 
 abbrev pub build_in : List Row → Option Line
 build_in rows =
     option_and_then
-    (λ room. option_and_then (λ out. build_into room (contracts_in rows) (detail_in rows) out (files_in rows)) (first_of (codes "out") rows))
+    (λ room. option_and_then (λ out. build_into rows room out (first_of (codes "sites") rows) (files_in rows)) (first_of (codes "out") rows))
     (room_in rows)
 
 abbrev pub check_in : List Row → Line

@@ -3,7 +3,7 @@ use Rattle.std.specs.Prelude.{true, codes, Some}
 use Rattle.clap.specs.Words.{App, Rule, Text, new_app, new_rule, with_rule, with_subcommand}
 use Rattle.clap.specs.declared.builder.action.ArgAction.TheVariants.{Append, SetTrue}
 
--- an option with a value: `--fuel N`
+-- an option with a value: `--fuel N`, `--sites FILE`
 abbrev pub option : Text → Rule
 option name = record (new_rule name) { long = Some name }
 
@@ -59,7 +59,7 @@ abbrev pub run : App
 run = with_rule (with_rule (explaining (compiling (running (new_app (codes "run"))))) (flag (codes "trace"))) files
 
 abbrev pub build : App
-build = with_rule (with_rule (explaining (compiling (new_app (codes "build")))) out) files
+build = with_rule (with_rule (with_rule (explaining (compiling (new_app (codes "build")))) (option (codes "sites"))) out) files
 
 abbrev pub check : App
 check = with_rule (with_rule (with_rule (explaining (new_app (codes "check"))) (flag (codes "contracts"))) (flag (codes "all"))) files

@@ -93,7 +93,7 @@ pub struct Run<'a> {
     pub files: Vec<&'a str>,
 }
 
-/// The program in the files is to be compiled, and its module written.
+/// The program in the files is to be compiled, and its module written. The files that are written are others than those that are read.
 #[derive(Debug, Drop)]
 pub struct Build<'a> {
     /// The bytes that the program may charge, in KiB.
@@ -102,6 +102,8 @@ pub struct Build<'a> {
     pub detail: Detail,
     /// The name of the module's file.
     pub out: &'a str,
+    /// The name of the file of the positions of faults, if they are to be written too.
+    pub sites: Option<&'a str>,
     /// The files' names: one or more.
     pub files: Vec<&'a str>,
 }

@@ -130,11 +130,12 @@ fn run<'a>(alloc: Global) -> Result<Command<'a>, AllocError>
     .arg(files(alloc))
 }
 
-/// `build [--room KIB] [--contracts] [--explain] -o OUT FILE..`
+/// `build [--room KIB] [--contracts] [--explain] [--sites FILE] -o OUT FILE..`
 fn build<'a>(alloc: Global) -> Result<Command<'a>, AllocError>
     ensures { IfOk result (λ c. (app_of c ≡ line.build) × ((out-Command c).has_globals ≡ false)) }
 {
     explaining(alloc, compiling(alloc, Command::new(alloc, "build"))?)?
+        .arg(option(alloc, "sites"))?
         .arg(out(alloc))?
         .arg(files(alloc))
 }

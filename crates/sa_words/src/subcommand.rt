@@ -1,10 +1,9 @@
 //! A subcommand with its matches, as a command.
 
-ghost use Rattle.std.specs.List.{list_any};
-ghost use Rattle.std.specs.Prelude.{◌≡◌, IfOk, Some, bytes_eq, map, option_map};
+ghost use Rattle.std.specs.Prelude.{◌≡◌, IfOk, Some, map, option_map};
 ghost use Rattle.clap.specs.Words.{all_of, first_of, found_of, rows_of};
-ghost use Rattle.sa_words.specs.Line.{assemble_in, build_in, check_in, classes_in, contracts_in, detail_in, exec_in, extent_in, files_in};
-ghost use Rattle.sa_words.specs.Line.{fuel_in, is_given, line_of, listing_in, named_line, room_in, run_in, stats_in, trace_in, Gen, Selftest};
+ghost use Rattle.sa_words.specs.Line.{assemble_in, build_in, check_in, classes_in, contracts_in, detail_in, do_clash, exec_in, extent_in};
+ghost use Rattle.sa_words.specs.Line.{files_in, fuel_in, is_among, is_given, line_of, listing_in, named_line, room_in, run_in, stats_in, trace_in, Gen, Selftest};
 
 use crate::command::{
     Assemble, Build, Check, Command, Contracts, Detail, Exec, Extent, Listing, Run, Trace,
@@ -149,9 +148,22 @@ fn run<'a>(alloc: Global, matches: &ArgMatches<'a>) -> Result<Option<Command<'a>
 
 /// Whether the name is one of these.
 fn is_among(name: &str, names: &[&str]) -> bool
-    ensures { result ≡ list_any (bytes_eq name.now) (map (λ other. other.now) names.now) }
+    ensures { result ≡ is_among name.now (map (λ other. other.now) names.now) }
 {
     names.iter().any(|other| name == *other)
+}
+
+/// Whether two files that are to be written have one name, or one of them is among those that are read.
+fn do_clash(out: &str, sites: Option<&str>, files: &[&str]) -> bool
+    ensures { result ≡ do_clash out.now (option_map (λ name. name.now) sites.entry) (map (λ file. file.now) files.now) }
+{
+    if is_among(out, files) {
+        return true;
+    }
+    match sites {
+        Some(name) => name == out || is_among(name, files),
+        None => false,
+    }
 }
 
 fn build<'a>(alloc: Global, matches: &ArgMatches<'a>) -> Result<Option<Command<'a>>, AllocError>
@@ -161,7 +173,8 @@ fn build<'a>(alloc: Global, matches: &ArgMatches<'a>) -> Result<Option<Command<'
     let (Some(room), Some(out)) = (room(matches), value(matches, "out")) else {
         return Ok(None);
     };
-    if is_among(out, files.as_slice()) {
+    let sites = value(matches, "sites");
+    if do_clash(out, sites, files.as_slice()) {
         return Ok(None);
     }
     Ok(Some(Command::Build(Build {
@@ -169,6 +182,7 @@ fn build<'a>(alloc: Global, matches: &ArgMatches<'a>) -> Result<Option<Command<'
         contracts: contracts(matches),
         detail: detail(matches),
         out,
+        sites,
         files,
     })))
 }

@@ -1,6 +1,6 @@
 use Rattle.std.proofs.Common.{◌∙◌, inl, inr, subst, sym}
 use Rattle.sa_drive.specs.Lines.{IsPlaced}
-use Rattle.sa_drive.proofs.EndLemmas.{given_none, placed_write, spells_of, taken_of, written_earlier}
+use Rattle.sa_drive.proofs.EndLemmas.{given_none, module_earlier, placed_module, spells_of, taken_of}
 use Rattle.sa_drive.proofs.build.build.Goals as goal
 
 pub returns-in-Ok-clause-does : goal.returns-in-Ok-clause-does
@@ -8,7 +8,7 @@ returns-in-Ok-clause-does g c =
     rw (← c.as_slice.ensures.value) (inr (
       taken_of _ _ _ _ _ _ _ c.in-Ok.is c.compile_files-sources.ensures.«module» c.without_run.ensures.sources,
       spells_of _ c.in-Ok.built _ c.in-Ok.is c.compile_files-sources.ensures.built c.without_run.ensures.bytes,
-      written_earlier _ _ _ _ _ _ _ _ _ _ _ c.compile_files-sources.ensures.files c.compile_files-sources.ensures.count (c.without_run.ensures.bytes ∙ sym c.as_slice-in-Ok.ensures.value) c.without_run.ensures.cause c.written-cause.ensures.written,
+      module_earlier _ _ _ _ _ _ _ _ _ _ _ _ _ _ c.compile_files-sources.ensures.files c.compile_files-sources.ensures.count c.without_run.ensures.bytes c.without_run.ensures.sources c.without_run.ensures.cause c.write_built-cause.ensures.writes,
     ))
 
 pub returns-in-Err-clause-does : goal.returns-in-Err-clause-does
@@ -17,4 +17,4 @@ returns-in-Err-clause-does g c =
 
 pub returns-in-Ok-clause-placed : goal.returns-in-Ok-clause-placed
 returns-in-Ok-clause-placed g c =
-    subst (IsPlaced c.without_run.result.sources) (sym c.without_run.ensures.cause) (placed_write _ c.without_run.result.sources _ c.written-cause.ensures.written.comes)
+    subst (IsPlaced c.without_run.result.sources) (sym c.without_run.ensures.cause) (placed_module _ _ _ _ _ c.without_run.result.sources _ c.write_built-cause.ensures.writes)

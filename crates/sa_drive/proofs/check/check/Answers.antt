@@ -1,6 +1,6 @@
 use Rattle.std.proofs.Common.{inl, inr, refl, subst, sym}
 use Rattle.sa_drive.specs.Lines.{IsPlaced}
-use Rattle.sa_drive.proofs.EndLemmas.{given_none, placed_print, taken_of}
+use Rattle.sa_drive.proofs.EndLemmas.{given_none_or, placed_print, taken_of}
 use Rattle.sa_drive.proofs.check.check.Goals as goal
 
 pub returns-in-Ok-clause-does : goal.returns-in-Ok-clause-does
@@ -13,7 +13,11 @@ returns-in-Ok-clause-does g c =
 
 pub returns-in-Err-clause-does : goal.returns-in-Err-clause-does
 returns-in-Err-clause-does g c =
-    rw (← c.as_slice.ensures.value) (inl (given_none _ _ _ _ _ _ c.in-Err.is c.check_files-sources.ensures.core c.check_files-sources.ensures.files c.without_module-in-Err.ensures.sources c.without_module-in-Err.ensures.cause c.without_module-in-Err.ensures.bytes, refl))
+    rw (← c.as_slice.ensures.value) (inl (
+      given_none_or _ _ _ _ _ _ c.in-Err.is c.check_files-sources.ensures.core c.check_files-sources.ensures.files c.unaccepted.ensures.sources c.unaccepted.ensures.cause c.unaccepted.ensures.bytes,
+      refl,
+      c.unaccepted.ensures.may_tell,
+    ))
 
 pub returns-in-Ok-clause-placed : goal.returns-in-Ok-clause-placed
 returns-in-Ok-clause-placed g c =

@@ -1,4 +1,5 @@
 use Rattle.std.proofs.Common.{refl}
+use Rattle.sa_drive.proofs.EndLemmas.{tells_one}
 use Rattle.sa_drive.proofs.top.do_command.Goals as goal
 
 pub returns-in-Silent-clause-does : goal.returns-in-Silent-clause-does
@@ -30,3 +31,6 @@ returns-in-Version-clause-does g c = rw c.in-Version.is (c.version.ensures.does,
 
 pub returns-in-Explain-clause-does : goal.returns-in-Explain-clause-does
 returns-in-Explain-clause-does g c = rw c.in-Explain.is (c.explain.ensures.does, ((refl, refl), c.explain.ensures.listening))
+
+pub returns-in-Check-clause-further : goal.returns-in-Check-clause-further
+returns-in-Check-clause-further g c = rw c.in-Check.is (tells_one _ _ _ _ _ c.check.ensures.further)

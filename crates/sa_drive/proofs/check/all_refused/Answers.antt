@@ -1,0 +1,15 @@
+use Rattle.std.proofs.Common.{◌∙◌, ap, inr, subst, sym}
+use Rattle.std.specs.List.{All}
+use Rattle.sa_drive.specs.Further.{IsFurther, refusal_lines}
+use Rattle.sa_drive.proofs.check.all_refused.Goals as goal
+
+pub returns-in-Ok-clause-may_tell : goal.returns-in-Ok-clause-may_tell
+returns-in-Ok-clause-may_tell c =
+    let same = sym c.without_module-outcome.ensures.sources in
+    inr (record {
+      first = c.args.first;
+      cause = c.without_module-outcome.ensures.cause;
+      refusals = c.args.further.now;
+      further = subst (λ sources. All (IsFurther sources) c.args.further.now) same c.in-Ok.ensures.further;
+      lines = c.in-Ok.ensures.lines ∙ ap (λ sources. refusal_lines sources c.args.further.now) same;
+    })

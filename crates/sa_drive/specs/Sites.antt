@@ -1,0 +1,29 @@
+-- The positions of faults, as JSON, and the file that gets them behind that of the module.
+use Rattle.std.specs.Prelude.{ℕ, List, [], ◌∷◌, ◌++◌, codes, decimal, flat_map, Option, option_map}
+use Rattle.json.specs.Print.{print}
+use Rattle.json.specs.Token.{Token, begin_array, begin_object, end_array, end_object, key, number, string}
+use Rattle.sa_drive.specs.Ends.{AreWritten}
+use Rattle.sa_drive.specs.Lines.{file_name, line_number}
+use Rattle.sa_drive.specs.Seen.{Part}
+use Rattle.sa_drive.specs.declared.cause.Cause.{Cause}
+use Rattle.sa_outside.specs.Files.{Files}
+use Rattle.sa_tree.specs.declared.pos.Pos.{Pos}
+use Rattle.sa_tree.specs.declared.pos.Sources.{Sources}
+
+-- `"file": NAME, "line": NUMBER` of a position
+abbrev pub site_members : Sources → Pos → List Token
+site_members sources pos =
+    key (codes "file") ∷ string (file_name sources pos) ∷ key (codes "line") ∷ number (decimal (line_number sources pos)) ∷ []
+
+-- the object of a position
+abbrev pub site_tokens : Sources → Pos → List Token
+site_tokens sources pos = begin_object ∷ site_members sources pos ++ end_object ∷ []
+
+-- the array of the positions, each at its number
+abbrev pub sites_text : Sources → List Pos → List ℕ
+sites_text sources positions = print (begin_array ∷ flat_map (site_tokens sources) positions ++ end_array ∷ [])
+
+-- the file of this name was to get the module, and then the file of the sites, if there is one, positions in these texts
+abbrev pub WritesModule : Part Files → (name bytes : List ℕ) → (sites : Option (List ℕ)) → Sources → Cause → Type 0
+WritesModule store name bytes sites sources ends =
+    (positions : List Pos) × AreWritten store name bytes (option_map (λ file. (file, sites_text sources positions)) sites) ends
