@@ -2,3 +2,4 @@ pub mod EndLemmas
 pub mod ListingLemmas
 pub mod OutputLemmas
 pub mod RunLemmas
+pub mod SiteLemmas

@@ -58,16 +58,11 @@ fn write_built<S: WriteFiles>(
         (option_map (λ file. file.now) line.now.sites) sources.now result }
     ensures count { S.faults store.old ≤ S.faults store.new }
 {
+    let bytes = built.bytes.as_slice();
     match line.sites {
-        None => written(store, line.out, built.bytes.as_slice()),
+        None => written(store, line.out, bytes),
         Some(file) => match sites_text(alloc, sources, built.positions.as_slice()) {
-            Ok(text) => both_written(
-                store,
-                line.out,
-                built.bytes.as_slice(),
-                file,
-                text.as_slice(),
-            ),
+            Ok(text) => both_written(store, line.out, bytes, file, text.as_slice()),
             Err(NoMemory) => Cause::NoMemory,
         },
     }
