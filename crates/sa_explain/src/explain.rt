@@ -187,12 +187,7 @@ fn classes_of(alloc: Global, sources: &Sources) -> Result<Items<Class>, NoMemory
 fn are_short(texts: &[Items<u8>]) -> bool
     ensures { IsTrue result ↔ All (λ text. length text < 4294967295) texts.now }
 {
-    for text in texts {
-        if !is_short(text) {
-            return false;
-        }
-    }
-    true
+    texts.iter().all(|text| is_short(text))
 }
 
 /// Whether a text is short enough to be explained.
