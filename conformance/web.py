@@ -36,6 +36,7 @@ INDENTED = 'class MAIN is\n   main is\n      loop\n         #OUT + 1.upto!(3) + 
 COPY = 'class MAIN is main is loop b ::= #IN.get_byte; while!(b >= 0); #OUT + b.char; end; end; end;'
 ENDLESS = 'class MAIN is main is #OUT + "begun"; loop end; end; end;'
 REFUSED = 'class MAIN is\n   main is\n      x ::= 3 +;\n   end;\nend;\n'
+UNLOOPED = 'class MAIN is\n   main is\n      i ::= 1.upto!(3);\n   end;\nend;\n'
 FAULTY = 'class MAIN is\n   main is\n      #OUT + "a";\n      #OUT + 1 / 0;\n   end;\nend;\n'
 SUMS = '''class MAIN is
    sum!(x:INT):INT is
@@ -254,12 +255,20 @@ def gets_its_input(page):
 def is_refused(page):
     write(page, REFUSED)
     expect('the output', ['', ''], run(page))
-    marked = "[[...byId('lines').children].findIndex((one) => one.matches('.is-refused')), told.textContent]"
+    marked = "[[...byId('lines').children].findIndex((one) => one.matches('.is-refused')), told.firstChild?.data ?? '']"
     expect('the line that is marked', [2, 'Line 3: E06: unexpected token'], page.value(marked))
     page.value("byId('source').focus()")
     page.press('End', CONTROL)
     page.type(' ')
     expect('the line that is marked once something is typed', [-1, ''], page.value(marked))
+
+
+def is_explained(page):
+    write(page, UNLOOPED)
+    run(page)
+    expect('what is said of it', ['Line 3: E35: iter call outside a loop', 'Write `loop .. end;` around the statement.'],
+           page.value("[told.firstChild.data, told.lastChild.textContent]"))
+    expect('lines of the source among it', 0, page.value("[...told.children].filter((one) => one.textContent.includes('|')).length"))
 
 
 def has_a_fault(page):
@@ -430,6 +439,7 @@ TRIES = [
     ('a program that is typed runs', is_typed_and_run), ('what is typed is kept', is_kept),
     ('a source is highlighted as it stands', is_highlighted),
     ('a program reads its input', gets_its_input), ('a refusal is marked in its line', is_refused),
+    ('a refusal is explained', is_explained),
     ('a fault is marked in its line', has_a_fault), ('a run ends by itself when its time is up', ends_by_itself),
     ('a run is stopped', is_stopped), ('a run that puts out too much is ended', puts_out_too_much),
     ('a trace that was recorded is drawn', draws_lives), ('the picture goes forward and back', steps),

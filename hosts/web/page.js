@@ -71,14 +71,16 @@ function tell(where, text, isWrong) {
   where.classList.toggle('is-wrong', Boolean(isWrong));
 }
 
-// Marks the place that the lines of a refusal or a fault tell.
+// Marks the place that the lines of a refusal or a fault tell, and says what they mean.
 function tellPlace(lines) {
   const place = readPlace(lines);
   if (!place) return tell(told, lines, true);
   const text = place.code === 'fault' ? `fault: ${place.text}` : `${place.code}: ${place.text}`;
-  if (place.file.endsWith('prelude')) return tell(told, `Line ${place.line} of the prelude: ${text}`, true);
-  editor.mark('is-refused', place.line, text);
-  return tell(told, `Line ${place.line}: ${text}`, true);
+  const isHere = !place.file.endsWith('prelude');
+  if (isHere) editor.mark('is-refused', place.line, text);
+  tell(told, isHere ? `Line ${place.line}: ${text}` : `Line ${place.line} of the prelude: ${text}`, true);
+  told.append(...readSentences(lines).map((sentence) => spanOf('sentence', sentence)));
+  return undefined;
 }
 
 function clear() {
@@ -133,7 +135,7 @@ async function showIters() {
   const isRefused = readPlace(told.lines)?.code.startsWith('E');
   draw(source, isRefused ? {events: []} : trace, told.output);
   if (isRefused) hint.textContent = HINTS.served;
-  if (trace.others.length) tellPlace(trace.others.join('\n'));
+  if (trace.others.length) tellPlace(await linesThere(source, given) || trace.others.join('\n'));
   if (trace.events.length) picture.take();
 }
 

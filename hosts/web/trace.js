@@ -54,6 +54,13 @@ function readPlace(text) {
   return null;
 }
 
+// What is told behind that line: sentences, without the line of the source that is shown between them.
+function readSentences(text) {
+  const lines = text.trimEnd().split('\n');
+  const behind = lines.slice(lines.findIndex((line) => REFUSAL.test(line)) + 1);
+  return behind.filter((line) => !/^ *\d* \|/.test(line));
+}
+
 // The lives of the instances of a trace. `lives[0]` is the program's own. `nameOf(file, line, place)` names the iter that is called
 // in a line by the call with this place among the line's calls.
 //
@@ -136,4 +143,4 @@ function countAlive(events) {
   });
 }
 
-if (typeof module !== 'undefined') module.exports = {readTrace, partRecorded, readPlace, readLives, stateAt, countAlive};
+if (typeof module !== 'undefined') module.exports = {readTrace, partRecorded, readPlace, readSentences, readLives, stateAt, countAlive};

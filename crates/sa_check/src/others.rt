@@ -21,7 +21,7 @@ const PRELUDE: u32 = 0;
 
 /// The classes of one kind among those that nothing needs.
 #[derive(Clone, Copy)]
-enum Others {
+enum Which {
     WithoutParameters,
     WithParameters,
 }
@@ -46,9 +46,9 @@ pub(crate) fn with_main(alloc: Global, flat: Flat) -> Result<Flat, NoMemory> {
 ///
 /// The first refusal by the rules on supertypes, on `main` and on the needed types, and `NoMemory`.
 pub(crate) fn with_others(alloc: Global, flat: Flat) -> Result<Flat, FrontFault> {
-    let types = others(alloc, &flat, Others::WithoutParameters)?;
+    let types = others(alloc, &flat, Which::WithoutParameters)?;
     let flat = with_types(alloc, flat, types)?;
-    let types = others(alloc, &flat, Others::WithParameters)?;
+    let types = others(alloc, &flat, Which::WithParameters)?;
     Ok(with_types(alloc, flat, types)?)
 }
 
@@ -123,7 +123,7 @@ fn local(alloc: Global, name: &[u8], pos: Pos) -> Result<Local, NoMemory> {
 }
 
 /// An argument of the type of each class of a kind that nothing needs, in text order.
-fn others(alloc: Global, flat: &Flat, which: Others) -> Result<Items<Formal>, FrontFault> {
+fn others(alloc: Global, flat: &Flat, which: Which) -> Result<Items<Formal>, FrontFault> {
     let edges = Edges::make(alloc, flat)?;
     let program = Program::needed(alloc, flat, &edges)?;
     let needed = needed_places(alloc, &program, flat.classes.len())?;
@@ -150,7 +150,7 @@ fn needed_places(
 fn formals(
     alloc: Global,
     classes: &[Class],
-    which: Others,
+    which: Which,
     needed: &[bool],
 ) -> Result<Items<Formal>, NoMemory> {
     let mut formals = Items::new(alloc);
@@ -163,11 +163,11 @@ fn formals(
 }
 
 /// Whether a class is one of a file and of this kind, and no partial one.
-fn is_among(class: &Class, which: Others) -> bool {
+fn is_among(class: &Class, which: Which) -> bool {
     let has_parameters = !class.params.is_empty();
     let is_of_kind = match which {
-        Others::WithoutParameters => !has_parameters,
-        Others::WithParameters => has_parameters,
+        Which::WithoutParameters => !has_parameters,
+        Which::WithParameters => has_parameters,
     };
     is_of_kind && class.kind != Kind::Partial && class.name.pos.file != PRELUDE
 }

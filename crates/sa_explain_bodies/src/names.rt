@@ -185,9 +185,9 @@ fn has_later_index(scene: Scene<'_>, from: usize) -> bool {
 }
 
 /// What is called on has no feature of this name.
-fn lacks_feature<'a>(
-    scene: Scene<'a>,
-    class: Option<&'a [u8]>,
+fn lacks_feature(
+    scene: Scene<'_>,
+    class: Option<&[u8]>,
     said: &mut Said,
 ) -> Result<(), AllocError> {
     let what = match scene.tokens.kind(scene.at) {
@@ -195,20 +195,35 @@ fn lacks_feature<'a>(
         _ => "routine ",
     };
     match class {
-        Some(class) => said.say(&[
-            Part::Plain(class),
-            Part::Words(" has no "),
-            Part::Words(what),
-            Part::Code(scene.name()),
-            Part::Words("."),
-        ]),
-        None => said.say(&[
-            Part::Words("The class of what this is called on has no "),
-            Part::Words(what),
-            Part::Code(scene.name()),
-            Part::Words("."),
-        ]),
+        Some(class) => class_lacks(class, what, scene.name(), said),
+        None => something_lacks(what, scene.name(), said),
     }
+}
+
+/// A class has no routine or iter of this name.
+fn class_lacks<'a>(
+    class: &'a [u8],
+    what: &'a str,
+    name: &'a [u8],
+    said: &mut Said,
+) -> Result<(), AllocError> {
+    said.say(&[
+        Part::Plain(class),
+        Part::Words(" has no "),
+        Part::Words(what),
+        Part::Code(name),
+        Part::Words("."),
+    ])
+}
+
+/// What is called on, whose class isn't known, has no routine or iter of this name.
+fn something_lacks<'a>(what: &'a str, name: &'a [u8], said: &mut Said) -> Result<(), AllocError> {
+    said.say(&[
+        Part::Words("The class of what this is called on has no "),
+        Part::Words(what),
+        Part::Code(name),
+        Part::Words("."),
+    ])
 }
 
 /// Whether a variable of a name is declared in the feature.

@@ -7,11 +7,10 @@ use crate::lines::line_numbers;
 use crate::run::run_body;
 use crate::signatures::type_numbers;
 use crate::targets::targets;
-use indexmap::IndexSet;
 use sa_core::{Core, SharedCore, TypeInfo};
 use sa_flat::{FlatProgram, Layout};
 use sa_lower_draft::{Draft, Tables};
-use sa_tree::{Name, NoMemory, Pos};
+use sa_tree::{NoMemory, Pos};
 use sqlite_items::Items;
 use std::alloc::Global;
 
@@ -34,7 +33,7 @@ pub fn lower(alloc: Global, core: &Core, positions: Items<Pos>) -> Result<FlatPr
     add_bodies(alloc, core, &mut draft, &mut program)?;
     let Draft { tables, .. } = draft;
     let Tables { texts, binds, .. } = tables;
-    program.texts = in_order(alloc, texts)?;
+    program.texts = texts.in_order(alloc)?;
     program.binds = binds;
     Ok(program)
 }
@@ -78,15 +77,6 @@ fn empty(alloc: Global, positions: Items<Pos>) -> FlatProgram
         shareds: Items::new(alloc),
         binds: Items::new(alloc),
     }
-}
-
-/// The texts of a program, in the order of their numbers.
-fn in_order(alloc: Global, set: IndexSet<Name>) -> Result<Items<Name>, NoMemory> {
-    let mut texts = Items::new(alloc);
-    for text in set {
-        texts.push(text)?;
-    }
-    Ok(texts)
 }
 
 /// The number of attributes of each type.

@@ -9,9 +9,11 @@ mod inside;
 mod iters;
 mod raises;
 mod tables;
+mod texts;
 
 pub use body::{BodyHead, OpenBody};
 pub use draft::Draft;
 pub use inside::{Exception, Inside, LoopWays};
 pub use raises::ArmTest;
 pub use tables::Tables;
+pub use texts::Texts;

@@ -1,9 +1,10 @@
 //! The tables of the program that all bodies share. Texts and binds are added while bodies are filled, and none is taken away, so
 //! that a number names the same one to the end; positions and types are there from the beginning.
 
-use indexmap::{IndexMap, IndexSet};
+use crate::texts::Texts;
+use indexmap::IndexMap;
 use sa_flat::{BindEntry, Fail, Raised};
-use sa_tree::{Name, NoMemory, Pos, Ty, held};
+use sa_tree::{NoMemory, Pos, Ty, held};
 use sqlite_items::Items;
 use std::alloc::Global;
 
@@ -18,7 +19,7 @@ struct Spot {
 #[derive(Drop)]
 pub struct Tables {
     /// The different texts so far.
-    pub texts: IndexSet<Name>,
+    pub texts: Texts,
     /// What the binds so far make.
     pub binds: Items<BindEntry>,
     /// The first place of each position in the program's positions, with its line.
@@ -36,23 +37,11 @@ impl Tables {
         types: IndexMap<Ty, u32>,
     ) -> Result<Tables, NoMemory> {
         Ok(Tables {
-            texts: IndexSet::new(alloc),
+            texts: Texts::new(alloc),
             binds: Items::new(alloc),
             spots: spots(alloc, positions, lines)?,
             types,
         })
-    }
-
-    /// The number of a text, which is added where it is new.
-    pub fn text(&mut self, alloc: Global, text: &Name) -> Result<u32, NoMemory> {
-        let at = match self.texts.get_index_of(text) {
-            Some(at) => at,
-            None => {
-                let (at, _) = self.texts.insert_full(text.copy(alloc)?)?;
-                at
-            }
-        };
-        held(u32::try_from(at).ok())
     }
 
     /// Adds what a bind makes, and gives its number.

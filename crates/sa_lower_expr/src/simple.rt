@@ -37,7 +37,7 @@ fn constant(body: &mut OpenBody, value: FlatConst) -> Result<u32, NoMemory> {
 
 /// A text.
 fn text(alloc: Global, draft: &mut Draft, text: &Name) -> Result<u32, NoMemory> {
-    let number = draft.tables.text(alloc, text)?;
+    let number = draft.tables.texts.number(alloc, text)?;
     constant(&mut draft.body, FlatConst::Text(number))
 }
 
