@@ -183,16 +183,23 @@ fn classes_of(alloc: Global, sources: &Sources) -> Result<Items<Class>, NoMemory
     }
 }
 
-/// Whether each text may be explained by its length.
+/// Whether each text is short enough to be explained.
 fn are_short(texts: &[Items<u8>]) -> bool
     ensures { IsTrue result ↔ All (λ text. length text < 4294967295) texts.now }
 {
     for text in texts {
-        if text.len() > MOST_BYTES {
+        if !is_short(text) {
             return false;
         }
     }
     true
+}
+
+/// Whether a text is short enough to be explained.
+fn is_short(text: &Items<u8>) -> bool
+    ensures { IsTrue result ↔ (length text.now < 4294967295) }
+{
+    text.len() <= MOST_BYTES
 }
 
 /// What is said of a rule that is broken at the place.
