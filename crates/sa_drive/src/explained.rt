@@ -24,7 +24,7 @@ pub fn tell_more<E: Sink>(
     cause: Cause,
     err: &mut E,
 )
-    ensures { TellsMore asked.detail (part E.output E.faults err.old err.new) }
+    ensures { TellsMore asked.entry.detail (part E.output E.faults err.old err.new) }
 {
     match asked.detail {
         Detail::Brief => {}
