@@ -1,5 +1,8 @@
+mod Agreement
+mod ForcedTypes
 mod Innermost
 mod Precedences
+mod SpelledExpressions
 mod SpelledTypes
-mod Stretches
+pub mod Stretches
 mod Taken

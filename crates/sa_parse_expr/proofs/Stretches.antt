@@ -60,7 +60,7 @@ lexeme_found file text (Some token) kind there =
     (same_Some token.kind kind there)
 
 module _ (t : Tokens) where
-  found : (at : ℕ) (kind : TokenKind) → kind_at t.list.now at ≡ Some kind → slice_get (lexemes_of t.file t.src.now t.list.now) at ≡ Some (lexeme_at t at kind)
+  pub found : (at : ℕ) (kind : TokenKind) → kind_at t.list.now at ≡ Some kind → slice_get (lexemes_of t.file t.src.now t.list.now) at ≡ Some (lexeme_at t at kind)
   unfolding kind_at bytes_at start_at
   found at kind there = slice_get-map (read_as t.file t.src.now) t.list.now at ∙ lexeme_found t.file t.src.now (slice_get t.list.now at) kind there
 

@@ -1,7 +1,9 @@
 pub mod Expressions
+pub mod Forced
 pub mod Level
 pub mod Lexemes
 pub mod Nests
 pub mod Places
 pub mod Starts
+pub mod Stops
 pub mod Types

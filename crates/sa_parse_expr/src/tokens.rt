@@ -1,6 +1,6 @@
 //! The tokens of a file together with its text.
 
-ghost use Rattle.std.specs.Prelude.{◌≡◌, ◌+◌, ◌<◌, ◌↔◌, All, IfErr, IfOk, IsTrue, OnSome, Some, length};
+ghost use Rattle.std.specs.Prelude.{◌≡◌, ◌+◌, ◌<◌, ◌↔◌, ◌⊎◌, All, IfErr, IfOk, IsTrue, OnSome, Some, length};
 ghost use Rattle.std.specs.Option.{option_copied};
 ghost use Rattle.std.specs.Bool.{OnTrue};
 ghost use Rattle.sa_lex.specs.Token.{IsWithin};
@@ -57,14 +57,16 @@ impl Tokens<'_> {
 
     /// Whether a lower name stands there, which no `!` follows.
     pub fn is_lower(&self, at: u32) -> bool
-        ensures { OnTrue result (at < length self.now.list.now) }
+        ensures value { IsTrue result ↔ (kind_at self.now.list.now at ≡ Some token.Lower) }
+        ensures within { OnTrue result (at < length self.now.list.now) }
     {
         matches!(self.kind(at), Some(TokenKind::Lower))
     }
 
     /// Whether the name of a feature stands there: a lower name or the name of an iter.
     pub fn is_feature_name(&self, at: u32) -> bool
-        ensures { OnTrue result (at < length self.now.list.now) }
+        ensures value { IsTrue result ↔ ((kind_at self.now.list.now at ≡ Some token.Lower) ⊎ (kind_at self.now.list.now at ≡ Some token.IterName)) }
+        ensures within { OnTrue result (at < length self.now.list.now) }
     {
         matches!(self.kind(at), Some(TokenKind::Lower | TokenKind::IterName))
     }
