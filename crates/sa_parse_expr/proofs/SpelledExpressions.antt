@@ -41,10 +41,10 @@ IsExprs-more (exprs.last_expr first) comma more = exprs.more_exprs first comma (
 IsExprs-more {s = s} {ms = ms} {comma = c} {e = e} (exprs.more_exprs {ls = before} {ms = behind} {comma = d} first parting rest) comma more =
     rw (append_assoc before (d ∷ behind) (c ∷ ms)) (exprs.more_exprs first parting (IsExprs-more rest comma more))
 
-IsTexts-more : {ls : List Lexeme} {l : Lexeme} {bytes others : List ℕ} → IsTexts ls bytes → l.kind ≡ token.Text others → IsTexts (ls ++ l ∷ []) (bytes ++ others)
-IsTexts-more (exprs.last_text is) more = exprs.more_texts is (exprs.last_text more)
-IsTexts-more {others = others} (exprs.more_texts {bytes = first} {others = rest} is behind) more =
-    rw (append_assoc first rest others) (exprs.more_texts is (IsTexts-more behind more))
+IsTexts-more : {ls : List Lexeme} {bytes others : List ℕ} (l : Lexeme) → IsTexts ls bytes → l.kind ≡ token.Text others → IsTexts (ls ++ l ∷ []) (bytes ++ others)
+IsTexts-more l (exprs.last_text is) more = exprs.more_texts is (exprs.last_text more)
+IsTexts-more {others = others} l (exprs.more_texts {bytes = before} {others = rest} is behind) more =
+    rw (append_assoc before rest others) (exprs.more_texts is (IsTexts-more l behind more))
 
 module _ (t : Tokens) where
   -- ---- operators
@@ -64,24 +64,24 @@ module _ (t : Tokens) where
   pub raised : (s : Scope) (x : Around) (from mid next : ℕ) (a b e : Expr) (pos : Pos)
       → IsPost s x (between t from mid) a → kind_at t.list.now mid ≡ Some (token.Sign sign.Caret) → IsPower s x (between t (mid + 1) next) b
       → from ≤ mid → mid < next → pos ≡ pos_at t mid → e ≡ tree.Binary Pow a b pos → IsPower s x (between t from next) e
-  raised s x from mid next a b e pos first caret second before behind stands made =
-      rw (parted t from mid next (token.Sign sign.Caret) caret before behind, made, stands) (exprs.raised first (record { kind = refl }) second)
+  raised s x from mid next a b e pos base caret second before behind stands made =
+      rw (parted t from mid next (token.Sign sign.Caret) caret before behind, made, stands) (exprs.raised base (record { kind = refl }) second)
 
   -- ---- what follows a first
 
   pub call_on : (s : Scope) (x : Around) (from mid next : ℕ) (a boxed e : Expr)
       → IsPost s x (between t from mid) a → kind_at t.list.now mid ≡ Some (token.Sign sign.Dot) → IsCall s (Of boxed) (between t (mid + 1) next) e
       → from ≤ mid → mid < next → boxed ≡ a → IsPost s x (between t from next) e
-  call_on s x from mid next a boxed e first dot second before behind same =
+  call_on s x from mid next a boxed e base dot second before behind same =
       rw (parted t from mid next (token.Sign sign.Dot) dot before behind)
-      (exprs.call_on first (record { kind = refl }) (subst (λ (on : Expr). IsCall s (Of on) (between t (mid + 1) next) e) same second))
+      (exprs.call_on base (record { kind = refl }) (subst (λ (on : Expr). IsCall s (Of on) (between t (mid + 1) next) e) same second))
 
   pub index_of : (s : Scope) (x : Around) (from mid next : ℕ) (kind : TokenKind) (a boxed : Expr) (places : List Expr) (pos : Pos)
       → kind_at t.list.now from ≡ Some kind → IsPost s x (between t from mid) a → IsIndex s (between t mid next) places
       → from < mid → mid ≤ next → boxed ≡ a → pos ≡ pos_at t from → IsPost s x (between t from next) (tree.Index (Some boxed) places pos)
-  index_of s x from mid next kind a boxed places pos there first second before behind same stands =
+  index_of s x from mid next kind a boxed places pos there base second before behind same stands =
       rw (front_join t from mid next kind there before behind, same, stands)
-      (exprs.index_of (subst (λ (ls : List Lexeme). IsPost s x ls a) (front t from mid kind there before) first) second)
+      (exprs.index_of (subst (λ (ls : List Lexeme). IsPost s x ls a) (front t from mid kind there before) base) second)
 
   pub places : (s : Scope) (from mid next : ℕ) (es : List Expr)
       → kind_at t.list.now from ≡ Some (token.Sign sign.LeftBracket) → kind_at t.list.now mid ≡ Some (token.Sign sign.RightBracket)
@@ -170,7 +170,7 @@ module _ (t : Tokens) where
   pub more_text : (first bytes more : List ℕ) (from mid : ℕ) → kind_at t.list.now mid ≡ Some (token.Text more) → from ≤ mid
       → ContinuesTexts first (between t from mid) bytes → ContinuesTexts first (between t from (mid + 1)) (bytes ++ more)
   more_text first bytes more from mid there before behind l is =
-      rw (ended t from mid (token.Text more) there before) (IsTexts-more (behind l is) refl)
+      rw (ended t from mid (token.Text more) there before) (IsTexts-more (lexeme_at t mid (token.Text more)) (behind l is) refl)
 
   -- a form that is a word alone
   pub word_alone : (s : Scope) (x : Around) (from : ℕ) (w : Word) (form : Pos → Expr) (pos : Pos)

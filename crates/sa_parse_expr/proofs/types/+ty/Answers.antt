@@ -1,5 +1,5 @@
 -- What is read is spelled so: a lemma of `SpelledTypes` at each return.
-use Rattle.std.proofs.Common.{◌≡◌, ◌+◌, ◌≤◌, ◌<◌, Some, rules, sym, arith}
+use Rattle.std.proofs.Common.{◌≡◌, ◌⊎◌, Some, rules, arith}
 use Rattle.sa_lex.specs.declared.token.TokenKind.TheVariants as token
 use Rattle.sa_lex.specs.declared.sign.Sign.TheVariants as sign
 use Rattle.sa_lex.specs.declared.word.Word.TheVariants as word
@@ -10,7 +10,10 @@ use Rattle.sa_parse_expr.proofs.types.+ty.Goals as goal
 
 pub read_type-returns-in_ok-given-in-Some-ClassName-clause-spelled : goal.read_type-returns-in_ok-given-in-Some-ClassName-clause-spelled
 read_type-returns-in_ok-given-in-Some-ClassName-clause-spelled t c =
-    let class = class_stands c.args.tokens.now c.args.from c.in-Some-ClassName.field-0.now (sym c.in-Some-ClassName.ensures.value) c.in-Some-ClassName.field-0-is in
+    let kind = c.in-Some-ClassName.field-0.now in
+    let there : kind_at c.args.tokens.now.list.now c.args.from ≡ Some kind = first_of (search rules, grind arith) in
+    let names : (kind ≡ token.ClassName) ⊎ (kind ≡ token.AbstractName) = first_of (assumption c.in-Some-ClassName, search rules) in
+    let class = class_stands c.args.tokens.now c.args.from kind there names in
     named c.args.tokens.now c.args.from _ _ _ _ class (omega (arith, c.in_ok-given-in-Some-ClassName.ensures.next.0)) (search rules) (search rules) c.in_ok-given-in-Some-ClassName.ensures.spelled
 
 pub read_type-returns-in-Some-Word-Same-clause-spelled : goal.read_type-returns-in-Some-Word-Same-clause-spelled
@@ -40,7 +43,7 @@ given_types-returns-clause-spelled t c =
 pub read_types-more-init : goal.read_types-more-init
 read_types-more-init t c = record {
   behind = c.in_ok-first.ensures.next;
-  spelled = rw (c.in_ok-push.ensures.ok, c.new.ensures) (types.last_type c.in_ok-first.ensures.spelled);
+  spelled = rw (c.in_ok-push.ensures.ok, c.new-types.ensures) (types.last_type c.in_ok-first.ensures.spelled);
 }
 
 pub read_types-more-preserved : goal.read_types-more-preserved
@@ -64,7 +67,7 @@ bound_args-returns-clause-spelled t c =
 pub mode_types-more-init : goal.mode_types-more-init
 mode_types-more-init t c = record {
   behind = c.in_ok-first.ensures.next;
-  spelled = rw (c.in_ok-push.ensures.ok, c.new.ensures) (types.last_arg c.in_ok-first.ensures.spelled);
+  spelled = rw (c.in_ok-push.ensures.ok, c.new-args.ensures) (types.last_arg c.in_ok-first.ensures.spelled);
 }
 
 pub mode_types-more-preserved : goal.mode_types-more-preserved
@@ -78,7 +81,7 @@ mode_types-more-preserved t c =
 
 pub mode_type-returns-clause-spelled : goal.mode_type-returns-clause-spelled
 mode_type-returns-clause-spelled t c =
-    mode_type c.args.tokens.now c.args.callable c.args.from c.read_mode.result.1 _ _ _ c.read_mode.ensures.spelled c.in_ok-ty.ensures.spelled c.read_mode.ensures.from (omega (arith, c.in_ok-ty.ensures.next.0))
+    mode_type c.args.tokens.now c.args.callable c.args.from c.read_mode-mode.result.1 _ _ _ c.read_mode-mode.ensures.spelled c.in_ok-ty.ensures.spelled c.read_mode-mode.ensures.from (omega (arith, c.in_ok-ty.ensures.next.0))
 
 pub bound_result-returns-then-not-is_sign-clause-spelled : goal.bound_result-returns-then-not-is_sign-clause-spelled
 bound_result-returns-then-not-is_sign-clause-spelled t c = no_result c.args.tokens.now c.args.from
