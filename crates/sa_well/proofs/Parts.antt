@@ -25,16 +25,22 @@ parts_together w main flat exact = (forth, back)
   where
     given : Bool
     given = well_given w
+
     types : Bool
     types = well_types w 0 w.types
+
     signatures : Bool
     signatures = well_signatures w 0 w.signatures
+
     shareds : Bool
     shareds = list_all (well_shared w) w.shareds
+
     features : Bool
     features = list_all (well_feature w) w.features
+
     runs : Bool
     runs = well_main w main
+
     forth : IsTrue (given && (types && (flat && (signatures && (shareds && (features && runs)))))) → AreWell w main
     forth h =
         let one = both given (types && (flat && (signatures && (shareds && (features && runs))))) h in
@@ -44,6 +50,7 @@ parts_together w main flat exact = (forth, back)
         let five = both shareds (features && runs) four.1 in
         let six = both features runs five.1 in
         record { given = one.0; types = two.0; flat = exact.0 three.0; signatures = four.0; shareds = five.0; features = six.0; main = six.1 }
+
     back : AreWell w main → IsTrue (given && (types && (flat && (signatures && (shareds && (features && runs))))))
     back a =
         together given (types && (flat && (signatures && (shareds && (features && runs))))) a.given

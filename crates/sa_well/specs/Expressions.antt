@@ -43,13 +43,13 @@ module _ (f : Frame) where
         option_and_then (λ element. plain_if ty (all_go at element elements)) (elements_type f.rows ty)
     type_of_expr at (Call called on arguments pos) =
         option_and_then (λ g. option_and_then (λ r. result_if f.rows r (args_fit at r 0 arguments))
-            (call_reached f.rows called g false)) (type_of_expr at on)
+        (call_reached f.rows called g false)) (type_of_expr at on)
     type_of_expr at (IterCall site on arguments pos) =
         option_and_then (λ called. option_and_then (λ g. option_and_then (λ r. result_if f.rows r (args_fit at r 0 arguments))
-            (call_reached f.rows called g true)) (type_of_expr at on)) (site_called f at site)
+        (call_reached f.rows called g true)) (type_of_expr at on)) (site_called f at site)
     type_of_expr at (Bind called on arguments ty pos) =
         option_and_then (λ g. option_and_then (λ r. plain_if ty (kept_fit at r (reach.Bound ty) 0 0 arguments))
-            (bind_reached f.rows called g ty)) (type_of_expr at on)
+        (bind_reached f.rows called g ty)) (type_of_expr at on)
     type_of_expr at (Swapped target first second pos) =
         option_and_then (λ a. option_and_then (λ b. swapped_given f.rows target a b) (type_of_expr at second)) (type_of_expr at first)
     type_of_expr at (And first second) =

@@ -9,10 +9,15 @@ use sa_prelude::BuiltinFeature;
 
 /// The numbers of the types that are the same in each program.
 pub(crate) const OB: u32 = 0;
+
 pub(crate) const BOOL: u32 = 3;
+
 pub(crate) const INT: u32 = 4;
+
 pub(crate) const CHAR: u32 = 5;
+
 pub(crate) const STR: u32 = 6;
+
 pub(crate) const FAULT: u32 = 7;
 
 /// Whether a built-in feature is one of a class, as far as it asks what its receiver is.

@@ -40,11 +40,7 @@ pub(crate) fn well_features(alloc: Global, view: &View<'_>) -> Result<bool, NoMe
 }
 
 /// Whether a feature is well typed.
-fn well_feature(
-    alloc: Global,
-    view: &View<'_>,
-    feature: &FeatureCore,
-) -> Result<bool, NoMemory>
+fn well_feature(alloc: Global, view: &View<'_>, feature: &FeatureCore) -> Result<bool, NoMemory>
     ensures { IfOk result (λ well. well ≡ well_feature (rows view.now) feature.now) }
 {
     if !has_shape(view, feature) {

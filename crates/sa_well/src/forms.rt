@@ -139,12 +139,7 @@ pub(crate) fn value_fits(
 }
 
 /// Whether a parameter takes a variable.
-pub(crate) fn variable_fits(
-    scope: &Scope<'_>,
-    param: Option<Param>,
-    mode: Mode,
-    var: u32,
-) -> bool
+pub(crate) fn variable_fits(scope: &Scope<'_>, param: Option<Param>, mode: Mode, var: u32) -> bool
     ensures { result ≡ variable_fits (frame scope.now) param mode var }
 {
     match (param, scope.vars.get(var as usize)) {

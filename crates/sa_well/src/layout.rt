@@ -41,7 +41,13 @@ fn holding(alloc: Global, view: &View<'_>) -> Result<Graph, NoMemory>
     let mut ends = Vec::new(alloc);
     for (number, info) in view.types.iter().enumerate() {
         if is_immutable_kind(info.kind) {
-            add_held(view, word(number)?, info.attrs.as_slice(), &mut starts, &mut ends)?;
+            add_held(
+                view,
+                word(number)?,
+                info.attrs.as_slice(),
+                &mut starts,
+                &mut ends,
+            )?;
         }
     }
     Graph::new(alloc, view.types.len(), starts, ends)

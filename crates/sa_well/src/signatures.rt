@@ -1,6 +1,5 @@
 //! Whether the signatures of abstract types have their implementations: one of each concrete type below.
 
-
 ghost use Rattle.std.specs.Prelude.{◌≡◌, IfSome, None};
 ghost use Rattle.sa_well.specs.Rows.{rows, shape_at};
 ghost use Rattle.sa_well.specs.Signatures.{IsCount, all_implement, are_implementations, is_implementation, is_lower, lower_count};
@@ -145,9 +144,16 @@ fn is_implementation(view: &View<'_>, shape: &Shape, upper: u32, found: ImplCore
     is_concrete_class(view, found.ty)
         && view.is_above(upper, found.ty)
         && agree(is_target_iter(view, found.target), shape.iter)
-        && is_count(shape.params.len(), target_arity(view, found.ty, found.target))
+        && is_count(
+            shape.params.len(),
+            target_arity(view, found.ty, found.target),
+        )
         && params_conform(view, shape.params.as_slice(), found)
-        && result_conforms(view, shape.result, target_result(view, found.ty, found.target))
+        && result_conforms(
+            view,
+            shape.result,
+            target_result(view, found.ty, found.target),
+        )
 }
 
 #[tactic(auto, using(crate::proofs::Listed::implementations))]
@@ -155,7 +161,11 @@ fn params_conform(view: &View<'_>, params: &[Param], found: ImplCore) -> bool
     ensures { result ≡ params_conform (rows view.now) found 0 params.now }
 {
     for (place, param) in params.iter().enumerate() {
-        if !param_conforms(view, *param, target_parameter(view, found.ty, found.target, place)) {
+        if !param_conforms(
+            view,
+            *param,
+            target_parameter(view, found.ty, found.target, place),
+        ) {
             return false;
         }
     }

@@ -55,9 +55,7 @@ fn well_stmt(scope: &Scope<'_>, at: Place, stmt: &StmtCore) -> bool
                 && well_else(scope, inside.in_branch(OB), other)
         }
         StmtCore::Return(value) => !scope.iter && gives_back(scope, at, value),
-        StmtCore::Yield(value) => {
-            scope.iter && !at.protected && gives_back(scope, at, value)
-        }
+        StmtCore::Yield(value) => { scope.iter && !at.protected && gives_back(scope, at, value) }
         StmtCore::Quit => scope.iter && !at.protected,
         StmtCore::Raise(value, _) => goes(scope, at, OB, value),
         StmtCore::Stop(kind, _) => is_end(*kind),
@@ -200,5 +198,8 @@ fn gives_back(scope: &Scope<'_>, at: Place, value: &Option<ExprCore>) -> bool
 fn is_end(kind: FaultKind) -> bool
     ensures { result ≡ is_end kind }
 {
-    matches!(kind, FaultKind::NoBranch | FaultKind::NoReturn | FaultKind::Assert)
+    matches!(
+        kind,
+        FaultKind::NoBranch | FaultKind::NoReturn | FaultKind::Assert
+    )
 }

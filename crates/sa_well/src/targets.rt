@@ -18,9 +18,7 @@ pub(crate) fn target_arity(view: &View<'_>, class: u32, target: Target) -> Optio
     ensures { result ≡ target_arity (rows view.now) class target }
 {
     match target {
-        Target::Feature(number) => {
-            feature_arity(view.features.get(number as usize)?, class)
-        }
+        Target::Feature(number) => { feature_arity(view.features.get(number as usize)?, class) }
         Target::Builtin(feature) => count_if(arity_of(feature), is_of(view, class, feature)),
         Target::Get(place) => count_if(0, view.attribute(class, place).is_some()),
         Target::Set(place) => count_if(1, view.attribute(class, place).is_some()),
@@ -63,9 +61,7 @@ pub(crate) fn target_parameter(
     ensures { result ≡ target_parameter (rows view.now) class target place }
 {
     match target {
-        Target::Feature(number) => {
-            feature_parameter(view.features.get(number as usize)?, place)
-        }
+        Target::Feature(number) => { feature_parameter(view.features.get(number as usize)?, place) }
         Target::Builtin(feature) => builtin_parameter(view, class, feature, place),
         Target::Set(attribute) => only_parameter(view.attribute(class, attribute), place),
         Target::SetShared(number) => only_parameter(shared_type(view, number), place),

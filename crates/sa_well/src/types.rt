@@ -44,11 +44,13 @@ fn well_type(
 {
     let above = info.above.as_slice();
     let closed = is_closed(alloc, view, word(number)?, above)?;
-    Ok(fits_kind(view, number, info)
-        && has_layout(view, info)
-        && is_rising(above)
-        && are_uppers(view, number, above)
-        && closed)
+    Ok(
+        fits_kind(view, number, info)
+            && has_layout(view, info)
+            && is_rising(above)
+            && are_uppers(view, number, above)
+            && closed,
+    )
 }
 
 /// Whether what is above the types above a type holds its values too. It is so where one of them has all the others above it, if it
@@ -65,12 +67,7 @@ fn is_closed(alloc: Global, view: &View<'_>, ty: u32, above: &[u32]) -> Result<b
 
 /// Whether for one of the types in a list, it and those above it are these.
 #[tactic(auto, using(crate::proofs::Listed::uppers))]
-fn has_next(
-    alloc: Global,
-    view: &View<'_>,
-    above: &[u32],
-    list: &[u32],
-) -> Result<bool, NoMemory>
+fn has_next(alloc: Global, view: &View<'_>, above: &[u32], list: &[u32]) -> Result<bool, NoMemory>
     ensures { IfOk result (λ found. found ≡ has_next (rows view.now) above.now list.now) }
 {
     for upper in list {
@@ -264,7 +261,10 @@ fn is_part(part: &[u32], whole: &[u32]) -> bool
 fn is_bound_above(view: &View<'_>, number: usize, upper: u32) -> bool
     ensures { result ≡ is_bound_above (rows view.now) number upper }
 {
-    match (shape_at(view.bound, number), shape_at(view.bound, upper as usize)) {
+    match (
+        shape_at(view.bound, number),
+        shape_at(view.bound, upper as usize),
+    ) {
         (Some(lower), Some(upper)) => shapes_alike(view, lower, upper),
         _ => false,
     }
