@@ -3,7 +3,8 @@
 ghost use Rattle.std.specs.Prelude.{◌≡◌, IfOk, count_by};
 ghost use Rattle.std.specs.List.{list_all};
 ghost use Rattle.sa_core.specs.Copy.{option_expr_of, stmt_of};
-ghost use Rattle.sa_well.specs.Features.{are_types, ends_in_stop, ends_well, feature_frame, has_shape, has_types, is_concrete_class, is_out};
+ghost use Rattle.sa_well.specs.Features.{are_types, ends_in_stop, ends_well, feature_frame, has_shape, has_types};
+ghost use Rattle.sa_well.specs.Features.{is_concrete_class, is_out};
 ghost use Rattle.sa_well.specs.Features.{is_status, is_stop, is_type_or_none, main_fits, shared_frame, starts_well, well_feature};
 ghost use Rattle.sa_well.specs.Features.{well_main};
 ghost use Rattle.sa_well.specs.Features.{well_shared, within_limits};
