@@ -3,3 +3,4 @@ pub mod Flattened
 pub mod Included
 pub mod Changes
 pub mod Refusals
+pub mod Resolved

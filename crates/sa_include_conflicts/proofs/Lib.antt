@@ -5,3 +5,6 @@ pub mod Marking
 pub mod Grouping
 pub mod FirstConflict
 pub mod LeftStubs
+pub mod Replacements
+pub mod Firsts
+pub mod Conflicting

@@ -5,3 +5,5 @@ pub mod Sharing
 pub mod Stub
 pub mod Known
 pub mod Brought
+pub mod Staying
+pub mod Firsts
