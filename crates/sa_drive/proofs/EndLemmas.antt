@@ -133,7 +133,11 @@ both_earlier before middle after a b c name bytes (Some (other, text)) ends same
 -- and of a module with its sites, reported by this outcome
 pub module_earlier : (before middle after : Option Files) (a b c : ℕ) (name bytes told_bytes : List ℕ) (sites : Option (List ℕ)) (sources told_sources : Sources) (ends told : Cause) → middle ≡ before → a ≤ b → told_bytes ≡ bytes → told_sources ≡ sources → told ≡ ends → WritesModule (part_of middle after b c) name bytes sites sources ends → WritesModule (part_of before after a c) name told_bytes sites told_sources told
 module_earlier before middle after a b c name bytes told_bytes sites sources told_sources ends told same less same_bytes same_sources same_ends (positions, written) =
-    rw (same_ends, same_bytes, same_sources) (positions, both_earlier before middle after a b c name bytes _ ends same less written)
+    let earlier : WritesModule (part_of before after a c) name bytes sites sources ends =
+    (positions, both_earlier before middle after a b c name bytes _ ends same less written) in
+    let of_bytes = subst (λ bytes. WritesModule (part_of before after a c) name bytes sites sources ends) (sym same_bytes) earlier in
+    let of_sources = subst (λ sources. WritesModule (part_of before after a c) name told_bytes sites sources ends) (sym same_sources) of_bytes in
+    subst (λ ends. WritesModule (part_of before after a c) name told_bytes sites told_sources ends) (sym same_ends) of_sources
 
 -- the end of a command that writes them names no position
 placed_both : (store : Part Files) (name bytes : List ℕ) (other : Option (List ℕ × List ℕ)) (sources : Sources) (ends : Cause) → AreWritten store name bytes other ends → IsPlaced sources ends

@@ -1,6 +1,6 @@
 //! The lines of the refusals that are told behind the first one.
 
-ghost use Rattle.std.specs.Prelude.{◌≡◌, IfOk};
+ghost use Rattle.std.specs.Prelude.{◌≡◌, ◌++◌, IfOk, OnOk};
 ghost use Rattle.std.specs.List.{All};
 ghost use Rattle.sa_drive.specs.Further.{IsFurther, refusal_line, refusal_lines};
 
@@ -22,19 +22,25 @@ pub fn refusal_lines(
 {
     let mut lines = Vec::new(alloc);
     for refusal in refusals {
-        let line = refusal_line(alloc, sources, *refusal)?;
-        lines.extend_from_slice(line.as_slice())?;
+        add_line(alloc, &mut lines, sources, *refusal)?;
     }
     Ok(lines)
 }
 
-/// The line of a refusal.
-fn refusal_line(alloc: Global, sources: &Sources, refusal: Refusal) -> Result<Vec<u8>, NoMemory>
-    ensures line { IfOk result (λ line. line.items ≡ refusal_line sources.now refusal) }
-    ensures further { IfOk result (λ line. IsFurther sources.now refusal) }
+/// Adds the line of a refusal.
+fn add_line(
+    alloc: Global,
+    lines: &mut Vec<u8>,
+    sources: &Sources,
+    refusal: Refusal,
+) -> Result<(), NoMemory>
+    ensures line { OnOk result (lines.new.items ≡ lines.old.items ++ refusal_line sources.now refusal) }
+    ensures further { OnOk result (IsFurther sources.now refusal) }
 {
     if !is_of_checker(refusal.rule) || !is_place_in(sources.texts.as_slice(), refusal.pos) {
         return Err(NoMemory);
     }
-    Ok(about_place(alloc, sources, refusal.pos, "", refusal.rule.text())?)
+    let line = about_place(alloc, sources, refusal.pos, "", refusal.rule.text())?;
+    lines.extend_from_slice(line.as_slice())?;
+    Ok(())
 }

@@ -1,4 +1,4 @@
-use Rattle.std.proofs.Common.{refl}
+use Rattle.std.proofs.Common.{map, refl}
 use Rattle.sa_drive.proofs.EndLemmas.{tells_one}
 use Rattle.sa_drive.proofs.top.do_command.Goals as goal
 
@@ -33,4 +33,4 @@ pub returns-in-Explain-clause-does : goal.returns-in-Explain-clause-does
 returns-in-Explain-clause-does g c = rw c.in-Explain.is (c.explain.ensures.does, ((refl, refl), c.explain.ensures.listening))
 
 pub returns-in-Check-clause-further : goal.returns-in-Check-clause-further
-returns-in-Check-clause-further g c = rw c.in-Check.is (tells_one _ _ _ _ _ c.check.ensures.further)
+returns-in-Check-clause-further g c = rw c.in-Check.is (tells_one c.in-Check.line.contracts c.in-Check.line.extent c.in-Check.line.detail (map (λ file. file.now) c.in-Check.line.files.items) _ c.check.ensures.further)

@@ -6,11 +6,11 @@ use Rattle.sa_drive.proofs.top.sather.Goals as goal
 
 pub returns-clause-answer : goal.returns-clause-answer
 returns-clause-answer g c = (
-  c.obey.result.outcome,
-  sink (g.E.Sink.output c.obey.new.err) (g.E.Sink.faults c.obey.new.err),
+  c.obey-outcome.result.outcome,
+  sink (g.E.Sink.output c.obey-outcome.new.err) (g.E.Sink.faults c.obey-outcome.new.err),
   sink (g.E.Sink.output c.report-cause.new.err) (g.E.Sink.faults c.report-cause.new.err),
-  c.obey.ensures.obeys,
-  record { file = c.obey.ensures.file; steps = c.obey.ensures.steps; further = c.obey.ensures.further },
+  c.obey-outcome.ensures.obeys,
+  record { file = c.obey-outcome.ensures.file; steps = c.obey-outcome.ensures.steps; further = c.obey-outcome.ensures.further },
   record {
     ends = c.report-cause.ensures.ends;
     done = elim c.match-cause.branch [
@@ -23,14 +23,14 @@ returns-clause-answer g c = (
     ];
     bytes = search rules;
   },
-  explained _ _ _ c.obey.ensures.detail c.tell_more.ensures,
+  explained _ _ _ c.obey-outcome.ensures.detail c.tell_more.ensures,
 )
 
 pub returns-clause-done : goal.returns-clause-done
 returns-clause-done g c = λ none done. elim c.report-cause.ensures.stands [
   | inl memory ↦ cc
   | inr same ↦ elim c.match-cause.branch [
-    | in-Done w ↦ w.status-is ∙ c.obey.ensures.done none (sym same ∙ done)
+    | in-Done w ↦ w.status-is ∙ c.obey-outcome.ensures.done none (sym same ∙ done)
     | in_default w ↦ absurd (w.in_default.not-Done done)
   ]
 ]
