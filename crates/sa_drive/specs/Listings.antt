@@ -4,7 +4,7 @@ use Rattle.wa_encode.specs.Spelling.{IsLeast}
 use Rattle.wa_syntax.specs.Binary.{SpellsModule}
 use Rattle.wa_syntax.specs.declared.module.Module.{Module}
 use Rattle.wa_text.specs.Listing.{IsListing}
-use Rattle.wa_text.specs.Places.{IsLineOf}
+use Rattle.wa_text.specs.Places.{BeginNone, IsLineOf}
 use Rattle.sa_outside.specs.Files.{Files}
 use Rattle.sa_drive.specs.Ends.{IsPrinted, IsWritten}
 use Rattle.sa_drive.specs.Seen.{IsKept, Part}
@@ -35,9 +35,10 @@ pub record IsAssemblyOf (text bytes : List ℕ) : Type 0 where
   pub listing : IsListing text «module»
   pub shortest : IsLeast (λ spelling. SpellsModule spelling «module») bytes
 
--- why no module is made of a text: it is no listing, by one of its lines or the one behind its last line feed
+-- why no module is made of a text: the lines up to one of its own, or up to the one behind its last line feed, begin no
+-- listing, so that it is none
 abbrev pub EndsWithoutModule : List ℕ → Cause → Type 0
-EndsWithoutModule text (cause.NotListing line) = IsLineOf text line
+EndsWithoutModule text (cause.NotListing line) = IsLineOf text line × BeginNone text line
 EndsWithoutModule text cause.NoMemory = ⊤
 EndsWithoutModule text _ = ⊥
 

@@ -1,7 +1,13 @@
 pub mod Adding
 pub mod Digits
+pub mod FirstLines
 pub mod Having
 pub mod Lines
+pub mod NoInstruction
+pub mod NoItem
+pub mod NoLines
+pub mod NoModule
+pub mod NoWords
 pub mod OneInstruction
 pub mod OneItem
 pub mod OneModule
@@ -9,6 +15,7 @@ pub mod OneParts
 pub mod Opcodes
 pub mod Pieces
 pub mod Productions
+pub mod Refusals
 pub mod Rows
 pub mod Spelled
 pub mod Splitting

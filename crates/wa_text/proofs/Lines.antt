@@ -1,10 +1,13 @@
 -- Lines of forms one behind another, from place to place of a text.
-use Rattle.std.proofs.Common.{◌≡◌, ◌≢◌, ℕ, zero, suc, ◌≤◌, List, [], ◌∷◌, ◌++◌, length, drop, Option, refl, sym, ap, subst, ◌∙◌, append_assoc}
-use Rattle.std.specs.Prelude.{codes}
-use Rattle.std.specs.List.{AllByRecursion, join_with_byte}
+use Rattle.std.proofs.Common.{◌≡◌, ◌≢◌, ℕ, zero, suc, ◌+◌, ◌≤◌, Bool, false, List, [], ◌∷◌, ◌++◌, length, take, drop, map, Option, refl, sym, ap, subst, ◌∙◌, append_assoc, arith}
+use Rattle.std.specs.Prelude.{◌==◌, codes, cond}
+use Rattle.std.specs.List.{All, AllByRecursion, count_by, join_with_byte, slice_split}
+use Rattle.std.proofs.lemmas.Bool.{ne_eqb}
+use Rattle.std.proofs.lemmas.List.Elements.{All-from_recursion}
 use Rattle.std.proofs.lemmas.List.{append-nil, at_drop_all}
 use Rattle.std.proofs.lemmas.List.Concat.{flat_map-append}
-use Rattle.std.proofs.lemmas.List.Splits.{join_with_byte-slice_split}
+use Rattle.std.proofs.lemmas.List.Sums.{sum_by-cons}
+use Rattle.std.proofs.lemmas.List.Splits.{join_with_byte-slice_split, slice_split_at}
 use Rattle.wa_syntax.specs.declared.instr.Instr.{Instr, out-Instr, out-roll-Instr, roll-Instr}
 use Rattle.wa_syntax.specs.declared.instr.Instr.TheOpen.{Instr-F}
 use Rattle.wa_syntax.specs.declared.instr.Instr.TheVariants as variant
@@ -15,16 +18,16 @@ use Rattle.wa_text.specs.declared.reader.instruction.BlockKind.TheVariants as ki
 use Rattle.wa_text.specs.Forms.{Form, ◌then◌, each, exactly, nothing}
 use Rattle.wa_text.specs.Instructions.{begin, else_end, end, indexed, instr, instr_over}
 use Rattle.wa_text.specs.Listing.{IsListing, module_lines}
-use Rattle.wa_text.specs.Reading.{IsUnbroken, Spelled, behind_first, kind_word, words_of}
+use Rattle.wa_text.specs.Reading.{IsUnbroken, Spelled, behind_first, kind_word, rows, rows_at, words_of}
 use Rattle.wa_text.specs.Words.{Word, Line, AreLines, IsWord, line, line_text, text_of, word, u32}
 use Rattle.wa_text.proofs.Productions.{layer_of}
 use Rattle.wa_text.proofs.Splitting.{words_are}
 
 pub weaker : {A B : Form Line} {text : List ℕ} {at end : ℕ} → ((lines : List Line) → A lines → B lines) → Spelled A text at end → Spelled B text at end
-weaker to h = record { lines = h.lines; spelling = to h.lines h.spelling; are = h.are; is = h.is }
+weaker to h = record { lines = h.lines; spelling = to h.lines h.spelling; are = h.are; is = h.is; rows_are = h.rows_are }
 
 pub none_here : (text : List ℕ) (at : ℕ) → Spelled nothing text at at
-none_here text at = record { lines = []; spelling = refl; are = tt; is = refl }
+none_here text at = record { lines = []; spelling = refl; are = tt; is = refl; rows_are = refl }
 
 lines_append : (xs ys : List Line) → AreLines xs → AreLines ys → AreLines (xs ++ ys)
 lines_append [] ys h k = k
@@ -40,6 +43,7 @@ join {text = text} {end = end} h k = record {
       ∙ ap (λ (rest : List ℕ). text_of h.lines ++ rest) k.is
       ∙ sym (append_assoc (text_of h.lines) (text_of k.lines) (drop end text))
       ∙ ap (λ (front : List ℕ). front ++ drop end text) (sym (flat_map-append line_text h.lines k.lines));
+  rows_are = h.rows_are ∙ ap (λ (rest : List Line). h.lines ++ rest) k.rows_are ∙ sym (append_assoc h.lines k.lines (rows_at text end));
 }
 
 -- one more value behind others
@@ -59,6 +63,28 @@ join-more F vs v h k = weaker (λ front s. subst (each F (vs ++ v ∷ [])) (sym 
 
 -- ---- one line
 
+no_feed : (bytes : List ℕ) → IsUnbroken bytes → All (λ b. (b == 10) ≡ false) bytes
+no_feed bytes h = All-from_recursion (λ b. (b == 10) ≡ false) bytes (go bytes h)
+  where
+    go : (bs : List ℕ) → IsUnbroken bs → AllByRecursion (λ b. (b == 10) ≡ false) bs
+    go [] k = tt
+    go (b ∷ bs) k = (ne_eqb b 10 k.0, go bs k.1)
+
+pub one_feed : (bytes rest : List ℕ) → IsUnbroken bytes → count_by (λ b. b == 10) (bytes ++ 10 ∷ rest) ≡ suc (count_by (λ b. b == 10) rest)
+one_feed [] rest h =
+    let more : 1 + count_by (λ b. b == 10) rest ≡ suc (count_by (λ b. b == 10) rest) = omega arith in
+    sum_by-cons (λ b. cond (b == 10) 1 0) 10 rest ∙ more
+one_feed (b ∷ bytes) rest h =
+    let more = one_feed bytes rest h.1 in
+    let none : 0 + count_by (λ c. c == 10) (bytes ++ 10 ∷ rest) ≡ suc (count_by (λ c. c == 10) rest) = omega (arith, more) in
+    sum_by-cons (λ c. cond (c == 10) 1 0) b (bytes ++ 10 ∷ rest) ∙ ap (λ (t : Bool). cond t 1 0 + count_by (λ c. c == 10) (bytes ++ 10 ∷ rest)) (ne_eqb b 10 h.0) ∙ none
+
+-- the lines of a text that begins with one
+pub rows_line : (bytes rest : List ℕ) → IsUnbroken bytes → rows (bytes ++ 10 ∷ rest) ≡ words_of bytes ∷ rows rest
+rows_line bytes rest h =
+    ap (λ (n : ℕ). take n (map words_of (slice_split (λ b. b == 10) (bytes ++ 10 ∷ rest)))) (one_feed bytes rest h)
+    ∙ ap (λ (parts : List (List ℕ)). take (suc (count_by (λ b. b == 10) rest)) (map words_of parts)) (slice_split_at (λ b. b == 10) bytes 10 rest (no_feed bytes h) refl)
+
 -- the line at a place, by its words
 pub line_here : (text : List ℕ) (at end : ℕ) (bytes : List ℕ) (words : Line) → drop at text ≡ bytes ++ 10 ∷ drop end text → IsUnbroken bytes → words_of bytes ≡ words → Spelled (exactly (words ∷ [])) text at end
 line_here text at end bytes words is unbroken same =
@@ -72,6 +98,7 @@ line_here text at end bytes words is unbroken same =
           ∙ sym (append_assoc bytes (10 ∷ []) behind)
           ∙ ap (λ (front : List ℕ). front ++ behind) (sym (append-nil (bytes ++ 10 ∷ [])))
           ∙ ap (λ (front : List ℕ). ((front ++ 10 ∷ []) ++ []) ++ behind) whole;
+      rows_are = ap rows is ∙ rows_line bytes behind unbroken ∙ ap (λ (l : Line). l ∷ rows behind) same;
     }
 
 -- what holds of the words of the line

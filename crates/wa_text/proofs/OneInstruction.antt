@@ -25,7 +25,7 @@ first_or_later P row rest op w true same first later found =
     subst (λ (v : Word). P op v) word (subst (λ (n : ℕ). P n row.1) (eqb-true row.0 op same) first)
 first_or_later P row rest op w false other first later found = later found
 
-row_holds : (P : ℕ → Word → Type 0) (rows : List (ℕ × Word)) (op : ℕ) (w : Word) → AllByRecursion (λ (row : ℕ × Word). P row.0 row.1) rows → name_in rows op ≡ Some w → P op w
+pub row_holds : (P : ℕ → Word → Type 0) (rows : List (ℕ × Word)) (op : ℕ) (w : Word) → AllByRecursion (λ (row : ℕ × Word). P row.0 row.1) rows → name_in rows op ≡ Some w → P op w
 row_holds P [] op w h is = let no : ⊥ = cc in absurd no
 row_holds P (row ∷ rows) op w h is =
     first_or_later P row (name_in rows op) op w (row.0 == op) refl h.0 (λ found. row_holds P rows op w h.1 found) is
@@ -52,33 +52,33 @@ whole_named names once = record {
 
 -- ---- the kind of an instruction, by its first word
 
-special : List (ℕ × Word)
+unfoldable pub special : List (ℕ × Word)
 special =
     (2, codes "block") ∷ (3, codes "loop") ∷ (4, codes "if") ∷ (5, codes "br") ∷ (6, codes "br_if") ∷ (7, codes "br_table") ∷ (8, codes "call")
     ∷ (9, codes "call_indirect") ∷ (10, codes "local.get") ∷ (11, codes "local.set") ∷ (12, codes "local.tee") ∷ (13, codes "global.get")
     ∷ (14, codes "global.set") ∷ (15, codes "i32.const") ∷ (16, codes "i64.const") ∷ (17, codes "end") ∷ (18, codes "else") ∷ []
 
-is_some : Option ℕ → Bool
+unfoldable pub is_some : Option ℕ → Bool
 is_some None = false
 is_some (Some n) = true
 
-or_table : Option ℕ → Bool → ℕ
+unfoldable pub or_table : Option ℕ → Bool → ℕ
 or_table (Some n) plain = n
 or_table None true = 0
 or_table None false = 1
 
-pub kind_of : Word → ℕ
+unfoldable pub kind_of : Word → ℕ
 kind_of w = or_table (code_in special w) (is_some (code_in plain_names w))
 
-plain_kinds : AllByRecursion (λ (row : ℕ × Word). kind_of row.1 ≡ 0) plain_names
+pub plain_kinds : AllByRecursion (λ (row : ℕ × Word). kind_of row.1 ≡ 0) plain_names
 unfolding kind_of or_table special is_some code_in
 plain_kinds = each_passes (λ row. kind_of row.1 == 0) (λ row. kind_of row.1 ≡ 0) (λ row h. eqb-true (kind_of row.1) 0 h) plain_names refl
 
-access_kinds : AllByRecursion (λ (row : ℕ × Word). kind_of row.1 ≡ 1) access_names
+pub access_kinds : AllByRecursion (λ (row : ℕ × Word). kind_of row.1 ≡ 1) access_names
 unfolding kind_of or_table special is_some code_in
 access_kinds = each_passes (λ row. kind_of row.1 == 1) (λ row. kind_of row.1 ≡ 1) (λ row h. eqb-true (kind_of row.1) 1 h) access_names refl
 
-abbrev number : Instr-F Instr → ℕ
+abbrev pub number : Instr-F Instr → ℕ
 number (Instr-F.Plain op) = 0
 number (Instr-F.Memory op align offset) = 1
 number (Instr-F.Block t body) = 2
@@ -114,13 +114,13 @@ begins_line {w} s h is = record {
   is = is;
 }
 
-begins_front : {kind : ℕ} (s x : List Line) → Begins kind s → Begins kind (s ++ x)
+pub begins_front : {kind : ℕ} (s x : List Line) → Begins kind s → Begins kind (s ++ x)
 begins_front s x h = record { first = h.first; rest = h.rest; more = h.more ++ x; lines = ap (λ (front : List Line). front ++ x) h.lines; is = h.is }
 
-begins_then : {kind : ℕ} (s front back : List Line) → s ≡ front ++ back → Begins kind front → Begins kind s
+pub begins_then : {kind : ℕ} (s front back : List Line) → s ≡ front ++ back → Begins kind front → Begins kind s
 begins_then {kind} s front back is h = subst (Begins kind) (sym is) (begins_front front back h)
 
-same_kind : {m n : ℕ} (s : List Line) → Begins m s → Begins n s → m ≡ n
+pub same_kind : {m n : ℕ} (s : List Line) → Begins m s → Begins n s → m ≡ n
 same_kind s h k =
     let rows : (h.first ∷ h.rest) ∷ h.more ≡ (k.first ∷ k.rest) ∷ k.more = sym h.lines ∙ k.lines in
     let words : h.first ≡ k.first = cc in
@@ -130,15 +130,15 @@ begins_name : (names : List (ℕ × Word)) (kind op : ℕ) (s : List Line) (w : 
 begins_name names kind op s w rest kinds named_so lines =
     record { first = w; rest = rest; more = []; lines = lines; is = row_holds (λ o v. kind_of v ≡ kind) names op w kinds named_so }
 
-end_begins : (s : List Line) → end s → Begins 17 s
+pub end_begins : (s : List Line) → end s → Begins 17 s
 unfolding kind_of or_table special is_some code_in
 end_begins s h = record { first = codes "end"; rest = []; more = []; lines = h.2 ∙ ap (λ (words : Line). words ∷ []) h.1; is = refl }
 
-else_begins : (s : List Line) → line (word (codes "else")) s → Begins 18 s
+pub else_begins : (s : List Line) → line (word (codes "else")) s → Begins 18 s
 unfolding kind_of or_table special is_some code_in
 else_begins s h = record { first = codes "else"; rest = []; more = []; lines = h.2 ∙ ap (λ (words : Line). words ∷ []) h.1; is = refl }
 
-layer_begins : (Body : List Instr → Form Line) (layer : Instr-F Instr) (s : List Line) → instr_over Body layer s → Begins (number layer) s
+pub layer_begins : (Body : List Instr → Form Line) (layer : Instr-F Instr) (s : List Line) → instr_over Body layer s → Begins (number layer) s
 unfolding kind_of or_table special is_some code_in
 layer_begins Body (Instr-F.Plain op) s h = begins_name plain_names 0 op s h.1.0 [] plain_kinds h.1.1 (h.2 ∙ ap (λ (words : Line). words ∷ []) h.1.2)
 layer_begins Body (Instr-F.Memory op align offset) s h =
@@ -189,10 +189,10 @@ pub record GoesOn {V : Type 0} (F : V → Form Line) : Type 0 where
   pub never : (v : V) (s x : List Line) → F v s → Stops (s ++ x) → ⊥
 
 -- an `end` alone
-abbrev the_end : Unit {0} → Form Line
+abbrev pub the_end : Unit {0} → Form Line
 the_end u = end
 
-one_the_end : IsOne any the_end
+pub one_the_end : IsOne any the_end
 one_the_end = one-single any (λ u s h. (h.0, h.2)) (record { one = λ v w s h k. refl })
 
 end_stops : (u : Unit {0}) (s x : List Line) → the_end u s → any x → Stops (s ++ x)

@@ -206,11 +206,11 @@ one-name K = one-single K (λ v s h. (digits v, h.1.1)) (record { one = λ v w s
 
 -- ---- types
 
-val_word : ValTy → Word
+pub val_word : ValTy → Word
 val_word I32 = codes "i32"
 val_word I64 = codes "i64"
 
-val_is : (t : ValTy) (s : List Word) → val t s → s ≡ val_word t ∷ []
+pub val_is : (t : ValTy) (s : List Word) → val t s → s ≡ val_word t ∷ []
 unfolding val_word
 val_is I32 s h = h
 val_is I64 s h = h
@@ -224,11 +224,11 @@ one-val K = one-single K (λ t s h. (val_word t, val_is t s h)) (record { one = 
     go I64 I32 s h k = absurd (apart (codes "i64") (codes "i32") s [] [] refl h k)
     go I64 I64 s h k = refl
 
-mut_word : Bool → Word
+pub mut_word : Bool → Word
 mut_word false = codes "const"
 mut_word true = codes "var"
 
-mut_is : (mutable : Bool) (s : List Word) → mut mutable s → s ≡ mut_word mutable ∷ []
+pub mut_is : (mutable : Bool) (s : List Word) → mut mutable s → s ≡ mut_word mutable ∷ []
 unfolding mut_word
 mut_is false s h = h
 mut_is true s h = h
@@ -313,7 +313,7 @@ one-globaltype K = one-as {P = pair val mut} (λ (t : GlobalTy). (t.val, t.mutab
 -- ---- items
 
 -- the word by which the kind of an import is known
-import_word : ImportKind → Word
+pub import_word : ImportKind → Word
 import_word (imported.Func x) = codes "func"
 import_word (imported.Table t) = codes "table"
 import_word (imported.Memory t) = codes "memory"
@@ -322,7 +322,7 @@ import_word (imported.Global t) = codes "global"
 pub begun : {w : Word} {F : Form Word} (s : List Word) → (word w then F) s → (rest : List Word) × (s ≡ w ∷ rest)
 begun s h = (h.1, h.2 ∙ ap (λ (front : List Word). front ++ h.1) h.3)
 
-import_begins : (kind : ImportKind) (s : List Word) → importdesc kind s → (rest : List Word) × (s ≡ import_word kind ∷ rest)
+pub import_begins : (kind : ImportKind) (s : List Word) → importdesc kind s → (rest : List Word) × (s ≡ import_word kind ∷ rest)
 unfolding import_word
 import_begins (imported.Func x) s h = begun s h
 import_begins (imported.Table t) s h = begun s h
@@ -347,17 +347,17 @@ one-import = whole (one-as {P = λ (p : List ℕ × (List ℕ × ImportKind)). w
     (one-behind (codes "import") (one-pair (one-name any) (one-pair (one-name any) (one-end (record { one = whole_importdesc })) (λ v s x h ends. tt)) (λ v s x h ends. tt))))
 
 -- an initial value is two words
-init_kind : Init → Word
+pub init_kind : Init → Word
 init_kind (Const32 n) = codes "i32"
 init_kind (Const64 n) = codes "i64"
 init_kind (Global x) = codes "get"
 
-init_value : Init → Word
+pub init_value : Init → Word
 init_value (Const32 n) = decimal n
 init_value (Const64 n) = decimal n
 init_value (Global x) = decimal x
 
-init_words : (i : Init) (s : List Word) → init i s → s ≡ init_kind i ∷ init_value i ∷ []
+pub init_words : (i : Init) (s : List Word) → init i s → s ≡ init_kind i ∷ init_value i ∷ []
 unfolding init_kind init_value
 init_words (Const32 n) s h = h.2 ∙ ap (λ (front : List Word). front ++ h.1) h.3 ∙ ap (λ (back : List Word). codes "i32" ∷ back) h.4.1
 init_words (Const64 n) s h = h.2 ∙ ap (λ (front : List Word). front ++ h.1) h.3 ∙ ap (λ (back : List Word). codes "i64" ∷ back) h.4.1
@@ -384,13 +384,13 @@ pub one-global : IsWhole global
 one-global = whole (one-as {P = λ (p : GlobalTy × Init). word (codes "global") then pair globaltype init p} (λ (g : GlobalDef). (g.ty, g.init)) (λ v w same. ap (λ (p : GlobalTy × Init). let g : GlobalDef = record { ty = p.0; init = p.1 } in g) same) (λ v s h. h)
     (one-behind (codes "global") (one-pair (one-globaltype any) (one-init nothing) (λ v s x h ends. tt))))
 
-export_word : ExportKind → Word
+pub export_word : ExportKind → Word
 export_word (exported.Func x) = codes "func"
 export_word (exported.Table x) = codes "table"
 export_word (exported.Memory x) = codes "memory"
 export_word (exported.Global x) = codes "global"
 
-export_begins : (kind : ExportKind) (s : List Word) → exportdesc kind s → (rest : List Word) × (s ≡ export_word kind ∷ rest)
+pub export_begins : (kind : ExportKind) (s : List Word) → exportdesc kind s → (rest : List Word) × (s ≡ export_word kind ∷ rest)
 unfolding export_word
 export_begins (exported.Func x) s h = begun s h
 export_begins (exported.Table x) s h = begun s h

@@ -20,13 +20,13 @@ use Rattle.wa_text.proofs.OneParts.{one-module_lines}
 
 -- ---- each line has a word
 
-abbrev HasWord : Line → Type 0
+abbrev pub HasWord : Line → Type 0
 HasWord [] = ⊥
 HasWord (w ∷ words) = Unit {0}
 
 -- lines of the form have words
-record IsFilled (F : Form Line) : Type 0 where
-  filled : (lines : List Line) → F lines → AllByRecursion HasWord lines
+pub record IsFilled (F : Form Line) : Type 0 where
+  pub filled : (lines : List Line) → F lines → AllByRecursion HasWord lines
 
 filled_then : {A B : Form Line} → IsFilled A → IsFilled B → IsFilled (A then B)
 filled_then a b = record {
@@ -72,7 +72,7 @@ filled_layer Body held (Instr-F.GlobalSet x) = filled_first
 filled_layer Body held (Instr-F.I32Const n) = filled_first
 filled_layer Body held (Instr-F.I64Const n) = filled_first
 
-filled_instr : (levels : ℕ) (i : Instr) → IsFilled (instr levels i)
+pub filled_instr : (levels : ℕ) (i : Instr) → IsFilled (instr levels i)
 unfolding instr
 filled_instr zero i = filled_layer (λ body lines. ⊥) (λ body. record { filled = λ lines no. absurd no }) (out-Instr i)
 filled_instr (suc levels) i = filled_layer (each (instr levels)) (λ body. filled_each (instr levels) body (filled_instr levels)) (out-Instr i)
@@ -84,7 +84,7 @@ filled_start : (func : Option ℕ) → IsFilled (listing.start func)
 filled_start None = record { filled = λ lines none. subst (AllByRecursion HasWord) (sym none) tt }
 filled_start (Some x) = filled_first
 
-filled_module : (m : Module) → IsFilled (module_lines m)
+pub filled_module : (m : Module) → IsFilled (module_lines m)
 filled_module m =
     filled_then (filled_each (λ t. line (listing.functype t)) m.types (λ t. filled_first))
     (filled_then (filled_each (λ i. line (listing.import i)) m.imports (λ i. filled_first))
@@ -107,7 +107,7 @@ no_blank w h = All-from_recursion (λ b. (b == 32) ≡ false) w (go w h)
     go (b ∷ bs) k = (ne_eqb b 32 k.0.0, go bs k.1)
 
 -- a line is cut into its words again
-cut_again : (w : Word) (words : List Word) → IsWord w → AllByRecursion IsWord words → words_of (join_with_byte 32 (w ∷ words)) ≡ w ∷ words
+pub cut_again : (w : Word) (words : List Word) → IsWord w → AllByRecursion IsWord words → words_of (join_with_byte 32 (w ∷ words)) ≡ w ∷ words
 cut_again w [] h k = slice_split_none (λ b. b == 32) w (no_blank w h)
 cut_again w (v ∷ words) h k = slice_split_at (λ b. b == 32) w 32 (join_with_byte 32 (v ∷ words)) (no_blank w h) refl ∙ ap (λ (rest : List Word). w ∷ rest) (cut_again v words k.0 k.1)
 
@@ -118,7 +118,7 @@ unbroken_word (b ∷ bs) h = (h.0.1, unbroken_word bs h.1)
 blank_is_none : ◌≢◌ {A = ℕ} 32 10
 blank_is_none = omega arith
 
-unbroken_line : (words : List Word) → AllByRecursion IsWord words → IsUnbroken (join_with_byte 32 words)
+pub unbroken_line : (words : List Word) → AllByRecursion IsWord words → IsUnbroken (join_with_byte 32 words)
 unbroken_line [] h = tt
 unbroken_line (w ∷ []) h = unbroken_word w h.0
 unbroken_line (w ∷ v ∷ words) h = both_pass (λ b. b ≢ 10) w (32 ∷ join_with_byte 32 (v ∷ words)) (unbroken_word w h.0) (blank_is_none, unbroken_line (v ∷ words) h.1)
@@ -140,7 +140,7 @@ one_line (v ∷ vs) [] some other h k same = absurd other
 one_line (v ∷ vs) (w ∷ ws) some other h k same = sym (cut_again v vs h.0 h.1) ∙ ap words_of same ∙ cut_again w ws k.0 k.1
 
 -- a line in front, with its line feed taken out of it
-split_line : (words : Line) (more : List ℕ) → line_text words ++ more ≡ join_with_byte 32 words ++ 10 ∷ more
+pub split_line : (words : Line) (more : List ℕ) → line_text words ++ more ≡ join_with_byte 32 words ++ 10 ∷ more
 split_line words more = append_assoc (join_with_byte 32 words) (10 ∷ []) more
 
 no_feed : (front more : List ℕ) → [] ≡ front ++ 10 ∷ more → ⊥

@@ -20,37 +20,37 @@ use Rattle.wa_text.proofs.Rows.{code_in}
 
 -- ---- the order of the parts
 
-rank_table : List (ℕ × Word)
+unfoldable pub rank_table : List (ℕ × Word)
 rank_table =
     (1, codes "type") ∷ (2, codes "import") ∷ (3, codes "func") ∷ (4, codes "table") ∷ (5, codes "memory") ∷ (6, codes "global") ∷ (7, codes "export")
     ∷ (8, codes "start") ∷ (9, codes "elem") ∷ (10, codes "data") ∷ []
 
-or_none : Option ℕ → ℕ
+unfoldable pub or_none : Option ℕ → ℕ
 or_none (Some n) = n
 or_none None = 11
 
 -- the number of the part that lines begin with, and 11 where they begin with none
-rank : List Line → ℕ
+unfoldable pub rank : List Line → ℕ
 rank [] = 11
 rank ([] ∷ more) = 11
 rank ((first ∷ rest) ∷ more) = or_none (code_in rank_table first)
 
 -- lines of a part with this number or a later one
-abbrev From : ℕ → Form Line
+abbrev pub From : ℕ → Form Line
 From k s = k ≤ rank s
 
 -- values whose lines begin a part with this number
-record IsPart {V : Type 0} (k : ℕ) (F : V → Form Line) : Type 0 where
-  one : IsOne any F
-  begins : (v : V) (s x : List Line) → F v s → rank (s ++ x) ≡ k
+pub record IsPart {V : Type 0} (k : ℕ) (F : V → Form Line) : Type 0 where
+  pub one : IsOne any F
+  pub begins : (v : V) (s x : List Line) → F v s → rank (s ++ x) ≡ k
 
 rank_first : (w : Word) (rest : Line) (k : ℕ) (s x : List Line) → s ≡ (w ∷ rest) ∷ [] → or_none (code_in rank_table w) ≡ k → rank (s ++ x) ≡ k
 unfolding rank
 rank_first w rest k s x lines is = ap rank (ap (λ (front : List Line). front ++ x) lines) ∙ is
 
 -- values of a part and of nothing else, where they are in front of later parts
-record Keeps {V : Type 0} (k : ℕ) (F : V → Form Line) : Type 0 where
-  keeps : (v : V) (s x : List Line) → F v s → From k x → From k (s ++ x)
+pub record Keeps {V : Type 0} (k : ℕ) (F : V → Form Line) : Type 0 where
+  pub keeps : (v : V) (s x : List Line) → F v s → From k x → From k (s ++ x)
 
 keeps_each : {V : Type 0} {F : V → Form Line} (j k : ℕ) → j ≤ k → IsPart k F → Keeps j (each F)
 keeps_each {V} {F} j k least part = record { keeps = go }
@@ -82,15 +82,15 @@ lines_part k w is starts whole_F = record {
       rank_first w first.0 k s x (h.2 ∙ ap (λ (words : Line). words ∷ []) first.1) is;
 }
 
-types_part : IsPart 1 (λ (t : FuncTy). line (listing.functype t))
+pub types_part : IsPart 1 (λ (t : FuncTy). line (listing.functype t))
 unfolding or_none rank_table code_in
 types_part = lines_part 1 (codes "type") refl (λ v s h. begun s h) one-functype
 
-imports_part : IsPart 2 (λ (i : Import). line (listing.import i))
+pub imports_part : IsPart 2 (λ (i : Import). line (listing.import i))
 unfolding or_none rank_table code_in
 imports_part = lines_part 2 (codes "import") refl (λ v s h. begun s h) one-import
 
-funcs_part : IsPart 3 listing.func
+pub funcs_part : IsPart 3 listing.func
 unfolding or_none rank_table code_in
 funcs_part = record {
   one = one-func;
@@ -100,31 +100,31 @@ funcs_part = record {
       ap rank (sym lines) ∙ rank_first (codes "func") first.0 3 h.0 (h.1 ++ x) (h.3.2 ∙ ap (λ (words : Line). words ∷ []) first.1) refl;
 }
 
-tables_part : IsPart 4 (λ (l : Limits). line (listing.table l))
+pub tables_part : IsPart 4 (λ (l : Limits). line (listing.table l))
 unfolding or_none rank_table code_in
 tables_part = lines_part 4 (codes "table") refl (λ v s h. begun s h) (whole-behind (codes "table") one-limits)
 
-memories_part : IsPart 5 (λ (l : Limits). line (listing.memory l))
+pub memories_part : IsPart 5 (λ (l : Limits). line (listing.memory l))
 unfolding or_none rank_table code_in
 memories_part = lines_part 5 (codes "memory") refl (λ v s h. begun s h) (whole-behind (codes "memory") one-limits)
 
-globals_part : IsPart 6 (λ (g : GlobalDef). line (listing.global g))
+pub globals_part : IsPart 6 (λ (g : GlobalDef). line (listing.global g))
 unfolding or_none rank_table code_in
 globals_part = lines_part 6 (codes "global") refl (λ v s h. begun s h) one-global
 
-exports_part : IsPart 7 (λ (e : Export). line (listing.export e))
+pub exports_part : IsPart 7 (λ (e : Export). line (listing.export e))
 unfolding or_none rank_table code_in
 exports_part = lines_part 7 (codes "export") refl (λ v s h. begun s h) one-export
 
-elems_part : IsPart 9 (λ (e : ElemSegment). line (listing.elem e))
+pub elems_part : IsPart 9 (λ (e : ElemSegment). line (listing.elem e))
 unfolding or_none rank_table code_in
 elems_part = lines_part 9 (codes "elem") refl (λ v s h. begun s h) one-elem
 
-segments_part : IsPart 10 (λ (x : DataSegment). line (listing.segment x))
+pub segments_part : IsPart 10 (λ (x : DataSegment). line (listing.segment x))
 unfolding or_none rank_table code_in
 segments_part = lines_part 10 (codes "data") refl (λ v s h. begun s h) one-segment
 
-start_rank : (x : ℕ) (s more : List Line) → line (word (codes "start") then u32 x) s → rank (s ++ more) ≡ 8
+pub start_rank : (x : ℕ) (s more : List Line) → line (word (codes "start") then u32 x) s → rank (s ++ more) ≡ 8
 unfolding or_none rank_table code_in
 start_rank x s more h =
     let first = begun h.0 h.1 in
@@ -154,92 +154,92 @@ keeps_start j least = record { keeps = go }
     go (Some n) s x h follows = omega (arith, start_rank n s x h)
 
 -- a part and those behind it
-abbrev ElemsOn : Type 0
+abbrev pub ElemsOn : Type 0
 ElemsOn = List ElemSegment × List DataSegment
 
-abbrev StartOn : Type 0
+abbrev pub StartOn : Type 0
 StartOn = Option ℕ × ElemsOn
 
-abbrev ExportsOn : Type 0
+abbrev pub ExportsOn : Type 0
 ExportsOn = List Export × StartOn
 
-abbrev GlobalsOn : Type 0
+abbrev pub GlobalsOn : Type 0
 GlobalsOn = List GlobalDef × ExportsOn
 
-abbrev MemoriesOn : Type 0
+abbrev pub MemoriesOn : Type 0
 MemoriesOn = List Limits × GlobalsOn
 
-abbrev TablesOn : Type 0
+abbrev pub TablesOn : Type 0
 TablesOn = List Limits × MemoriesOn
 
-abbrev FuncsOn : Type 0
+abbrev pub FuncsOn : Type 0
 FuncsOn = List Func × TablesOn
 
-abbrev ImportsOn : Type 0
+abbrev pub ImportsOn : Type 0
 ImportsOn = List Import × FuncsOn
 
-abbrev TypesOn : Type 0
+abbrev pub TypesOn : Type 0
 TypesOn = List FuncTy × ImportsOn
 
-abbrev from_segments : List DataSegment → Form Line
+abbrev pub from_segments : List DataSegment → Form Line
 from_segments = listing.each_line listing.segment
 
-abbrev from_elems : ElemsOn → Form Line
+abbrev pub from_elems : ElemsOn → Form Line
 from_elems = pair (listing.each_line listing.elem) from_segments
 
-abbrev from_start : StartOn → Form Line
+abbrev pub from_start : StartOn → Form Line
 from_start = pair listing.start from_elems
 
-abbrev from_exports : ExportsOn → Form Line
+abbrev pub from_exports : ExportsOn → Form Line
 from_exports = pair (listing.each_line listing.export) from_start
 
-abbrev from_globals : GlobalsOn → Form Line
+abbrev pub from_globals : GlobalsOn → Form Line
 from_globals = pair (listing.each_line listing.global) from_exports
 
-abbrev from_memories : MemoriesOn → Form Line
+abbrev pub from_memories : MemoriesOn → Form Line
 from_memories = pair (listing.each_line listing.memory) from_globals
 
-abbrev from_tables : TablesOn → Form Line
+abbrev pub from_tables : TablesOn → Form Line
 from_tables = pair (listing.each_line listing.table) from_memories
 
-abbrev from_funcs : FuncsOn → Form Line
+abbrev pub from_funcs : FuncsOn → Form Line
 from_funcs = pair (each listing.func) from_tables
 
-abbrev from_imports : ImportsOn → Form Line
+abbrev pub from_imports : ImportsOn → Form Line
 from_imports = pair (listing.each_line listing.import) from_funcs
 
-abbrev from_types : TypesOn → Form Line
+abbrev pub from_types : TypesOn → Form Line
 from_types = pair (listing.each_line listing.functype) from_imports
 
-keeps_segments : (j : ℕ) → j ≤ 10 → Keeps j from_segments
+pub keeps_segments : (j : ℕ) → j ≤ 10 → Keeps j from_segments
 keeps_segments j least = keeps_each j 10 least segments_part
 
-keeps_elems : (j : ℕ) → j ≤ 9 → Keeps j from_elems
+pub keeps_elems : (j : ℕ) → j ≤ 9 → Keeps j from_elems
 keeps_elems j least = keeps_pair (keeps_each j 9 least elems_part) (keeps_segments j (omega arith))
 
-keeps_from_start : (j : ℕ) → j ≤ 8 → Keeps j from_start
+pub keeps_from_start : (j : ℕ) → j ≤ 8 → Keeps j from_start
 keeps_from_start j least = keeps_pair (keeps_start j least) (keeps_elems j (omega arith))
 
-keeps_exports : (j : ℕ) → j ≤ 7 → Keeps j from_exports
+pub keeps_exports : (j : ℕ) → j ≤ 7 → Keeps j from_exports
 keeps_exports j least = keeps_pair (keeps_each j 7 least exports_part) (keeps_from_start j (omega arith))
 
-keeps_globals : (j : ℕ) → j ≤ 6 → Keeps j from_globals
+pub keeps_globals : (j : ℕ) → j ≤ 6 → Keeps j from_globals
 keeps_globals j least = keeps_pair (keeps_each j 6 least globals_part) (keeps_exports j (omega arith))
 
-keeps_memories : (j : ℕ) → j ≤ 5 → Keeps j from_memories
+pub keeps_memories : (j : ℕ) → j ≤ 5 → Keeps j from_memories
 keeps_memories j least = keeps_pair (keeps_each j 5 least memories_part) (keeps_globals j (omega arith))
 
-keeps_tables : (j : ℕ) → j ≤ 4 → Keeps j from_tables
+pub keeps_tables : (j : ℕ) → j ≤ 4 → Keeps j from_tables
 keeps_tables j least = keeps_pair (keeps_each j 4 least tables_part) (keeps_memories j (omega arith))
 
-keeps_funcs : (j : ℕ) → j ≤ 3 → Keeps j from_funcs
+pub keeps_funcs : (j : ℕ) → j ≤ 3 → Keeps j from_funcs
 keeps_funcs j least = keeps_pair (keeps_each j 3 least funcs_part) (keeps_tables j (omega arith))
 
-keeps_imports : (j : ℕ) → j ≤ 2 → Keeps j from_imports
+pub keeps_imports : (j : ℕ) → j ≤ 2 → Keeps j from_imports
 keeps_imports j least = keeps_pair (keeps_each j 2 least imports_part) (keeps_funcs j (omega arith))
 
 -- behind the last part nothing follows
-at_end : (j : ℕ) (x : List Line) → j ≤ 11 → x ≡ [] → From j x
+pub at_end : (j : ℕ) (x : List Line) → j ≤ 11 → x ≡ [] → From j x
 unfolding rank
 at_end j x least ends = subst (From j) (sym ends) least
 
@@ -275,7 +275,7 @@ one_types = one-pair (one_part 1 types_part) one_imports (λ v s x h ends. (keep
 
 -- ---- the whole
 
-abbrev parts_of : Module → TypesOn
+abbrev pub parts_of : Module → TypesOn
 parts_of m = (m.types, (m.imports, (m.funcs, (m.tables, (m.memories, (m.globals, (m.exports, (m.start, (m.elems, m.segments)))))))))
 
 abbrev of_parts : TypesOn → Module

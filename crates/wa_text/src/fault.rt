@@ -1,9 +1,11 @@
 //! Why a text isn't known to be a listing.
 
 ghost use Rattle.std.specs.Prelude.{◌≡◌};
+ghost use Rattle.hex.specs.declared.error.FromHexError.TheVariants as hex;
 ghost use Rattle.wa_text.specs.declared.fault.LineFault.TheVariants as line;
 ghost use Rattle.wa_text.specs.declared.fault.TextFault.TheVariants as text;
 
+use hex::FromHexError;
 use std::alloc::{AllocError, AllocFailed};
 use thiserror::Error;
 
@@ -43,9 +45,12 @@ pub enum LineFault {
 
 impl LineFault {
     /// The fault of the text, by the place of the line.
-    pub fn at(self, line: u32) -> TextFault {
+    pub fn at(self, place: u32) -> TextFault
+        ensures wrong { self ≡ line.Wrong → result ≡ text.Wrong place }
+        ensures memory { self ≡ line.NoMemory → result ≡ text.NoMemory }
+    {
         match self {
-            LineFault::Wrong => TextFault::Wrong(line),
+            LineFault::Wrong => TextFault::Wrong(place),
             LineFault::NoMemory => TextFault::NoMemory,
         }
     }
@@ -64,6 +69,17 @@ impl<T: Drop> From<AllocFailed<T>> for TextFault {
 
     fn from(_: AllocFailed<T>) -> TextFault {
         TextFault::NoMemory
+    }
+}
+
+impl From<FromHexError> for LineFault {
+    ghost from_gives = { λ e fault. e ≡ hex.OutOfMemory → fault ≡ line.NoMemory };
+
+    fn from(e: FromHexError) -> LineFault {
+        match e {
+            FromHexError::OutOfMemory => LineFault::NoMemory,
+            _ => LineFault::Wrong,
+        }
     }
 }
 

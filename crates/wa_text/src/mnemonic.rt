@@ -1,6 +1,6 @@
 //! The names of opcodes: the standard's mnemonics.
 
-ghost use Rattle.std.specs.Prelude.{◌≡◌, ℕ, List, map, option_copied, Contains, IfSome, Some};
+ghost use Rattle.std.specs.Prelude.{◌≡◌, ◌≢◌, ℕ, List, map, option_copied, Contains, MatchOption, Some};
 ghost use Rattle.wa_text.specs.Mnemonics.{access_names, name_in, plain_names};
 
 use wa_syntax::opcode::*;
@@ -114,7 +114,8 @@ fn name_in(table: &[(u8, &'static str)], opcode: u8) -> Option<&'static str>
 
 /// The opcode of a name in a table.
 fn opcode_in(table: &[(u8, &'static str)], name: &[u8]) -> Option<u8>
-    ensures { IfSome result (λ opcode. Contains {X = ℕ × List ℕ} (map (λ row. (row.0, row.1.now)) table.now) (opcode, name.now)) }
+    ensures { let rows : List (ℕ × List ℕ) = map (λ row. (row.0, row.1.now)) table.now in
+        MatchOption result ((opcode : ℕ) → Contains rows (opcode, name.now) → ⊥) (λ opcode. Contains rows (opcode, name.now)) }
 {
     for (opcode, other) in table {
         if other.as_bytes() == name {
@@ -140,14 +141,16 @@ pub fn access_name(opcode: u8) -> Option<&'static str>
 
 /// The opcode of an instruction that is its opcode alone, by its name.
 pub fn plain_opcode(name: &[u8]) -> Option<u8>
-    ensures { IfSome result (λ opcode. name_in plain_names opcode ≡ Some name.now) }
+    ensures { MatchOption result ((opcode : ℕ) → name_in plain_names opcode ≢ Some name.now)
+        (λ opcode. name_in plain_names opcode ≡ Some name.now) }
 {
     opcode_in(&PLAIN, name)
 }
 
 /// The opcode of a load or a store, by its name.
 pub fn access_opcode(name: &[u8]) -> Option<u8>
-    ensures { IfSome result (λ opcode. name_in access_names opcode ≡ Some name.now) }
+    ensures { MatchOption result ((opcode : ℕ) → name_in access_names opcode ≢ Some name.now)
+        (λ opcode. name_in access_names opcode ≡ Some name.now) }
 {
     opcode_in(&ACCESSES, name)
 }

@@ -1,10 +1,10 @@
 //! The bodies of functions, and the instructions that hold others.
 
-ghost use Rattle.std.specs.Prelude.{◌<◌, ◌≤◌, length, IfOk};
+ghost use Rattle.std.specs.Prelude.{◌<◌, ◌≤◌, ◌↔◌, length, IfErr, IfOk, IsTrue};
 ghost use Rattle.wa_text.specs.Forms.{each};
 ghost use Rattle.wa_text.specs.Instructions.{else_end, expr, instr};
 ghost use Rattle.wa_text.specs.Places.{EndsIn, ReachesIn};
-ghost use Rattle.wa_text.specs.Reading.{Spelled, behind_first, first_line};
+ghost use Rattle.wa_text.specs.Reading.{RefusesAt, Spelled, anything, behind_first, first_line, halts, rows_at};
 ghost use Rattle.wa_text.specs.Words.{line};
 
 use crate::fault::TextFault;
@@ -23,6 +23,7 @@ pub fn expression(alloc: Global, text: &[u8], at: u32) -> Listed<Items<Instr>>
     requires place { at ≤ length text.now }
     ensures ends { IfOk result (λ read. EndsIn text.now at read.1) }
     ensures found { IfOk result (λ read. Spelled (expr read.0) text.now at read.1) }
+    ensures refused { IfErr result (RefusesAt expr anything text.now at) }
 {
     let (body, at) = sequence(alloc, text, at, MAX_NESTING)?;
     let end = word_line(text, at, b"end")?;
@@ -33,6 +34,7 @@ pub fn expression(alloc: Global, text: &[u8], at: u32) -> Listed<Items<Instr>>
 fn stops(text: &[u8], at: u32) -> bool
     requires size { length text.now < u32.MAX }
     requires place { at ≤ length text.now }
+    ensures { IsTrue result ↔ halts (rows_at text.now at) }
 {
     behind_line(text, at, b"end").is_some() || behind_line(text, at, b"else").is_some()
 }
@@ -44,6 +46,8 @@ fn sequence(alloc: Global, text: &[u8], at: u32, levels: u32) -> Listed<Items<In
     requires place { at ≤ length text.now }
     ensures reaches { IfOk result (λ read. ReachesIn text.now at read.1) }
     ensures found { IfOk result (λ read. Spelled (each (instr levels) read.0) text.now at read.1) }
+    ensures stops { IfOk result (λ read. halts (rows_at text.now read.1)) }
+    ensures refused { IfErr result (RefusesAt (each (instr levels)) halts text.now at) }
 {
     let mut instrs = Items::new(alloc);
     let mut at = at;
@@ -62,6 +66,7 @@ fn instruction(alloc: Global, text: &[u8], at: u32, levels: u32) -> Listed<Instr
     requires place { at ≤ length text.now }
     ensures ends { IfOk result (λ read. EndsIn text.now at read.1) }
     ensures found { IfOk result (λ read. Spelled (instr levels read.0) text.now at read.1) }
+    ensures refused { IfErr result (RefusesAt (instr levels) anything text.now at) }
 {
     let (first, next) = first_line(alloc, text, at)?;
     match first {
@@ -81,12 +86,14 @@ fn first_line(alloc: Global, text: &[u8], at: u32) -> Listed<FirstLine>
     requires place { at ≤ length text.now }
     ensures ends { IfOk result (λ read. EndsIn text.now at read.1) }
     ensures found { IfOk result (λ read. Spelled (line (first_line read.0)) text.now at read.1) }
+    ensures refused { IfErr result (RefusesAt (λ first. line (first_line first)) anything text.now at) }
 {
     let (words, end) = words(alloc, text, at)?;
-    match first_words(alloc, words.as_slice()) {
-        Ok(first) => Ok((first, end)),
-        Err(fault) => Err(fault.at(at)),
-    }
+    let first = match first_words(alloc, words.as_slice()) {
+        Ok(first) => first,
+        Err(fault) => return Err(fault.at(at)),
+    };
+    Ok((first, end))
 }
 
 /// What follows the first line of a `block`, a `loop` or an `if`.
@@ -103,6 +110,7 @@ fn structured(
     requires place { at ≤ length text.now }
     ensures ends { IfOk result (λ read. EndsIn text.now at read.1) }
     ensures found { IfOk result (λ read. Spelled (behind_first kind ty (each (instr levels)) read.0) text.now at read.1) }
+    ensures refused { IfErr result (RefusesAt (behind_first kind ty (each (instr levels))) anything text.now at) }
 {
     let (body, at) = sequence(alloc, text, at, levels)?;
     match kind {
@@ -122,6 +130,7 @@ fn else_end(alloc: Global, text: &[u8], at: u32, levels: u32) -> Listed<Items<In
     requires place { at ≤ length text.now }
     ensures ends { IfOk result (λ read. EndsIn text.now at read.1) }
     ensures found { IfOk result (λ read. Spelled (else_end (each (instr levels)) read.0) text.now at read.1) }
+    ensures refused { IfErr result (RefusesAt (else_end (each (instr levels))) anything text.now at) }
 {
     let Some(at) = behind_line(text, at, b"else") else {
         return Ok((Items::new(alloc), word_line(text, at, b"end")?));

@@ -1,9 +1,7 @@
 //! Instructions, by the words of their first line.
 
-ghost use Rattle.std.specs.Prelude.{◌≡◌, ℕ, [], ◌∷◌, ◌++◌, codes, IfOk, IfSome};
-ghost use Rattle.wa_text.specs.Instructions.{instr};
-ghost use Rattle.wa_text.specs.Reading.{first_line, kind_word, texts};
-ghost use Rattle.wa_text.specs.Words.{Line, u32};
+ghost use Rattle.std.specs.Prelude.{◌≡◌, ◌≢◌, [], ◌∷◌, ◌++◌, codes, MatchOption, MatchResult};
+ghost use Rattle.wa_text.specs.Reading.{Reads, Refuses, first_line, kind_word, texts, whole, with_index};
 
 use crate::fault::LineFault;
 use crate::mnemonic::{access_opcode, plain_opcode};
@@ -31,7 +29,7 @@ pub enum FirstLine {
 
 /// The first line of an instruction.
 pub fn first_words(alloc: Global, words: &[&[u8]]) -> Result<FirstLine, LineFault>
-    ensures { IfOk result (λ read. first_line read (texts words.now)) }
+    ensures { Reads first_line (texts words.now) result }
 {
     let [first, rest @ ..] = words else {
         return Err(LineFault::Wrong);
@@ -44,7 +42,7 @@ pub fn first_words(alloc: Global, words: &[&[u8]]) -> Result<FirstLine, LineFaul
 
 /// The instruction that holds others, by its word.
 fn block_kind(word: &[u8]) -> Option<BlockKind>
-    ensures { IfSome result (λ kind. word.now ≡ kind_word kind) }
+    ensures { MatchOption result ((kind : BlockKind) → word.now ≢ kind_word kind) (λ kind. word.now ≡ kind_word kind) }
 {
     match word {
         b"block" => Some(BlockKind::Block),
@@ -56,13 +54,16 @@ fn block_kind(word: &[u8]) -> Option<BlockKind>
 
 /// An instruction that holds no others: its first word, and those behind it.
 fn simple(alloc: Global, first: &[u8], words: &[&[u8]]) -> Result<Instr, LineFault>
-    ensures { IfOk result (λ read. (levels : ℕ) → instr levels read ((first.now ∷ texts words.now) ∷ [])) }
+    ensures { Reads whole (first.now ∷ texts words.now) result }
 {
+    if first == b"br_table".as_slice() {
+        return match words {
+            [labels @ .., default] => br_table(alloc, labels, *default),
+            [] => Err(LineFault::Wrong),
+        };
+    }
     match words {
         [] => plain(first),
-        [labels @ .., default] if first == b"br_table".as_slice() => {
-            br_table(alloc, labels, *default)
-        }
         [value] => with_number(first, *value),
         [align, offset] => access(first, *align, *offset),
         _ => Err(LineFault::Wrong),
@@ -71,7 +72,7 @@ fn simple(alloc: Global, first: &[u8], words: &[&[u8]]) -> Result<Instr, LineFau
 
 /// An instruction that is its opcode alone.
 fn plain(name: &[u8]) -> Result<Instr, LineFault>
-    ensures { IfOk result (λ read. (levels : ℕ) → instr levels read ((name.now ∷ []) ∷ [])) }
+    ensures { Reads whole (name.now ∷ []) result }
 {
     match plain_opcode(name) {
         Some(opcode) => Ok(Instr::Plain(opcode)),
@@ -81,7 +82,7 @@ fn plain(name: &[u8]) -> Result<Instr, LineFault>
 
 /// `br_table`: the labels, and the default behind them.
 fn br_table(alloc: Global, labels: &[&[u8]], default: &[u8]) -> Result<Instr, LineFault>
-    ensures { IfOk result (λ read. (levels : ℕ) → instr levels read ((codes "br_table" ∷ texts labels.now ++ default.now ∷ []) ∷ [])) }
+    ensures { Reads whole (codes "br_table" ∷ texts labels.now ++ default.now ∷ []) result }
 {
     let default = index(default)?;
     let labels = indices(alloc, labels)?;
@@ -90,7 +91,8 @@ fn br_table(alloc: Global, labels: &[&[u8]], default: &[u8]) -> Result<Instr, Li
 
 /// An instruction of a word and a number.
 fn with_number(first: &[u8], value: &[u8]) -> Result<Instr, LineFault>
-    ensures { IfOk result (λ read. (levels : ℕ) → instr levels read ((first.now ∷ value.now ∷ []) ∷ [])) }
+    requires table { first.now ≢ codes "br_table" }
+    ensures { Reads whole (first.now ∷ value.now ∷ []) result }
 {
     if first == b"i64.const".as_slice() {
         return Ok(Instr::I64Const(number(value)?));
@@ -101,26 +103,47 @@ fn with_number(first: &[u8], value: &[u8]) -> Result<Instr, LineFault>
 /// An instruction of a word and a number of 32 bits: a label, a function, a type, a local or a global, or the bits of an
 /// `i32`.
 fn indexed(first: &[u8], index: u32) -> Result<Instr, LineFault>
-    ensures { IfOk result (λ read. (levels : ℕ) (words : Line) → u32 index words → instr levels read ((first.now ∷ words) ∷ [])) }
+    requires table { first.now ≢ codes "br_table" }
+    requires constant { first.now ≢ codes "i64.const" }
+    ensures { MatchResult result (λ read. with_index read first.now index) (λ fault. (i : Instr) → with_index i first.now index → ⊥) }
 {
-    match first {
-        b"br" => Ok(Instr::Br(index)),
-        b"br_if" => Ok(Instr::BrIf(index)),
-        b"call" => Ok(Instr::Call(index)),
-        b"call_indirect" => Ok(Instr::CallIndirect(index)),
-        b"local.get" => Ok(Instr::LocalGet(index)),
-        b"local.set" => Ok(Instr::LocalSet(index)),
-        b"local.tee" => Ok(Instr::LocalTee(index)),
-        b"global.get" => Ok(Instr::GlobalGet(index)),
-        b"global.set" => Ok(Instr::GlobalSet(index)),
-        b"i32.const" => Ok(Instr::I32Const(index)),
-        _ => Err(LineFault::Wrong),
+    if first == b"br".as_slice() {
+        return Ok(Instr::Br(index));
     }
+    if first == b"br_if".as_slice() {
+        return Ok(Instr::BrIf(index));
+    }
+    if first == b"call".as_slice() {
+        return Ok(Instr::Call(index));
+    }
+    if first == b"call_indirect".as_slice() {
+        return Ok(Instr::CallIndirect(index));
+    }
+    if first == b"local.get".as_slice() {
+        return Ok(Instr::LocalGet(index));
+    }
+    if first == b"local.set".as_slice() {
+        return Ok(Instr::LocalSet(index));
+    }
+    if first == b"local.tee".as_slice() {
+        return Ok(Instr::LocalTee(index));
+    }
+    if first == b"global.get".as_slice() {
+        return Ok(Instr::GlobalGet(index));
+    }
+    if first == b"global.set".as_slice() {
+        return Ok(Instr::GlobalSet(index));
+    }
+    if first == b"i32.const".as_slice() {
+        return Ok(Instr::I32Const(index));
+    }
+    Err(LineFault::Wrong)
 }
 
 /// A load or a store: its alignment, as a power of two, and its offset.
 fn access(name: &[u8], align: &[u8], offset: &[u8]) -> Result<Instr, LineFault>
-    ensures { IfOk result (λ read. (levels : ℕ) → instr levels read ((name.now ∷ align.now ∷ offset.now ∷ []) ∷ [])) }
+    requires table { name.now ≢ codes "br_table" }
+    ensures { Reads whole (name.now ∷ align.now ∷ offset.now ∷ []) result }
 {
     match access_opcode(name) {
         Some(opcode) => Ok(Instr::Memory(opcode, index(align)?, index(offset)?)),

@@ -1,15 +1,16 @@
 //! The items of a module that are a line.
 
-ghost use Rattle.std.specs.Prelude.{◌≡◌, [], ◌∷◌, IfOk};
+ghost use Rattle.std.specs.Prelude.{◌≡◌, [], ◌∷◌, MatchResult};
 ghost use Rattle.wa_text.specs.Forms.{◌then◌, each};
 ghost use Rattle.wa_text.specs.Listing.{exportdesc, globaltype, importdesc, init, locals};
-ghost use Rattle.wa_text.specs.Reading.{texts};
+ghost use Rattle.wa_text.specs.Reading.{Reads, texts};
 ghost use Rattle.wa_text.specs.Words.{bytes, name, u32};
+ghost use Rattle.wa_text.specs.declared.fault.LineFault.TheVariants.{NoMemory};
 
 use crate::fault::LineFault;
 use crate::reader::line::LineForm;
-use crate::reader::types::{global_type, limits, value_types};
-use crate::reader::words::{bytes, index, indices, name, number};
+use crate::reader::types::{global_type, limits, only_global_type, value_types};
+use crate::reader::words::{bytes, index, indices, name, number, only_index};
 use sqlite_items::Items;
 use std::alloc::Global;
 use wa_syntax::{
@@ -41,13 +42,13 @@ impl LineForm for ImportItem {
 
 /// What an import asks for.
 fn import_kind(kind: &[u8], words: &[&[u8]]) -> Result<ImportKind, LineFault>
-    ensures { IfOk result (λ read. importdesc read (kind.now ∷ texts words.now)) }
+    ensures { Reads importdesc (kind.now ∷ texts words.now) result }
 {
-    match (kind, words) {
-        (b"func", [ty]) => Ok(ImportKind::Func(index(*ty)?)),
-        (b"table", limit) => Ok(ImportKind::Table(limits(limit)?)),
-        (b"memory", limit) => Ok(ImportKind::Memory(limits(limit)?)),
-        (b"global", [val, mutability]) => Ok(ImportKind::Global(global_type(*val, *mutability)?)),
+    match kind {
+        b"func" => Ok(ImportKind::Func(only_index(words)?)),
+        b"table" => Ok(ImportKind::Table(limits(words)?)),
+        b"memory" => Ok(ImportKind::Memory(limits(words)?)),
+        b"global" => Ok(ImportKind::Global(only_global_type(words)?)),
         _ => Err(LineFault::Wrong),
     }
 }
@@ -76,10 +77,13 @@ impl LineForm for FunctionHead {
 
 /// The locals of a function, one word for each.
 fn locals(alloc: Global, words: &[&[u8]]) -> Result<Locals, LineFault>
-    ensures { IfOk result (λ read. locals read (texts words.now)) }
+    ensures { Reads locals (texts words.now) result }
 {
     let (types, rest) = value_types(alloc, words)?;
-    if !rest.is_empty() || types.len() > MAX_LOCALS {
+    if !rest.is_empty() {
+        return Err(LineFault::Wrong);
+    }
+    if types.len() > MAX_LOCALS {
         return Err(LineFault::Wrong);
     }
     in_runs(alloc, types.as_slice())
@@ -87,7 +91,7 @@ fn locals(alloc: Global, words: &[&[u8]]) -> Result<Locals, LineFault>
 
 /// Types in a row, in runs of one type.
 fn in_runs(alloc: Global, types: &[ValTy]) -> Result<Locals, LineFault>
-    ensures { IfOk result (λ read. read ≡ types.now) }
+    ensures { MatchResult result (λ read. read ≡ types.now) (λ fault. fault ≡ NoMemory) }
 {
     let mut locals = Locals::new(alloc);
     for ty in types {
@@ -98,7 +102,7 @@ fn in_runs(alloc: Global, types: &[ValTy]) -> Result<Locals, LineFault>
 
 /// The initial value of a global, or the offset of a segment, of two words.
 fn initial_value(kind: &[u8], value: &[u8]) -> Result<Init, LineFault>
-    ensures { IfOk result (λ read. init read (kind.now ∷ value.now ∷ [])) }
+    ensures { Reads init (kind.now ∷ value.now ∷ []) result }
 {
     match kind {
         b"i32" => Ok(Init::Const32(index(value)?)),
@@ -147,7 +151,7 @@ impl LineForm for ExportItem {
 
 /// What is exported.
 fn export_kind(kind: &[u8], value: &[u8]) -> Result<ExportKind, LineFault>
-    ensures { IfOk result (λ read. exportdesc read (kind.now ∷ value.now ∷ [])) }
+    ensures { Reads exportdesc (kind.now ∷ value.now ∷ []) result }
 {
     let value = index(value)?;
     match kind {
@@ -168,10 +172,7 @@ impl LineForm for StartItem {
     ghost form = { u32 };
 
     fn read(_alloc: Global, words: &[&[u8]]) -> Result<u32, LineFault> {
-        match words {
-            [func] => index(*func),
-            _ => Err(LineFault::Wrong),
-        }
+        only_index(words)
     }
 }
 

@@ -1,12 +1,25 @@
 //! The lines of a text, and the items that are a line each.
 
-ghost use Rattle.std.specs.Prelude.{◌≡◌, ℕ, ◌<◌, ◌≤◌, List, [], ◌∷◌, ◌++◌, drop, length, ◌==◌, IfOk, IfSome};
-ghost use Rattle.std.specs.List.{slice_split};
+ghost use Rattle.std.specs.Prelude.{◌≡◌, ◌≢◌, ℕ, ◌<◌, ◌≤◌, ◌⊎◌, List, [], ◌∷◌, ◌++◌, drop, length, ◌==◌, IfErr, IfNone, IfOk, IfSome, IsFalse, IsTrue};
+ghost use Rattle.std.specs.List.{AllByRecursion, slice_split};
 ghost use Rattle.wa_text.specs.Forms.{◌then◌, each, exactly};
 ghost use Rattle.wa_text.specs.Places.{EndsIn, ReachesIn};
-ghost use Rattle.wa_text.specs.Reading.{IsUnbroken, Spelled, texts, words_of};
+ghost use Rattle.wa_text.specs.Reading.{
+  IsUnbroken,
+  Reads,
+  RefusesAt,
+  Spelled,
+  anything,
+  begins_not,
+  begins_otherwise,
+  begins_with,
+  rows_at,
+  texts,
+  words_of,
+};
 ghost use Rattle.wa_text.specs.Words.{line, word};
 ghost use Rattle.wa_text.specs.Words as form;
+ghost use Rattle.wa_text.specs.declared.fault.TextFault.TheVariants.{NoMemory, Wrong};
 
 use crate::fault::{LineFault, TextFault};
 use crate::reader::words::behind;
@@ -23,6 +36,7 @@ fn line_at(text: &[u8], at: u32) -> Option<(&[u8], u32)>
     ensures ends { IfSome result (λ read. EndsIn text.now at read.1) }
     ensures found { IfSome result (λ read. drop at text.now ≡ read.0.now ++ 10 ∷ drop read.1 text.now) }
     ensures unbroken { IfSome result (λ read. IsUnbroken read.0.now) }
+    ensures none { IfNone result (IsUnbroken (drop at text.now)) }
 {
     let rest = &text[at as usize..];
     let len = rest.iter().position(|byte| *byte == b'\n')?;
@@ -36,11 +50,12 @@ pub fn behind_line(text: &[u8], at: u32, word: &[u8]) -> Option<u32>
     requires word { words_of word.now ≡ word.now ∷ [] }
     ensures ends { IfSome result (EndsIn text.now at) }
     ensures found { IfSome result (λ end. Spelled (form.line (form.word word.now)) text.now at end) }
+    ensures none { IfNone result (begins_not (word.now ∷ []) (rows_at text.now at)) }
 {
-    match line_at(text, at) {
-        Some((line, end)) if line == word => Some(end),
-        _ => None,
-    }
+    let Some((line, end)) = line_at(text, at) else {
+        return None;
+    };
+    if line == word { Some(end) } else { None }
 }
 
 /// The place behind a line that can't be another than this word alone.
@@ -50,8 +65,12 @@ pub fn word_line(text: &[u8], at: u32, word: &[u8]) -> Result<u32, TextFault>
     requires word { words_of word.now ≡ word.now ∷ [] }
     ensures ends { IfOk result (EndsIn text.now at) }
     ensures found { IfOk result (λ end. Spelled (form.line (form.word word.now)) text.now at end) }
+    ensures refused { IfErr result (λ fault. (fault ≡ Wrong at) × begins_not (word.now ∷ []) (rows_at text.now at)) }
 {
-    behind_line(text, at, word).ok_or(TextFault::Wrong(at))
+    match behind_line(text, at, word) {
+        Some(end) => Ok(end),
+        None => Err(TextFault::Wrong(at)),
+    }
 }
 
 /// The words of a line.
@@ -67,6 +86,7 @@ pub fn words(alloc: Global, text: &[u8], at: u32) -> Listed<Vec<&[u8]>>
     requires place { at ≤ length text.now }
     ensures ends { IfOk result (λ read. EndsIn text.now at read.1) }
     ensures found { IfOk result (λ read. Spelled (exactly (texts read.0.items ∷ [])) text.now at read.1) }
+    ensures refused { IfErr result (λ fault. ((fault ≡ Wrong at) × (rows_at text.now at ≡ [])) ⊎ (fault ≡ NoMemory)) }
 {
     match line_at(text, at) {
         Some((line, end)) => Ok((words_in(alloc, line)?, end)),
@@ -75,7 +95,10 @@ pub fn words(alloc: Global, text: &[u8], at: u32) -> Listed<Vec<&[u8]>>
 }
 
 /// The first word of a line.
-fn first_word(line: &[u8]) -> &[u8] {
+fn first_word(line: &[u8]) -> &[u8]
+    ensures unparted { AllByRecursion (λ b. b ≢ 32) result.now }
+    ensures front { (result.now ≡ line.now) ⊎ ((rest : List ℕ) × (line.now ≡ result.now ++ 32 ∷ rest)) }
+{
     match line.iter().position(|byte| *byte == b' ') {
         Some(end) => &line[..end],
         None => line,
@@ -86,11 +109,13 @@ fn first_word(line: &[u8]) -> &[u8] {
 pub fn begins(text: &[u8], at: u32, word: &[u8]) -> bool
     requires size { length text.now < u32.MAX }
     requires place { at ≤ length text.now }
+    ensures yes { IsTrue result → begins_with word.now (rows_at text.now at) }
+    ensures no { IsFalse result → begins_otherwise word.now (rows_at text.now at) }
 {
-    match line_at(text, at) {
-        Some((line, _end)) => first_word(line) == word,
-        None => false,
-    }
+    let Some((line, _end)) = line_at(text, at) else {
+        return false;
+    };
+    first_word(line) == word
 }
 
 /// An item that is a line: what the words behind its first stand for.
@@ -105,7 +130,7 @@ pub trait LineForm {
     ///
     /// `Wrong` comes where they stand for nothing, and `NoMemory` where memory runs out.
     fn read(alloc: Global, words: &[&[u8]]) -> Result<Self::Value, LineFault>
-        ensures { IfOk result (λ value. form value (texts words.now)) };
+        ensures { Reads form (texts words.now) result };
 }
 
 /// The item of the words of a line.
@@ -114,7 +139,7 @@ fn words_item<P: LineForm>(
     words: &[&[u8]],
     first: &[u8],
 ) -> Result<P::Value, LineFault>
-    ensures { IfOk result (λ value. (word first.now then P.form value) (texts words.now)) }
+    ensures { Reads (λ value. word first.now then P.form value) (texts words.now) result }
 {
     P::read(alloc, behind(words, first)?)
 }
@@ -125,12 +150,14 @@ pub fn item<P: LineForm>(alloc: Global, text: &[u8], at: u32, first: &[u8]) -> L
     requires place { at ≤ length text.now }
     ensures ends { IfOk result (λ read. EndsIn text.now at read.1) }
     ensures found { IfOk result (λ read. Spelled (line (word first.now then P.form read.0)) text.now at read.1) }
+    ensures refused { IfErr result (RefusesAt (λ value. line (word first.now then P.form value)) anything text.now at) }
 {
     let (words, end) = words(alloc, text, at)?;
-    match words_item::<P>(alloc, words.as_slice(), first) {
-        Ok(value) => Ok((value, end)),
-        Err(fault) => Err(fault.at(at)),
-    }
+    let value = match words_item::<P>(alloc, words.as_slice(), first) {
+        Ok(value) => value,
+        Err(fault) => return Err(fault.at(at)),
+    };
+    Ok((value, end))
 }
 
 /// The items of the lines that begin with a word, as far as these go.
@@ -144,6 +171,9 @@ pub fn items<P: LineForm>(
     requires place { at ≤ length text.now }
     ensures reaches { IfOk result (λ read. ReachesIn text.now at read.1) }
     ensures found { IfOk result (λ read. Spelled (each (λ value. line (word first.now then P.form value)) read.0) text.now at read.1) }
+    ensures stops { IfOk result (λ read. begins_otherwise first.now (rows_at text.now read.1)) }
+    ensures refused { IfErr result
+        (RefusesAt (each (λ value. line (word first.now then P.form value))) (begins_otherwise first.now) text.now at) }
 {
     let mut items = Items::new(alloc);
     let mut at = at;

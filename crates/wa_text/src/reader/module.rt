@@ -1,12 +1,13 @@
 //! Modules.
 
-ghost use Rattle.std.specs.Prelude.{◌≡◌, ◌<◌, ◌≤◌, ◌==◌, length, take, IfErr, IfOk};
+ghost use Rattle.std.specs.Prelude.{◌≡◌, ◌≢◌, [], ◌+◌, ◌<◌, ◌≤◌, ◌==◌, codes, length, take, IfErr, IfNone, IfOk, MatchResult};
 ghost use Rattle.std.specs.List.{count_by};
 ghost use Rattle.wa_syntax.specs.declared.module.Module.{Module};
-ghost use Rattle.wa_text.specs.Forms.{each};
+ghost use Rattle.wa_text.specs.Forms.{each, nothing};
 ghost use Rattle.wa_text.specs.Listing.{IsListing, func, module_lines, start};
-ghost use Rattle.wa_text.specs.Places.{EndsIn, NamesLine, ReachesIn};
-ghost use Rattle.wa_text.specs.Reading.{Spelled};
+ghost use Rattle.wa_text.specs.Places.{EndsIn, NamesLine, NoneBegins, ReachesIn};
+ghost use Rattle.wa_text.specs.Reading.{Refused, RefusesAt, Spelled, anything, begins_otherwise, rows_at};
+ghost use Rattle.wa_text.specs.declared.fault.ListFault.TheVariants.{NoMemory, NotListing};
 
 use crate::fault::{ListFault, TextFault};
 use crate::reader::expression::expression;
@@ -26,8 +27,12 @@ pub fn read(alloc: Global, text: &[u8]) -> Result<Module, ListFault>
     requires { length text.now < 4294967295 }
     // The text is the listing of what is read.
     ensures found { IfOk result (IsListing text.now) }
+    // What it is the listing of is read, unless memory runs out: so `NotListing` comes only where it is the listing of none.
+    ensures complete { (m : Module) → IsListing text.now m → MatchResult result (λ read. read ≡ m) (λ fault. fault ≡ NoMemory) }
     // A refusal names a line of the text, or the one behind its last line feed.
     ensures line { IfErr result (NamesLine text.now) }
+    // With this line it is clear that the text is none: no listing has the same lines up to it.
+    ensures clear { IfErr result (NoneBegins text.now) }
     // A text is the listing of no two modules.
     ensures only { (m n : Module) → IsListing text.now m → IsListing text.now n → m ≡ n }
 {
@@ -42,7 +47,8 @@ pub fn read(alloc: Global, text: &[u8]) -> Result<Module, ListFault>
 /// The fault of a text, by the place of its first wrong line: one more than the line feeds before it is the line's number.
 fn not_listing(text: &[u8], at: u32) -> ListFault
     requires size { length text.now < 4294967295 }
-    ensures { NamesLine text.now result }
+    ensures line { NamesLine text.now result }
+    ensures number { result ≡ NotListing (count_by (λ byte. byte == 10) (take at text.now) + 1) }
 {
     let feeds = line_feeds(text, at as usize);
     ListFault::NotListing(feeds as u32 + 1)
@@ -61,6 +67,8 @@ fn module(alloc: Global, text: &[u8]) -> Listed<Module>
     requires size { length text.now < u32.MAX }
     ensures reaches { IfOk result (λ read. ReachesIn text.now 0 read.1) }
     ensures found { IfOk result (λ read. Spelled (module_lines read.0) text.now 0 read.1) }
+    ensures whole { IfOk result (λ read. rows_at text.now read.1 ≢ [] → Refused module_lines nothing text.now 0 read.1) }
+    ensures refused { IfErr result (RefusesAt module_lines nothing text.now 0) }
 {
     let (types, at) = items::<TypeItem>(alloc, text, 0, b"type")?;
     let (imports, at) = items::<ImportItem>(alloc, text, at, b"import")?;
@@ -93,6 +101,8 @@ fn functions(alloc: Global, text: &[u8], at: u32) -> Listed<Items<Func>>
     requires place { at ≤ length text.now }
     ensures reaches { IfOk result (λ read. ReachesIn text.now at read.1) }
     ensures found { IfOk result (λ read. Spelled (each func read.0) text.now at read.1) }
+    ensures stops { IfOk result (λ read. begins_otherwise (codes "func") (rows_at text.now read.1)) }
+    ensures refused { IfErr result (RefusesAt (each func) (begins_otherwise (codes "func")) text.now at) }
 {
     let mut funcs = Items::new(alloc);
     let mut at = at;
@@ -110,6 +120,7 @@ fn function(alloc: Global, text: &[u8], at: u32) -> Listed<Func>
     requires place { at ≤ length text.now }
     ensures ends { IfOk result (λ read. EndsIn text.now at read.1) }
     ensures found { IfOk result (λ read. Spelled (func read.0) text.now at read.1) }
+    ensures refused { IfErr result (RefusesAt func anything text.now at) }
 {
     let (FunctionHead { ty, locals }, at) = item::<FunctionHead>(alloc, text, at, b"func")?;
     let (body, end) = expression(alloc, text, at)?;
@@ -122,6 +133,8 @@ fn start(alloc: Global, text: &[u8], at: u32) -> Listed<Option<u32>>
     requires place { at ≤ length text.now }
     ensures reaches { IfOk result (λ read. ReachesIn text.now at read.1) }
     ensures found { IfOk result (λ read. Spelled (start read.0) text.now at read.1) }
+    ensures stops { IfOk result (λ read. IfNone read.0 (begins_otherwise (codes "start") (rows_at text.now read.1))) }
+    ensures refused { IfErr result (RefusesAt start (begins_otherwise (codes "start")) text.now at) }
 {
     if !begins(text, at, b"start") {
         return Ok((None, at));

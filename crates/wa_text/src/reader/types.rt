@@ -1,10 +1,11 @@
 //! Types.
 
-ghost use Rattle.std.specs.Prelude.{[], ◌∷◌, codes, IfOk, IfSome};
+ghost use Rattle.std.specs.Prelude.{◌≡◌, [], ◌∷◌, codes, IfErr, IfOk};
 ghost use Rattle.wa_text.specs.Forms.{◌then◌, each, exactly};
 ghost use Rattle.wa_text.specs.Instructions.{block_result};
 ghost use Rattle.wa_text.specs.Listing.{globaltype, limits};
-ghost use Rattle.wa_text.specs.Reading.{texts};
+ghost use Rattle.wa_text.specs.Reading.{Knows, Reads, begins_untyped, texts};
+ghost use Rattle.wa_text.specs.declared.fault.LineFault.TheVariants.{NoMemory};
 ghost use Rattle.wa_text.specs.Words.{mut, val, word};
 
 use crate::fault::LineFault;
@@ -16,7 +17,7 @@ use wa_syntax::{FuncTy, GlobalTy, Limits, ValTy};
 
 /// The type of a value that a word stands for.
 fn value_type(word: &[u8]) -> Option<ValTy>
-    ensures { IfSome result (λ ty. val ty (word.now ∷ [])) }
+    ensures { Knows val (word.now ∷ []) result }
 {
     match word {
         b"i32" => Some(ValTy::I32),
@@ -30,7 +31,9 @@ pub fn value_types<'a>(
     alloc: Global,
     words: &'a [&'a [u8]],
 ) -> Result<(Items<ValTy>, &'a [&'a [u8]]), LineFault>
-    ensures { IfOk result (λ read. (each val read.0 then exactly (texts read.1.now)) (texts words.now)) }
+    ensures found { IfOk result (λ read. (each val read.0 then exactly (texts read.1.now)) (texts words.now)) }
+    ensures stops { IfOk result (λ read. begins_untyped (texts read.1.now)) }
+    ensures memory { IfErr result (λ fault. fault ≡ NoMemory) }
 {
     let mut types = Items::new(alloc);
     let mut rest = words;
@@ -46,7 +49,7 @@ pub fn value_types<'a>(
 
 /// The type of a block's result, if there is one.
 pub fn block_result(words: &[&[u8]]) -> Result<Option<ValTy>, LineFault>
-    ensures { IfOk result (λ ty. block_result ty (texts words.now)) }
+    ensures { Reads block_result (texts words.now) result }
 {
     match words {
         [] => Ok(None),
@@ -79,7 +82,7 @@ impl LineForm for TypeItem {
 
 /// The minimum, or the minimum and the maximum.
 pub fn limits(words: &[&[u8]]) -> Result<Limits, LineFault>
-    ensures { IfOk result (λ read. limits read (texts words.now)) }
+    ensures { Reads limits (texts words.now) result }
 {
     match words {
         [min] => Ok(Limits {
@@ -107,9 +110,19 @@ impl LineForm for LimitsItem {
     }
 }
 
+/// The type of a global, where no other words are.
+pub fn only_global_type(words: &[&[u8]]) -> Result<GlobalTy, LineFault>
+    ensures { Reads globaltype (texts words.now) result }
+{
+    match words {
+        [val, mutability] => global_type(*val, *mutability),
+        _ => Err(LineFault::Wrong),
+    }
+}
+
 /// The type of a global, of two words.
 pub fn global_type(val: &[u8], mutability: &[u8]) -> Result<GlobalTy, LineFault>
-    ensures { IfOk result (λ ty. globaltype ty (val.now ∷ mutability.now ∷ [])) }
+    ensures { Reads globaltype (val.now ∷ mutability.now ∷ []) result }
 {
     match (value_type(val), mutable(mutability)) {
         (Some(val), Some(mutable)) => Ok(GlobalTy { val, mutable }),
@@ -119,7 +132,7 @@ pub fn global_type(val: &[u8], mutability: &[u8]) -> Result<GlobalTy, LineFault>
 
 /// Whether a global may be changed.
 fn mutable(word: &[u8]) -> Option<bool>
-    ensures { IfSome result (λ read. mut read (word.now ∷ [])) }
+    ensures { Knows mut (word.now ∷ []) result }
 {
     match word {
         b"const" => Some(false),

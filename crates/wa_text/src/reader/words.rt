@@ -1,9 +1,9 @@
 //! The words of a line. A word is that of a value where the value is written so.
 
-ghost use Rattle.std.specs.Prelude.{◌≡◌, [], ◌∷◌, IfOk};
+ghost use Rattle.std.specs.Prelude.{◌≡◌, [], ◌∷◌, MatchResult};
 ghost use Rattle.wa_text.specs.Forms.{each};
-ghost use Rattle.wa_text.specs.Reading.{texts};
-ghost use Rattle.wa_text.specs.Words.{bytes, name, u32, u64};
+ghost use Rattle.wa_text.specs.Reading.{Reads, Refuses, texts};
+ghost use Rattle.wa_text.specs.Words.{Line, bytes, name, u32, u64};
 
 use crate::fault::LineFault;
 use itoa::Buffer;
@@ -13,17 +13,22 @@ use wa_syntax::Name;
 
 /// The words behind the first, which can't be another one.
 pub fn behind<'a>(words: &'a [&'a [u8]], wanted: &[u8]) -> Result<&'a [&'a [u8]], LineFault>
-    ensures { IfOk result (λ rest. texts words.now ≡ wanted.now ∷ texts rest.now) }
+    ensures { MatchResult result (λ rest. texts words.now ≡ wanted.now ∷ texts rest.now)
+        (Refuses (λ (rest : Line) line. line ≡ wanted.now ∷ rest) (texts words.now)) }
 {
-    match words {
-        [first, rest @ ..] if *first == wanted => Ok(rest),
-        _ => Err(LineFault::Wrong),
+    let [first, rest @ ..] = words else {
+        return Err(LineFault::Wrong);
+    };
+    if *first == wanted {
+        Ok(rest)
+    } else {
+        Err(LineFault::Wrong)
     }
 }
 
 /// A number of 64 bits in decimal digits, without leading zeros.
 pub fn number(word: &[u8]) -> Result<u64, LineFault>
-    ensures { IfOk result (λ n. u64 n (word.now ∷ [])) }
+    ensures { Reads u64 (word.now ∷ []) result }
 {
     let Ok(digits) = str::from_utf8(word) else {
         return Err(LineFault::Wrong);
@@ -36,15 +41,29 @@ pub fn number(word: &[u8]) -> Result<u64, LineFault>
 
 /// The number of a type, a function, a table, a memory, a global, a local or a label.
 pub fn index(word: &[u8]) -> Result<u32, LineFault>
-    ensures { IfOk result (λ n. u32 n (word.now ∷ [])) }
+    ensures { Reads u32 (word.now ∷ []) result }
 {
     let n = number(word)?;
-    u32::try_from(n).map_err(|_| LineFault::Wrong)
+    if n <= u32::MAX as u64 {
+        Ok(n as u32)
+    } else {
+        Err(LineFault::Wrong)
+    }
+}
+
+/// Such a number that is the only word.
+pub fn only_index(words: &[&[u8]]) -> Result<u32, LineFault>
+    ensures { Reads u32 (texts words.now) result }
+{
+    match words {
+        [word] => index(*word),
+        _ => Err(LineFault::Wrong),
+    }
 }
 
 /// Such numbers, one for each word.
 pub fn indices(alloc: Global, words: &[&[u8]]) -> Result<Items<u32>, LineFault>
-    ensures { IfOk result (λ numbers. each u32 numbers (texts words.now)) }
+    ensures { Reads (each u32) (texts words.now) result }
 {
     let mut numbers = Items::new(alloc);
     for word in words {
@@ -55,18 +74,17 @@ pub fn indices(alloc: Global, words: &[&[u8]]) -> Result<Items<u32>, LineFault>
 
 /// Bytes, in two lower-case hexadecimal digits each, or a dash where there are none.
 pub fn bytes(alloc: Global, word: &[u8]) -> Result<Vec<u8>, LineFault>
-    ensures { IfOk result (λ read. bytes read.items (word.now ∷ [])) }
+    ensures { MatchResult result (λ read. bytes read.items (word.now ∷ [])) (Refuses bytes (word.now ∷ [])) }
 {
     if word == b"-".as_slice() {
         return Ok(Vec::new(alloc));
     }
-    let bytes = match hex::decode(alloc, word) {
-        Ok(bytes) => bytes,
-        Err(hex::FromHexError::OutOfMemory) => return Err(LineFault::NoMemory),
-        Err(_) => return Err(LineFault::Wrong),
-    };
+    let bytes = hex::decode(alloc, word)?;
+    if bytes.is_empty() {
+        return Err(LineFault::Wrong);
+    }
     let written = hex::encode(alloc, bytes.as_slice())?;
-    if bytes.is_empty() || written.as_bytes() != word {
+    if written.as_bytes() != word {
         return Err(LineFault::Wrong);
     }
     Ok(bytes)
@@ -74,11 +92,11 @@ pub fn bytes(alloc: Global, word: &[u8]) -> Result<Vec<u8>, LineFault>
 
 /// The bytes of a name, which are UTF-8.
 pub fn name(alloc: Global, word: &[u8]) -> Result<Name, LineFault>
-    ensures { IfOk result (λ read. name read (word.now ∷ [])) }
+    ensures { Reads name (word.now ∷ []) result }
 {
     let bytes = bytes(alloc, word)?;
-    match str::from_utf8(bytes.as_slice()) {
-        Ok(_) => Ok(Name::from_slice(alloc, bytes.as_slice())?),
-        Err(_) => Err(LineFault::Wrong),
-    }
+    let Ok(_text) = str::from_utf8(bytes.as_slice()) else {
+        return Err(LineFault::Wrong);
+    };
+    Ok(Name::from_slice(alloc, bytes.as_slice())?)
 }

@@ -1,6 +1,6 @@
 use Rattle.std.proofs.Common.{subst, sym}
 use Rattle.std.proofs.lemmas.Result.{IfErr-weaker, IfOk-weaker}
-use Rattle.wa_text.specs.Places.{NamesLine}
+use Rattle.wa_text.specs.Places.{NamesLine, NoneBegins}
 use Rattle.sa_drive.specs.Listings.{EndsWithoutModule}
 use Rattle.sa_drive.proofs.assemble.assembled.Goals as goal
 
@@ -14,4 +14,6 @@ returns-in-Ok-clause-fault c =
 
 pub returns-in-Err-NotListing-clause-fault : goal.returns-in-Err-NotListing-clause-fault
 returns-in-Err-NotListing-clause-fault c =
-    rw c.in-Err-NotListing.field-0-is (subst (NamesLine c.args.text.now) c.in-Err-NotListing.field-0-is c.in-Err-NotListing.ensures.line)
+    let line = subst (NamesLine c.args.text.now) c.in-Err-NotListing.field-0-is c.in-Err-NotListing.ensures.line in
+    let none = subst (NoneBegins c.args.text.now) c.in-Err-NotListing.field-0-is c.in-Err-NotListing.ensures.clear in
+    rw c.in-Err-NotListing.field-0-is (line, none)

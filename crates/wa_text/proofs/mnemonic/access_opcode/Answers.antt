@@ -1,6 +1,7 @@
-use Rattle.std.proofs.lemmas.Option.{IfSome_then}
+use Rattle.wa_text.specs.Mnemonics.{access_names}
+use Rattle.wa_text.proofs.Pieces.{by_rows}
 use Rattle.wa_text.proofs.Tables.{access_named}
 use Rattle.wa_text.proofs.mnemonic.access_opcode.Goals as goal
 
 pub returns : goal.returns
-returns c = IfSome_then _ c.opcode_in.ensures (λ opcode h. access_named opcode c.args.name.now h)
+returns c = by_rows access_names c.args.name.now c.opcode_in.result (λ opcode h. access_named opcode c.args.name.now h) c.opcode_in.ensures

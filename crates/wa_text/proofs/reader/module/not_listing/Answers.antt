@@ -4,8 +4,8 @@ use Rattle.std.specs.List.{count_by}
 use Rattle.std.proofs.lemmas.List.Sums.{sum_by-take-le}
 use Rattle.wa_text.proofs.reader.module.not_listing.Goals as goal
 
-pub returns : goal.returns
-returns c =
+pub returns-clause-line : goal.returns-clause-line
+returns-clause-line c =
     let feeds : ℕ → Bool = λ byte. byte == 10 in
     let few : count_by feeds (take c.args.at c.args.text.now) ≤ count_by feeds c.args.text.now = sum_by-take-le (λ byte. cond (byte == 10) 1 0) c.args.text.now c.args.at in
     (omega arith, omega (arith, c.line_feeds-feeds.ensures.count, few))
