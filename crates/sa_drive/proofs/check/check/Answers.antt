@@ -11,8 +11,8 @@ returns-in-Ok-clause-does g c =
       rw c.without_module.ensures.cause c.print.ensures.printed,
     ))
 
-pub returns-clause-does : goal.returns-clause-does
-returns-clause-does g c =
+pub returns-in-Err-clause-does : goal.returns-in-Err-clause-does
+returns-in-Err-clause-does g c =
     rw (← c.as_slice.ensures.value) (inl (
       given_none_or _ _ _ _ _ _ c.in-Err.is c.check_files-sources.ensures.core c.check_files-sources.ensures.files c.unaccepted.ensures.sources c.unaccepted.ensures.cause c.unaccepted.ensures.bytes,
       refl,
