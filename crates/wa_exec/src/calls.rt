@@ -27,16 +27,16 @@ pub(crate) struct Caller {
 /// The open activations, and where the last one is.
 #[derive(Drop)]
 pub(crate) struct Calls {
-    pub region: Region,
-    pub callers: Vec<Caller>,
     /// The place of the next instruction.
     pub at: usize,
-    /// The height of the operands.
+    pub region: Region,
+    pub callers: Vec<Caller>,
+    /// The height of the operands. It is no neighbour of the place, since two that are copied as one wait for both to be written.
     pub height: usize,
 }
 
 /// How many words the top frame has.
-#[inline]
+#[inline(always)]
 fn top_len(region: &Region) -> usize
     ensures { result ≡ length (top region.now) }
 {
@@ -47,7 +47,7 @@ fn top_len(region: &Region) -> usize
 }
 
 /// Whether the top frame has so many words from a place on.
-#[inline]
+#[inline(always)]
 fn has_words(region: &Region, from: usize, count: u32) -> bool
     ensures { result ≡ nat_le (from + count) (length (top region.now)) }
 {
@@ -56,6 +56,7 @@ fn has_words(region: &Region, from: usize, count: u32) -> bool
 }
 
 /// Opens the frame of a function, whose first words are the top `params` operands of the frame below.
+#[inline(always)]
 fn open_frame(region: &mut Region, from: usize, params: u32, len: u32) -> Result<(), Halt>
     ensures inside { IfErr result IsInside }
     ensures memory { IfErr result (λ halt. halt ≡ Halt.NoMemory) }
@@ -74,7 +75,7 @@ fn open_frame(region: &mut Region, from: usize, params: u32, len: u32) -> Result
 }
 
 /// Closes the top frame, if there is one.
-#[inline]
+#[inline(always)]
 fn close_frame(region: &mut Region)
     ensures { region.new ≡ drop 1 region.old }
 {
@@ -112,9 +113,9 @@ impl Calls {
         ensures { AreNone result }
     {
         Calls {
+            at: 0,
             region: Region::new(alloc),
             callers: Vec::new(alloc),
-            at: 0,
             height: 0,
         }
     }
@@ -131,6 +132,7 @@ impl Calls {
     /// # Errors
     ///
     /// `TooDeep` where 40,000 are open, and `NoMemory`.
+    #[inline(always)]
     pub(crate) fn enter(&mut self, body: Body) -> Result<(), Halt>
         ensures ok { OnOk result (vec_len self.new.callers ≡ vec_len self.old.callers + 1) }
         ensures inside { IfErr result IsInside }
@@ -155,7 +157,7 @@ impl Calls {
     }
 
     /// Closes the last activation and goes on in its caller.
-    #[inline]
+    #[inline(always)]
     fn close(&mut self)
         ensures count { vec_len self.new.callers ≡ vec_len self.old.callers - 1 }
         ensures region { self.new.region ≡ drop 1 self.old.region }
@@ -171,7 +173,7 @@ impl Calls {
     }
 
     /// Closes the last activation and goes on in its caller, with the result as an operand.
-    #[inline]
+    #[inline(always)]
     pub(crate) fn leave(&mut self, value: Option<u64>)
         ensures count { vec_len self.new.callers ≡ vec_len self.old.callers - 1 }
         ensures leaves { HasLeft value self.old self.new }

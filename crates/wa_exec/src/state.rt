@@ -74,6 +74,7 @@ impl State {
     }
 
     /// The function that an indirect call through the table calls, whose number is the top operand.
+    #[inline(always)]
     pub(crate) fn callee(&mut self, linked: &Linked, ty: u32) -> Result<u32, TrapKind>
         ensures rest { self.new ≡ record self.old { calls = self.new.calls } }
         ensures looks_up { (place : ℕ) (stack : List ℕ) (below : List (List ℕ))

@@ -4,7 +4,7 @@ ghost use Rattle.std.specs.Prelude.{◌≡◌};
 ghost use Rattle.std.specs.Int.{w32};
 ghost use Rattle.wa_syntax.specs.Numeric.{ieqz, ieq, ine, ilt_s, ilt_u, igt_s, igt_u, ile_s, ile_u, ige_s, ige_u};
 ghost use Rattle.wa_syntax.specs.Numeric.{iclz, ictz, ipopcnt, iadd, isub, imul, idiv_s, idiv_u, irem_s, irem_u, iand};
-ghost use Rattle.wa_syntax.specs.Numeric.{ior, ixor, ishl, ishr_s, ishr_u, irotl, irotr, IsI32Operator, i32_result};
+ghost use Rattle.wa_syntax.specs.Numeric.{ior, ixor, ishl, ishr_s, ishr_u, irotl, irotr, i32_result};
 
 use wa_syntax::{TrapKind, opcode};
 
@@ -230,7 +230,7 @@ fn rotr(a: u32, b: u32) -> u32
 }
 
 /// What the operator of this opcode gives of the operands `a` and `b`. A test gives 0 or 1, and an operator of one operand
-/// ignores `b`.
+/// ignores `b`. What is no operator's opcode stands for the last operator, as in `i32_result`, so that one table of jumps finds each.
 ///
 /// # Errors
 ///
@@ -238,7 +238,6 @@ fn rotr(a: u32, b: u32) -> u32
 #[inline(always)]
 #[tactic(auto, unfolding(wa_syntax::specs::Numeric::i32_result))]
 pub fn i32_op(op: u8, a: u32, b: u32) -> Result<u32, TrapKind>
-    requires { IsI32Operator op }
     ensures { result ≡ i32_result op a b }
 {
     match op {
@@ -270,7 +269,6 @@ pub fn i32_op(op: u8, a: u32, b: u32) -> Result<u32, TrapKind>
         opcode::I32_SHR_S => Ok(shr_s(a, b)),
         opcode::I32_SHR_U => Ok(shr_u(a, b)),
         opcode::I32_ROTL => Ok(rotl(a, b)),
-        opcode::I32_ROTR => Ok(rotr(a, b)),
-        _ => unreachable!(),
+        _ => Ok(rotr(a, b)),
     }
 }

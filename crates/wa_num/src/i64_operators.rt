@@ -4,7 +4,7 @@ ghost use Rattle.std.specs.Prelude.{◌≡◌};
 ghost use Rattle.std.specs.Int.{w32, w64};
 ghost use Rattle.wa_syntax.specs.Numeric.{ieqz, ieq, ine, ilt_s, ilt_u, igt_s, igt_u, ile_s, ile_u, ige_s, ige_u, iclz, ictz};
 ghost use Rattle.wa_syntax.specs.Numeric.{ipopcnt, iadd, isub, imul, idiv_s, idiv_u, irem_s, irem_u, iand, ior, ixor, ishl};
-ghost use Rattle.wa_syntax.specs.Numeric.{ishr_s, ishr_u, irotl, irotr, wrap, extend_s, extend_u, IsI64Operator, i64_result};
+ghost use Rattle.wa_syntax.specs.Numeric.{ishr_s, ishr_u, irotl, irotr, wrap, extend_s, extend_u, i64_result};
 
 use wa_syntax::{TrapKind, opcode};
 
@@ -257,7 +257,7 @@ fn extend_i32_u(a: u64) -> u64
 
 /// What the operator of this opcode gives of the operands `a` and `b`. A test gives 0 or 1, and an operator of one operand
 /// ignores `b`. `i32.wrap_i64` gives the lowest 32 bits of `a`, and `i64.extend_i32_s` and `i64.extend_i32_u` read these
-/// bits alone.
+/// bits alone. What is no operator's opcode stands for the last one, as in `i64_result`, so that one table of jumps finds each.
 ///
 /// # Errors
 ///
@@ -265,7 +265,6 @@ fn extend_i32_u(a: u64) -> u64
 #[inline(always)]
 #[tactic(auto, unfolding(wa_syntax::specs::Numeric::i64_result))]
 pub fn i64_op(op: u8, a: u64, b: u64) -> Result<u64, TrapKind>
-    requires { IsI64Operator op }
     ensures { result ≡ i64_result op a b }
 {
     match op {
@@ -300,7 +299,6 @@ pub fn i64_op(op: u8, a: u64, b: u64) -> Result<u64, TrapKind>
         opcode::I64_ROTR => Ok(rotr(a, b)),
         opcode::I32_WRAP_I64 => Ok(wrap_i64(a)),
         opcode::I64_EXTEND_I32_S => Ok(extend_i32_s(a)),
-        opcode::I64_EXTEND_I32_U => Ok(extend_i32_u(a)),
-        _ => unreachable!(),
+        _ => Ok(extend_i32_u(a)),
     }
 }

@@ -70,6 +70,7 @@ impl Region {
     /// # Errors
     ///
     /// `NoMemory` where there is no memory for the words. The frames are then unchanged.
+    #[inline(always)]
     pub fn enter_with(&mut self, from: usize, count: u32, len: u32) -> Result<(), NoMemory>
         requires within { from + count ≤ length (top self.old) }
         requires room { count ≤ len }
@@ -90,6 +91,7 @@ impl Region {
     }
 
     /// Closes the top frame.
+    #[inline(always)]
     pub fn leave(&mut self)
         requires { 0 < length self.old }
         ensures { self.new ≡ drop 1 self.old }
