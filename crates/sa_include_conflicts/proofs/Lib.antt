@@ -5,3 +5,4 @@ pub mod Marking
 pub mod Grouping
 pub mod FirstConflict
 pub mod LeftStubs
+pub mod Replacements

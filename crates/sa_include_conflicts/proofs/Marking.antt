@@ -1,12 +1,12 @@
 -- Marks at groups.
-use Rattle.std.proofs.Common.{◌≡◌, ◌↔◌, ◌||◌, ℕ, zero, suc, ◌<◌, Bool, true, false, List, Option, None, Some, length, get_or, set, refl, sym, ap, subst, ◌∙◌, ◌⊎◌, inl, inr, ⊎_elim}
+use Rattle.std.proofs.Common.{◌≡◌, ◌↔◌, ◌||◌, ℕ, zero, suc, ◌<◌, Bool, true, false, Option, None, Some, length, get_or, set, refl, sym, ap, ◌∙◌, ◌⊎◌, inl, inr, ⊎_elim}
 use Rattle.std.proofs.lemmas.Bool.{cases_eq, false≢true, true≢false}
 use Rattle.std.proofs.lemmas.List.{get_or-set_same, get_or-set_other}
 use Rattle.std.specs.Option.{option_map_or}
 use Rattle.std.specs.Prelude.{replicate}
 use Rattle.sa_include_conflicts.specs.declared.groups.Groups.{Groups}
 use Rattle.sa_include_conflicts.specs.declared.groups.Marks.{Marks}
-use Rattle.sa_include_conflicts.specs.Sharing.{AddsGroup, AddsGroups, HasGroup, NoneMarked, has_marked, is_marked}
+use Rattle.sa_include_conflicts.specs.Sharing.{AddsGroup, AddsGroups, AddsWhere, HasGroup, NoneMarked, has_marked, is_marked}
 
 replicated : (count place : ℕ) → get_or (replicate count false) place false ≡ false
 replicated zero place = refl
@@ -67,3 +67,14 @@ marked_one groups marks h = by (is_marked marks groups.own) groups.writer refl r
 pub unmarked : (groups : Groups) (marks : Marks) → has_marked groups marks ≡ false → (n : ℕ) → HasGroup groups n → is_marked marks n ≡ false
 unmarked groups marks h n (inl q) = ap (is_marked marks) (sym q) ∙ (or_false (is_marked marks groups.own) (option_map_or (is_marked marks) groups.writer false) h).0
 unmarked groups marks h n (inr q) = ap (λ o. option_map_or (is_marked marks) o false) (sym q) ∙ (or_false (is_marked marks groups.own) (option_map_or (is_marked marks) groups.writer false) h).1
+
+-- ---- groups that are marked where a test holds
+
+module _ (holds : Bool) (groups : Groups) (old new : Marks) where
+  pub marks_added : holds ≡ true → AddsGroups groups old new → AddsWhere holds groups old new
+  marks_added held adds = record { added = λ h. adds; kept = λ h. absurd (true≢false (sym held ∙ h)) }
+
+  pub marks_kept : holds ≡ false → new ≡ old → AddsWhere holds groups old new
+  marks_kept unheld same = record { added = λ h. absurd (false≢true (sym unheld ∙ h)); kept = λ h. same }
+
+pub ruleset added_where = (marks_added, marks_kept)

@@ -1,5 +1,5 @@
 -- The element at a place of two lists that are joined.
-use Rattle.std.proofs.Common.{◌≡◌, ℕ, zero, suc, ◌+◌, ◌-◌, ◌<◌, ◌≤◌, List, [], ◌∷◌, ◌++◌, Some, length, slice_get, ap, ◌∙◌, arith}
+use Rattle.std.proofs.Common.{◌≡◌, ℕ, zero, suc, ◌+◌, ◌-◌, ◌<◌, ◌≤◌, List, [], ◌∷◌, ◌++◌, Some, length, slice_get, sym, ap, ◌∙◌, arith}
 
 module _ {A : Type 0} where
   pub first_part : (xs ys : List A) (i : ℕ) (x : A) → slice_get xs i ≡ Some x → slice_get (xs ++ ys) i ≡ Some x
@@ -14,5 +14,13 @@ module _ {A : Type 0} where
 
   pub second_part : (xs ys : List A) (i : ℕ) (x : A) → length xs ≤ i → slice_get ys (i - length xs) ≡ Some x → slice_get (xs ++ ys) i ≡ Some x
   second_part xs ys i x le h = behind xs ys i (i - length xs) (omega (arith, le)) ∙ h
+
+  pub first_part_back : (xs ys : List A) (i : ℕ) (x : A) → i < length xs → slice_get (xs ++ ys) i ≡ Some x → slice_get xs i ≡ Some x
+  first_part_back [] ys i x lt h = absurd (omega (arith, lt))
+  first_part_back (y ∷ xs) ys zero x lt h = h
+  first_part_back (y ∷ xs) ys (suc i) x lt h = first_part_back xs ys i x (omega (arith, lt)) h
+
+  pub second_part_back : (xs ys : List A) (i : ℕ) (x : A) → length xs ≤ i → slice_get (xs ++ ys) i ≡ Some x → slice_get ys (i - length xs) ≡ Some x
+  second_part_back xs ys i x le h = sym (behind xs ys i (i - length xs) (omega (arith, le))) ∙ h
 
 pub ruleset places = (first_part, second_part)

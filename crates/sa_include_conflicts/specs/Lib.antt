@@ -5,3 +5,4 @@ pub mod Sharing
 pub mod Stub
 pub mod Known
 pub mod Brought
+pub mod Staying

@@ -86,3 +86,8 @@ pub record AddsGroup (group : ℕ) (old new : Marks) : Type 0 where
 -- those of a feature are
 pub record AddsGroups (groups : Groups) (old new : Marks) : Type 0 where
   pub exactly : (n : ℕ) → (is_marked new n ≡ true) ↔ ((is_marked old n ≡ true) ⊎ HasGroup groups n)
+
+-- they are marked too where the test holds
+pub record AddsWhere (holds : Bool) (groups : Groups) (old new : Marks) : Type 0 where
+  pub added : holds ≡ true → AddsGroups groups old new
+  pub kept : holds ≡ false → new ≡ old

@@ -42,14 +42,6 @@ impl<'a> ClassFeatures<'a> {
         }
         item(self.written, place - brought)
     }
-
-    /// Whether there is a stub at a place.
-    pub(crate) fn is_stub(&self, place: usize) -> bool {
-        match self.at(place) {
-            Ok(feature) => is_stub(feature),
-            Err(_) => false,
-        }
-    }
 }
 
 /// Whether a feature is a stub, which the including class has to give.

@@ -1,7 +1,7 @@
 //! Groups of signatures that conflict with one another, and marks at them.
 
 ghost use Rattle.std.specs.Prelude.{◌≡◌, IfOk, OnOk, false, ℕ};
-ghost use Rattle.sa_include_conflicts.specs.Sharing.{AddsGroup, AddsGroups, NoneMarked, has_marked, is_marked};
+ghost use Rattle.sa_include_conflicts.specs.Sharing.{AddsGroup, AddsGroups, AddsWhere, NoneMarked, has_marked, is_marked};
 
 use sa_tree::NoMemory;
 use std::alloc::Global;
@@ -55,6 +55,17 @@ impl Marks {
             }
             None => Ok(()),
         }
+    }
+
+    /// Marks them where a test holds.
+    #[tactic(auto, using(crate::proofs::Marking::added_where))]
+    pub(crate) fn add_where(&mut self, holds: bool, groups: &Groups) -> Result<(), NoMemory>
+        ensures { OnOk result (AddsWhere holds groups.now self.old self.new) }
+    {
+        if holds {
+            return self.add(groups);
+        }
+        Ok(())
     }
 
     fn is_marked(&self, group: usize) -> bool

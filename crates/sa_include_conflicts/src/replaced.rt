@@ -1,12 +1,16 @@
 //! Which features of a class are replaced. A written feature replaces the included ones that conflict with it. A stub is
 //! replaced by each conflicting feature that is none, and then replaces nothing itself.
 
+ghost use Rattle.std.specs.Prelude.{◌≡◌, ◌&&◌, IfOk, Some, not, slice_get};
+ghost use Rattle.sa_include_conflicts.specs.Sharing.{AreGrouped, has_marked};
+ghost use Rattle.sa_include_conflicts.specs.Staying as spec;
+ghost use Rattle.sa_include_conflicts.specs.Staying.{AreMarked, AreReplacing, all_stay, body_marked, brought_kept, is_body, written_kept};
+ghost use Rattle.sa_include_conflicts.specs.Stub.{is_stub_part};
+
 use crate::conflicts::Conflicts;
-use crate::features::ClassFeatures;
-use crate::groups::Marks;
-use crate::lists::is_set;
-use sa_graph::put;
-use sa_tree::NoMemory;
+use crate::features::{ClassFeatures, is_stub};
+use crate::groups::{Groups, Marks};
+use sa_tree::{Feature, NoMemory};
 use std::alloc::Global;
 
 /// For each feature of a class, by its place, whether it stays: all do but those that are replaced.
@@ -14,68 +18,183 @@ use std::alloc::Global;
 /// # Errors
 ///
 /// `NoMemory`.
+#[tactic(auto, using(crate::proofs::Replacements::all_at))]
 pub fn staying(
     alloc: Global,
     features: &ClassFeatures<'_>,
     conflicts: &Conflicts,
-) -> Result<Vec<bool>, NoMemory> {
-    let (brought, all) = (features.brought.len(), features.len());
-    let mut stays = vec![in alloc; true; all]?;
-    let mut replacement = Replacement {
-        features,
-        conflicts,
-        taken: Marks::none(alloc, conflicts.count)?,
-    };
-    // Each kind is replaced by those before it, so that a feature that is replaced replaces none.
-    replacement.take(&stays, false, brought, all)?;
-    replacement.leave(&mut stays, false, 0, brought)?;
-    replacement.take(&stays, false, 0, brought)?;
-    replacement.leave(&mut stays, true, brought, all)?;
-    replacement.take(&stays, true, brought, all)?;
-    replacement.leave(&mut stays, true, 0, brought)?;
+) -> Result<Vec<bool>, NoMemory>
+    requires { AreGrouped features.now conflicts.now }
+    ensures { IfOk result (λ stays. stays.items ≡ all_stay features.now) }
+{
+    let replacing = replacing_groups(alloc, features, conflicts)?;
+    let mut stays = Vec::new(alloc);
+    for place in 0..features.len() {
+        stays.push(replacing.stays(features, conflicts, place)?)?;
+    }
     Ok(stays)
 }
 
+/// The groups of the features that replace those that conflict with them.
 #[derive(Drop)]
-struct Replacement<'a> {
-    features: &'a ClassFeatures<'a>,
-    conflicts: &'a Conflicts,
-    /// The groups of the features that replace what conflicts with them.
-    taken: Marks,
+struct Replacing {
+    /// Of the features that the class writes and that are no stubs.
+    written_bodies: Marks,
+    /// Of the brought ones that are none and stay.
+    brought_bodies: Marks,
+    /// Of the written stubs that stay.
+    written_stubs: Marks,
 }
 
-impl<'a> Replacement<'a> {
-    /// Lets the stubs, or the others, from a place up to another replace what comes after them, as far as they stay.
-    fn take(
-        &mut self,
-        stays: &[bool],
-        stubs: bool,
-        from: usize,
-        to: usize,
-    ) -> Result<(), NoMemory> {
-        for place in from..to {
-            if self.features.is_stub(place) == stubs && is_set(stays, place) {
-                let groups = self.conflicts.at(place)?;
-                self.taken.add(&groups)?;
-            }
+#[tactic(auto, using(crate::proofs::Replacements::are_replacing))]
+fn replacing_groups(
+    alloc: Global,
+    features: &ClassFeatures<'_>,
+    conflicts: &Conflicts,
+) -> Result<Replacing, NoMemory>
+    requires { AreGrouped features.now conflicts.now }
+    ensures { IfOk result (AreReplacing features.now conflicts.now) }
+{
+    let written_bodies = mark_written_bodies(alloc, features, conflicts)?;
+    let brought_bodies = mark_brought_bodies(alloc, features, conflicts, &written_bodies)?;
+    let written_stubs = mark_written_stubs(
+        alloc,
+        features,
+        conflicts,
+        &written_bodies,
+        &brought_bodies,
+    )?;
+    Ok(Replacing {
+        written_bodies,
+        brought_bodies,
+        written_stubs,
+    })
+}
+
+#[tactic(auto, using(crate::proofs::Replacements::marking))]
+fn mark_written_bodies(
+    alloc: Global,
+    features: &ClassFeatures<'_>,
+    conflicts: &Conflicts,
+) -> Result<Marks, NoMemory>
+    requires { AreGrouped features.now conflicts.now }
+    ensures { IfOk result (AreMarked features.now conflicts.now (spec.written_bodies features.now.immutable features.now.written.now)) }
+{
+    let first = features.brought.len();
+    let mut marks = Marks::none(alloc, conflicts.count)?;
+    for (place, feature) in features.written.iter().enumerate() {
+        let groups = conflicts.at(first + place)?;
+        marks.add_where(is_body(feature), &groups)?;
+    }
+    Ok(marks)
+}
+
+/// `written` has the groups of the written features that are no stubs.
+#[tactic(auto, using(crate::proofs::Replacements::marking))]
+fn mark_brought_bodies(
+    alloc: Global,
+    features: &ClassFeatures<'_>,
+    conflicts: &Conflicts,
+    written: &Marks,
+) -> Result<Marks, NoMemory>
+    requires grouped { AreGrouped features.now conflicts.now }
+    requires written { AreMarked features.now conflicts.now (spec.written_bodies features.now.immutable features.now.written.now) written.now }
+    ensures { IfOk result (AreMarked features.now conflicts.now
+        (spec.brought_bodies features.now.immutable features.now.brought.now features.now.written.now)) }
+{
+    let mut marks = Marks::none(alloc, conflicts.count)?;
+    for (place, feature) in features.brought.iter().enumerate() {
+        let groups = conflicts.at(place)?;
+        marks.add_where(is_staying_body(feature, &groups, written), &groups)?;
+    }
+    Ok(marks)
+}
+
+/// `written` and `brought` have the groups of the features that are no stubs and stay.
+#[tactic(auto, using(crate::proofs::Replacements::marking))]
+fn mark_written_stubs(
+    alloc: Global,
+    features: &ClassFeatures<'_>,
+    conflicts: &Conflicts,
+    written: &Marks,
+    brought: &Marks,
+) -> Result<Marks, NoMemory>
+    requires grouped { AreGrouped features.now conflicts.now }
+    requires written { AreMarked features.now conflicts.now (spec.written_bodies features.now.immutable features.now.written.now) written.now }
+    requires brought { AreMarked features.now conflicts.now
+        (spec.brought_bodies features.now.immutable features.now.brought.now features.now.written.now) brought.now }
+    ensures { IfOk result (AreMarked features.now conflicts.now
+        (spec.written_stubs features.now.immutable features.now.brought.now features.now.written.now)) }
+{
+    let first = features.brought.len();
+    let mut marks = Marks::none(alloc, conflicts.count)?;
+    for (place, feature) in features.written.iter().enumerate() {
+        let groups = conflicts.at(first + place)?;
+        marks.add_where(is_staying_stub(feature, &groups, written, brought), &groups)?;
+    }
+    Ok(marks)
+}
+
+impl Replacing {
+    /// Whether the feature at a place stays.
+    #[tactic(auto, using(crate::proofs::Replacements::one_stays))]
+    fn stays(
+        &self,
+        features: &ClassFeatures<'_>,
+        conflicts: &Conflicts,
+        place: usize,
+    ) -> Result<bool, NoMemory>
+        requires { AreReplacing features.now conflicts.now self.now }
+        ensures { IfOk result (λ stays. slice_get (all_stay features.now) place ≡ Some stays) }
+    {
+        let feature = features.at(place)?;
+        let groups = conflicts.at(place)?;
+        if place < features.brought.len() {
+            return Ok(self.keeps_brought(feature, &groups));
         }
-        Ok(())
+        Ok(self.keeps_written(feature, &groups))
     }
 
-    /// Leaves out the stubs, or the others, from a place up to another that conflict with what replaces them.
-    fn leave(
-        &self,
-        stays: &mut [bool],
-        stubs: bool,
-        from: usize,
-        to: usize,
-    ) -> Result<(), NoMemory> {
-        for place in from..to {
-            let groups = self.conflicts.at(place)?;
-            if self.features.is_stub(place) == stubs && self.taken.has(&groups) {
-                put(stays, place, false)?;
-            }
+    fn keeps_brought(&self, feature: &Feature, groups: &Groups) -> bool
+        ensures { result ≡ brought_kept self.now feature.now groups.now }
+    {
+        if is_stub(feature) {
+            let replaced = meets_body(&self.written_bodies, &self.brought_bodies, groups);
+            return !(replaced || self.written_stubs.has(groups));
         }
-        Ok(())
+        !self.written_bodies.has(groups)
     }
+
+    fn keeps_written(&self, feature: &Feature, groups: &Groups) -> bool
+        ensures { result ≡ written_kept self.now feature.now groups.now }
+    {
+        is_body(feature) || !meets_body(&self.written_bodies, &self.brought_bodies, groups)
+    }
+}
+
+/// Whether a brought feature with these groups is no stub and stays.
+fn is_staying_body(feature: &Feature, groups: &Groups, written: &Marks) -> bool
+    ensures { result ≡ (is_body feature.now && not (has_marked groups.now written.now)) }
+{
+    is_body(feature) && !written.has(groups)
+}
+
+/// Whether a written feature with these groups is a stub and stays.
+fn is_staying_stub(feature: &Feature, groups: &Groups, written: &Marks, brought: &Marks) -> bool
+    ensures { result ≡ (is_stub_part feature.now.part && not (body_marked written.now brought.now groups.now)) }
+{
+    is_stub(feature) && !meets_body(written, brought, groups)
+}
+
+fn is_body(feature: &Feature) -> bool
+    ensures { result ≡ is_body feature.now }
+{
+    !is_stub(feature)
+}
+
+/// Whether one of these groups is that of a feature that is no stub and stays.
+fn meets_body(written: &Marks, brought: &Marks, groups: &Groups) -> bool
+    ensures { result ≡ body_marked written.now brought.now groups.now }
+{
+    written.has(groups) || brought.has(groups)
 }
