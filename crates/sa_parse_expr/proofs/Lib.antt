@@ -1,3 +1,5 @@
 mod Innermost
 mod Precedences
+mod SpelledTypes
+mod Stretches
 mod Taken

@@ -1,11 +1,13 @@
 -- What the grammar reads of a file's tokens.
-use Rattle.std.specs.Prelude.{◌≡◌, ℕ, List, map, slice_range}
+use Rattle.std.specs.Prelude.{◌≡◌, ℕ, List, Some, map, slice_range}
 use Rattle.sa_lex.specs.declared.token.Token.{Token}
 use Rattle.sa_lex.specs.declared.token.TokenKind.{TokenKind}
 use Rattle.sa_lex.specs.declared.token.TokenKind.TheVariants as token
 use Rattle.sa_lex.specs.declared.sign.Sign.{Sign}
 use Rattle.sa_lex.specs.declared.word.Word.{Word}
 use Rattle.sa_tree.specs.declared.pos.Pos.{Pos}
+use Rattle.sa_parse_expr.specs.declared.tokens.Tokens.{Tokens}
+use Rattle.sa_parse_expr.specs.Places.{bytes_at, kind_at, start_at}
 
 -- a token by its kind, its bytes and the position of its first byte
 pub record Lexeme : Type 0 where
@@ -23,6 +25,24 @@ lexemes_of file text tokens =
       pos = record { file = file; at = token.start };
     })
     tokens
+
+-- those of a file from a place up to another one
+unfoldable pub between : Tokens → ℕ → ℕ → List Lexeme
+between t from next = slice_range (lexemes_of t.file t.src.now t.list.now) from next
+
+-- the token of this kind that stands at a place
+abbrev pub lexeme_at : Tokens → ℕ → TokenKind → Lexeme
+lexeme_at t at kind = record {
+  kind = kind;
+  bytes = bytes_at t.src.now t.list.now at;
+  pos = record { file = t.file; at = start_at t.src.now t.list.now at };
+}
+
+-- such a lexeme stands at a place
+pub record Stands (P : Lexeme → Type 0) (t : Tokens) (at : ℕ) : Type 0 where
+  pub kind : TokenKind
+  pub there : kind_at t.list.now at ≡ Some kind
+  pub is : P (lexeme_at t at kind)
 
 -- this word
 pub record IsWord (word : Word) (l : Lexeme) : Type 0 where

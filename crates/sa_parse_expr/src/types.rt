@@ -14,7 +14,9 @@
 //! C is a class name or an abstract name. `once` stands in the arguments of ITER alone.
 
 ghost use Rattle.std.specs.Prelude.{◌≤◌, IfErr, IfOk, length};
+ghost use Rattle.sa_parse_expr.specs.Lexemes.{between};
 ghost use Rattle.sa_parse_expr.specs.Places.{IsBehind, IsFrom, IsUnexpected};
+ghost use Rattle.sa_parse_expr.specs.Types.{IsBoundArgs, IsBoundResult, IsGivenTypes, IsMode, IsModeType, IsModeTypes, IsType, IsTypes};
 
 use crate::tokens::Tokens;
 use sa_lex::{Sign, TokenKind, Word};
@@ -35,6 +37,7 @@ pub enum CallableKind {
 #[cycle(ty)]
 pub fn read_type(alloc: Global, tokens: &Tokens<'_>, from: u32) -> Result<(Ty, u32), FrontFault>
     ensures next { IfOk result (λ read. IsBehind tokens.now.list.now from read.1) }
+    ensures spelled { IfOk result (λ read. IsType (between tokens.now from read.1) read.0) }
     ensures refused { IfErr result (IsUnexpected tokens.now.file) }
 {
     let pos = tokens.pos(from);
@@ -68,6 +71,7 @@ fn given_types(
 ) -> Result<(Items<Ty>, u32), FrontFault>
     requires { from ≤ length tokens.now.list.now }
     ensures next { IfOk result (λ read. IsFrom tokens.now.list.now from read.1) }
+    ensures spelled { IfOk result (λ read. IsGivenTypes (between tokens.now from read.1) read.0) }
     ensures refused { IfErr result (IsUnexpected tokens.now.file) }
 {
     if !tokens.is_sign(from, Sign::LeftBrace) {
@@ -85,6 +89,7 @@ pub fn read_types(
     from: u32,
 ) -> Result<(Items<Ty>, u32), FrontFault>
     ensures next { IfOk result (λ read. IsBehind tokens.now.list.now from read.1) }
+    ensures spelled { IfOk result (λ read. IsTypes (between tokens.now from read.1) read.0) }
     ensures refused { IfErr result (IsUnexpected tokens.now.file) }
 {
     let (first, mut next) = read_type(alloc, tokens, from)?;
@@ -108,6 +113,7 @@ fn bound_args(
 ) -> Result<(Items<ModeTy>, u32), FrontFault>
     requires { from ≤ length tokens.now.list.now }
     ensures next { IfOk result (λ read. IsFrom tokens.now.list.now from read.1) }
+    ensures spelled { IfOk result (λ read. IsBoundArgs callable (between tokens.now from read.1) read.0) }
     ensures refused { IfErr result (IsUnexpected tokens.now.file) }
 {
     if !tokens.is_sign(from, Sign::LeftBrace) {
@@ -126,6 +132,7 @@ fn mode_types(
     from: u32,
 ) -> Result<(Items<ModeTy>, u32), FrontFault>
     ensures next { IfOk result (λ read. IsBehind tokens.now.list.now from read.1) }
+    ensures spelled { IfOk result (λ read. IsModeTypes callable (between tokens.now from read.1) read.0) }
     ensures refused { IfErr result (IsUnexpected tokens.now.file) }
 {
     let (first, mut next) = mode_type(alloc, tokens, callable, from)?;
@@ -148,6 +155,7 @@ fn mode_type(
     from: u32,
 ) -> Result<(ModeTy, u32), FrontFault>
     ensures next { IfOk result (λ read. IsBehind tokens.now.list.now from read.1) }
+    ensures spelled { IfOk result (λ read. IsModeType callable (between tokens.now from read.1) read.0) }
     ensures refused { IfErr result (IsUnexpected tokens.now.file) }
 {
     let (mode, next) = read_mode(tokens, callable, from);
@@ -164,6 +172,7 @@ fn bound_result(
 ) -> Result<(Option<Boxed<Ty>>, u32), FrontFault>
     requires { from ≤ length tokens.now.list.now }
     ensures next { IfOk result (λ read. IsFrom tokens.now.list.now from read.1) }
+    ensures spelled { IfOk result (λ read. IsBoundResult (between tokens.now from read.1) read.0) }
     ensures refused { IfErr result (IsUnexpected tokens.now.file) }
 {
     if !tokens.is_sign(from, Sign::Colon) {
@@ -178,6 +187,7 @@ fn bound_result(
 pub fn read_mode(tokens: &Tokens<'_>, callable: CallableKind, from: u32) -> (Mode, u32)
     ensures from { from ≤ result.1 }
     ensures within { from ≤ length tokens.now.list.now → result.1 ≤ length tokens.now.list.now }
+    ensures spelled { IsMode callable (between tokens.now from result.1) result.0 }
 {
     match tokens.kind(from) {
         Some(TokenKind::Word(Word::Out)) => (Mode::Out, from + 1),

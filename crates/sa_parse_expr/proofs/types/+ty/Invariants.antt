@@ -1,5 +1,7 @@
 -- The tokens that are left, and a production before those that it begins with.
 use Rattle.std.proofs.Common.{length, ◌+◌, ◌-◌, ◌*◌}
+use Rattle.sa_parse_expr.specs.Types.{IsModeTypes, IsTypes}
+use Rattle.sa_parse_expr.specs.Lexemes.{between}
 use Rattle.sa_parse_expr.specs.Places.{IsBehind}
 use Rattle.sa_parse_expr.proofs.types.+ty.Given as goal
 
@@ -25,13 +27,19 @@ abbrev pub decreases-bound_result : goal.decreases-bound_result
 decreases-bound_result l = 3 * (length l.tokens.now.list.now - l.from)
 
 abbrev pub invariant-mode_types-more : goal.invariant-mode_types-more
-invariant-mode_types-more l = IsBehind l.tokens.list.now l.from l.next
+invariant-mode_types-more l = record {
+  behind : IsBehind l.tokens.list.now l.from l.next;
+  spelled : IsModeTypes l.callable (between l.tokens l.from l.next) l.args;
+}
 
 abbrev pub decreases-mode_types-more : goal.decreases-mode_types-more
 decreases-mode_types-more l = length l.tokens.list.now - l.next
 
 abbrev pub invariant-read_types-more : goal.invariant-read_types-more
-invariant-read_types-more l = IsBehind l.tokens.list.now l.from l.next
+invariant-read_types-more l = record {
+  behind : IsBehind l.tokens.list.now l.from l.next;
+  spelled : IsTypes (between l.tokens l.from l.next) l.types;
+}
 
 abbrev pub decreases-read_types-more : goal.decreases-read_types-more
 decreases-read_types-more l = length l.tokens.list.now - l.next

@@ -1,0 +1,108 @@
+-- The lexemes between two places, parted behind their first, at a place between, or in front of their last.
+use Rattle.std.proofs.Common.{◌≡◌, ℕ, suc, ◌+◌, ◌-◌, ◌<◌, ◌≤◌, List, [], ◌∷◌, ◌++◌, Option, Some, None, length, take, drop, slice_get, slice_range, ap, ◌∙◌, inl, inr, arith}
+use Rattle.std.specs.Option.{option_map, option_map_or}
+use Rattle.std.proofs.Math.Seq.{take-add, drop-cons}
+use Rattle.std.proofs.lemmas.List.{drop-drop}
+use Rattle.std.proofs.lemmas.Option.{slice_get_within, slice_get-map, slice_get_cases, get_or_from_slice_get, none-some, same_Some}
+use Rattle.sa_lex.specs.declared.token.Token.{Token}
+use Rattle.sa_lex.specs.declared.token.TokenKind.{TokenKind}
+use Rattle.sa_tree.specs.declared.pos.Pos.{Pos}
+use Rattle.sa_parse_expr.specs.declared.tokens.Tokens.{Tokens}
+use Rattle.sa_parse_expr.specs.Lexemes.{Lexeme, lexemes_of, lexeme_at, between}
+use Rattle.sa_parse_expr.specs.Places.{kind_at, bytes_at, start_at}
+
+slice_range-none : {X : Type 0} (xs : List X) (at : ℕ) → slice_range xs at at ≡ []
+slice_range-none xs at =
+    let none : at - at ≡ 0 = omega arith in
+    ap (λ (n : ℕ). take n (drop at xs)) none
+
+slice_range-join : {X : Type 0} (xs : List X) (a b c : ℕ) → a ≤ b → b ≤ c → slice_range xs a c ≡ slice_range xs a b ++ slice_range xs b c
+slice_range-join {X = X} xs a b c h k =
+    let sum : c - a ≡ b - a + (c - b) = omega arith in
+    let back : a + (b - a) ≡ b = omega arith in
+    ap (λ (n : ℕ). take n (drop a xs)) sum
+    ∙ (take-add (b - a) (c - b) (drop a xs)
+    ∙ ap (λ (ys : List X). slice_range xs a b ++ take (c - b) ys) (drop-drop (b - a) a xs ∙ ap (λ (n : ℕ). drop n xs) back))
+
+slice_range-more : {X : Type 0} (xs : List X) (at next : ℕ) (x : X) → slice_get xs at ≡ Some x → at < next → slice_range xs at next ≡ x ∷ slice_range xs (at + 1) next
+slice_range-more {X = X} xs at next x there before =
+    let one_more : next - at ≡ suc (next - (at + 1)) = omega arith in
+    let same : suc at ≡ at + 1 = omega arith in
+    let here : drop at xs ≡ x ∷ drop (at + 1) xs =
+    drop-cons xs at x (slice_get_within xs at x there)
+    ∙ (ap (λ (y : X). y ∷ drop (suc at) xs) (get_or_from_slice_get xs at x x there)
+    ∙ ap (λ (n : ℕ). x ∷ drop n xs) same) in
+    ap (λ (n : ℕ). take n (drop at xs)) one_more ∙ ap (λ (ys : List X). take (suc (next - (at + 1))) ys) here
+
+-- the position of what stands at a place
+abbrev pub pos_at : Tokens → ℕ → Pos
+pos_at t at = record { file = t.file; at = start_at t.src.now t.list.now at }
+
+-- what the grammar reads of a token
+abbrev read_as : ℕ → List ℕ → Token → Lexeme
+read_as file text token = record {
+  kind = token.kind;
+  bytes = slice_range text token.start token.end;
+  pos = record { file = file; at = token.start };
+}
+
+lexeme_found : (file : ℕ) (text : List ℕ) (o : Option Token) (kind : TokenKind)
+    → option_map (λ (token : Token). token.kind) o ≡ Some kind
+    → option_map (read_as file text) o
+    ≡ Some (record {
+      kind = kind;
+      bytes = option_map_or (λ (token : Token). slice_range text token.start token.end) o [];
+      pos = record { file = file; at = option_map_or (λ (token : Token). token.start) o (length text) };
+    })
+lexeme_found file text None kind there = absurd (none-some kind there)
+lexeme_found file text (Some token) kind there =
+    ap (λ (k : TokenKind). Some (record { kind = k; bytes = slice_range text token.start token.end; pos = record { file = file; at = token.start } }))
+    (same_Some token.kind kind there)
+
+module _ (t : Tokens) where
+  found : (at : ℕ) (kind : TokenKind) → kind_at t.list.now at ≡ Some kind → slice_get (lexemes_of t.file t.src.now t.list.now) at ≡ Some (lexeme_at t at kind)
+  unfolding kind_at bytes_at start_at
+  found at kind there = slice_get-map (read_as t.file t.src.now) t.list.now at ∙ lexeme_found t.file t.src.now (slice_get t.list.now at) kind there
+
+  pub none : (at : ℕ) → between t at at ≡ []
+  unfolding between
+  none at = slice_range-none (lexemes_of t.file t.src.now t.list.now) at
+
+  pub join : (a b c : ℕ) → a ≤ b → b ≤ c → between t a c ≡ between t a b ++ between t b c
+  unfolding between
+  join a b c h k = slice_range-join (lexemes_of t.file t.src.now t.list.now) a b c h k
+
+  pub front : (at next : ℕ) (kind : TokenKind) → kind_at t.list.now at ≡ Some kind → at < next → between t at next ≡ lexeme_at t at kind ∷ between t (at + 1) next
+  unfolding between
+  front at next kind there before = slice_range-more (lexemes_of t.file t.src.now t.list.now) at next (lexeme_at t at kind) (found at kind there) before
+
+  pub alone : (at : ℕ) (kind : TokenKind) → kind_at t.list.now at ≡ Some kind → between t at (at + 1) ≡ lexeme_at t at kind ∷ []
+  alone at kind there = front at (at + 1) kind there (omega arith) ∙ ap (λ (ls : List Lexeme). lexeme_at t at kind ∷ ls) (none (at + 1))
+
+  -- a token in front of two stretches
+  pub front_join : (at mid next : ℕ) (kind : TokenKind) → kind_at t.list.now at ≡ Some kind → at < mid → mid ≤ next → between t at next ≡ lexeme_at t at kind ∷ (between t (at + 1) mid ++ between t mid next)
+  front_join at mid next kind there before behind =
+      front at next kind there (omega arith) ∙ ap (λ (ls : List Lexeme). lexeme_at t at kind ∷ ls) (join (at + 1) mid next (omega arith) behind)
+
+  -- a token between two stretches
+  pub parted : (from mid next : ℕ) (kind : TokenKind) → kind_at t.list.now mid ≡ Some kind → from ≤ mid → mid < next → between t from next ≡ between t from mid ++ lexeme_at t mid kind ∷ between t (mid + 1) next
+  parted from mid next kind there before behind =
+      join from mid next before (omega arith) ∙ ap (λ (ls : List Lexeme). between t from mid ++ ls) (front mid next kind there behind)
+
+  -- a token behind a stretch
+  pub ended : (from mid : ℕ) (kind : TokenKind) → kind_at t.list.now mid ≡ Some kind → from ≤ mid → between t from (mid + 1) ≡ between t from mid ++ lexeme_at t mid kind ∷ []
+  ended from mid kind there before =
+      join from mid (mid + 1) before (omega arith) ∙ ap (λ (ls : List Lexeme). between t from mid ++ ls) (alone mid kind there)
+
+  -- a token in front of a stretch, and one behind it
+  pub enclosed : (at mid : ℕ) (opening closing : TokenKind) → kind_at t.list.now at ≡ Some opening → kind_at t.list.now mid ≡ Some closing → at < mid → between t at (mid + 1) ≡ lexeme_at t at opening ∷ (between t (at + 1) mid ++ lexeme_at t mid closing ∷ [])
+  enclosed at mid opening closing opens closes before =
+      front at (mid + 1) opening opens (omega arith) ∙ ap (λ (ls : List Lexeme). lexeme_at t at opening ∷ ls) (ended (at + 1) mid closing closes (omega arith))
+
+  -- up to its end some token stands at each place
+  pub standing : (at : ℕ) → at < length t.list.now → (kind : TokenKind) × (kind_at t.list.now at ≡ Some kind)
+  unfolding kind_at
+  standing at within = elim (slice_get_cases t.list.now at).1 [
+    | inl found ↦ (found.0.kind, ap (option_map (λ (token : Token). token.kind)) found.2)
+    | inr past ↦ absurd (omega (arith, past.0))
+  ]

@@ -1,0 +1,42 @@
+use Rattle.std.proofs.Common.{◌≡◌, Some, refl, rules, arith}
+use Rattle.sa_lex.specs.declared.token.TokenKind.TheVariants as token
+use Rattle.sa_lex.specs.declared.word.Word.TheVariants as word
+use Rattle.sa_tree.specs.declared.ty.Mode.TheVariants.{In, Out, Inout, Once}
+use Rattle.sa_parse_expr.specs.declared.types.CallableKind.TheVariants.{Iter}
+use Rattle.sa_parse_expr.specs.Places.{kind_at}
+use Rattle.sa_parse_expr.specs.Types as types
+use Rattle.sa_parse_expr.proofs.SpelledTypes.{mode_word, no_mode}
+use Rattle.sa_parse_expr.proofs.types.read_mode.Goals as goal
+
+pub returns-in-Some-Word-Out-clause-spelled : goal.returns-in-Some-Word-Out-clause-spelled
+returns-in-Some-Word-Out-clause-spelled c =
+    let there : kind_at c.args.tokens.now.list.now c.args.from ≡ Some (token.Word word.Out) = grind arith in
+    mode_word c.args.tokens.now c.args.callable Out (token.Word word.Out) c.args.from there (types.out_word (record { kind = refl }))
+
+pub returns-in-Some-Word-Inout-clause-spelled : goal.returns-in-Some-Word-Inout-clause-spelled
+returns-in-Some-Word-Inout-clause-spelled c =
+    let there : kind_at c.args.tokens.now.list.now c.args.from ≡ Some (token.Word word.Inout) = grind arith in
+    mode_word c.args.tokens.now c.args.callable Inout (token.Word word.Inout) c.args.from there (types.inout_word (record { kind = refl }))
+
+pub returns-in-Some-Word-In-clause-spelled : goal.returns-in-Some-Word-In-clause-spelled
+returns-in-Some-Word-In-clause-spelled c =
+    let there : kind_at c.args.tokens.now.list.now c.args.from ≡ Some (token.Word word.In) = grind arith in
+    mode_word c.args.tokens.now c.args.callable In (token.Word word.In) c.args.from there (types.in_word (record { kind = refl }))
+
+pub returns-in-Some-Word-Once-clause-spelled : goal.returns-in-Some-Word-Once-clause-spelled
+returns-in-Some-Word-Once-clause-spelled c =
+    let there : kind_at c.args.tokens.now.list.now c.args.from ≡ Some (token.Word word.Once) = grind arith in
+    let iter : c.args.callable ≡ Iter = search rules in
+    mode_word c.args.tokens.now c.args.callable Once (token.Word word.Once) c.args.from there (types.once_word iter (record { kind = refl }))
+
+pub returns-in_default-clause-spelled : goal.returns-in_default-clause-spelled
+returns-in_default-clause-spelled c = no_mode c.args.tokens.now c.args.callable c.args.from
+
+pub returns-in_default-2-clause-spelled : goal.returns-in_default-2-clause-spelled
+returns-in_default-2-clause-spelled c = no_mode c.args.tokens.now c.args.callable c.args.from
+
+pub returns-in_default-3-clause-spelled : goal.returns-in_default-3-clause-spelled
+returns-in_default-3-clause-spelled c = no_mode c.args.tokens.now c.args.callable c.args.from
+
+pub returns-in_default-4-clause-spelled : goal.returns-in_default-4-clause-spelled
+returns-in_default-4-clause-spelled c = no_mode c.args.tokens.now c.args.callable c.args.from
