@@ -7,7 +7,6 @@ ghost use Rattle.sa_drive.specs.Built.{IsTried};
 ghost use Rattle.sa_drive.specs.Files.{ComesOfFiles, ComesOfGenerated, Explains, ExplainsProgram, IsByChecker};
 ghost use Rattle.sa_drive.specs.Files.{IsTakenGenerated, IsTakenProgram, generated_sources};
 ghost use Rattle.sa_drive.specs.Lines.{IsPlaced};
-ghost use Rattle.sa_well.specs.Well.{IsWell};
 
 use crate::accepted::accepted;
 use crate::cause::Cause;
@@ -97,11 +96,10 @@ pub fn compile_generated(alloc: Global, classes: u32) -> Compiled
     compile_checked(alloc, checked, ROOM, Trace::Silent)
 }
 
-/// The module of a program that is accepted, with so many KiB of room for objects. The tree that is lowered is well typed.
+/// The module of a program that is accepted, with so many KiB of room for objects.
 fn compile_checked(alloc: Global, checked: Checked, room: u32, trace: Trace) -> Compiled
     ensures same { result.sources ≡ checked.sources }
     ensures built { IfOk result.«module» IsTried }
-    ensures well { IfOk result.«module» (λ _. IfOk checked.core IsWell) }
     ensures made { IfOk result.«module» (λ _. IfErr checked.core (λ _. ⊥)) }
     ensures fault { IfErr result.«module» (λ cause. (checked.core ≡ Err cause) ⊎ (cause ≡ Cause.NoMemory)) }
 {
@@ -113,7 +111,6 @@ fn compile_checked(alloc: Global, checked: Checked, room: u32, trace: Trace) -> 
 /// The module of a typed tree, or the cause why there is none.
 fn made(alloc: Global, core: Result<Core, Cause>, room: u32, trace: Trace) -> Result<Built, Cause>
     ensures built { IfOk result IsTried }
-    ensures well { IfOk result (λ _. IfOk core IsWell) }
     ensures made { IfOk result (λ _. IfErr core (λ _. ⊥)) }
     ensures fault { IfErr result (λ cause. (core ≡ Err cause) ⊎ (cause ≡ Cause.NoMemory)) }
 {

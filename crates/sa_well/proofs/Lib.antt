@@ -1,7 +1,0 @@
-pub mod Arguments
-pub mod Blocks
-pub mod Holding
-pub mod Listed
-pub mod Numbered
-pub mod Parts
-pub mod SiteLists
