@@ -48,17 +48,17 @@ IsTexts-more {others = others} l (exprs.more_texts {bytes = before} {others = re
     rw (append_assoc before rest others) (exprs.more_texts is (IsTexts-more l behind more))
 
 -- what stands there is of a further kind too
-pub stands_as : {P Q : Lexeme → Type 0} {t : Tokens} {at : ℕ} → ((l : Lexeme) → P l → Q l) → Stands P t at → Stands Q t at
-stands_as further s = record { kind = s.kind; there = s.there; is = further _ s.is }
+pub stands_as : {P Q : Lexeme → Type 0} {t : Tokens} {at : ℕ} → Stands P t at → ((l : Lexeme) → P l → Q l) → Stands Q t at
+stands_as s further = record { kind = s.kind; there = s.there; is = further _ s.is }
 
 module _ (t : Tokens) where
   -- ---- operators
 
-  pub operation : (s : Scope) (p : Precedence) (x : Around) (from mid next : ℕ) (op : Op) (a b e : Expr) (pos : Pos)
+  pub operation : (s : Scope) (p : Precedence) (x : Around) (from mid next : ℕ) (op : Op) (a b e : Expr)
       → IsOperation s p x (between t from mid) a → Stands (IsOperator p op) t mid → IsOperand s p x (between t (mid + 1) next) b
-      → from ≤ mid → mid < next → pos ≡ pos_at t mid → e ≡ tree.Binary op a b pos → IsOperation s p x (between t from next) e
-  operation s p x from mid next op a b e pos first o second before behind stands made =
-      rw (parted t from mid next o.kind o.there before behind, made, stands) (exprs.operation first o.is second)
+      → from ≤ mid → mid < next → e ≡ tree.Binary op a b (pos_at t mid) → IsOperation s p x (between t from next) e
+  operation s p x from mid next op a b e first o second before behind made =
+      rw (parted t from mid next o.kind o.there before behind, made) (exprs.operation first o.is second)
 
   pub prefix : (s : Scope) (x : Around) (from next : ℕ) (op : Op) (e boxed : Expr) (pos : Pos)
       → Stands (IsPrefix op) t from → IsUnary s x (between t (from + 1) next) e → from < next → boxed ≡ e → pos ≡ pos_at t from
@@ -66,11 +66,11 @@ module _ (t : Tokens) where
   prefix s x from next op e boxed pos o inside before same stands =
       rw (front t from next o.kind o.there before, same, stands) (exprs.prefix o.is inside)
 
-  pub raised : (s : Scope) (x : Around) (from mid next : ℕ) (a b e : Expr) (pos : Pos)
+  pub raised : (s : Scope) (x : Around) (from mid next : ℕ) (a b e : Expr)
       → IsPost s x (between t from mid) a → kind_at t.list.now mid ≡ Some (token.Sign sign.Caret) → IsPower s x (between t (mid + 1) next) b
-      → from ≤ mid → mid < next → pos ≡ pos_at t mid → e ≡ tree.Binary Pow a b pos → IsPower s x (between t from next) e
-  raised s x from mid next a b e pos base caret second before behind stands made =
-      rw (parted t from mid next (token.Sign sign.Caret) caret before behind, made, stands) (exprs.raised base (record { kind = refl }) second)
+      → from ≤ mid → mid < next → e ≡ tree.Binary Pow a b (pos_at t mid) → IsPower s x (between t from next) e
+  raised s x from mid next a b e base caret second before behind made =
+      rw (parted t from mid next (token.Sign sign.Caret) caret before behind, made) (exprs.raised base (record { kind = refl }) second)
 
   -- ---- what follows a first
 
@@ -116,17 +116,24 @@ module _ (t : Tokens) where
       rw (ends, enclosed t from mid (token.Sign sign.LeftParen) (token.Sign sign.RightParen) opens closes before)
       (exprs.args (record { kind = refl }) inside (record { kind = refl }))
 
-  pub more_args : (s : Scope) (from mid next : ℕ) (given : List Given) (arg : Given)
+  pub more_args : (s : Scope) (from mid next : ℕ) (given all : List Given) (arg : Given)
       → kind_at t.list.now mid ≡ Some (token.Sign sign.Comma) → IsArgList s (between t from mid) given → IsArg s (between t (mid + 1) next) arg
-      → from ≤ mid → mid < next → IsArgList s (between t from next) (given ++ arg ∷ [])
-  more_args s from mid next given arg comma first second before behind =
-      rw (parted t from mid next (token.Sign sign.Comma) comma before behind) (IsArgList-more first (record { kind = refl }) second)
+      → from ≤ mid → mid < next → all ≡ given ++ arg ∷ [] → IsArgList s (between t from next) all
+  more_args s from mid next given all arg comma first second before behind pushed =
+      rw (parted t from mid next (token.Sign sign.Comma) comma before behind, pushed) (IsArgList-more first (record { kind = refl }) second)
 
-  pub more_exprs : (s : Scope) (x : Around) (from mid next : ℕ) (es : List Expr) (e : Expr)
+  pub more_exprs : (s : Scope) (x : Around) (from mid next : ℕ) (es all : List Expr) (e : Expr)
       → kind_at t.list.now mid ≡ Some (token.Sign sign.Comma) → IsExprs s x (between t from mid) es → IsExpr s x (between t (mid + 1) next) e
-      → from ≤ mid → mid < next → IsExprs s x (between t from next) (es ++ e ∷ [])
-  more_exprs s x from mid next es e comma first second before behind =
-      rw (parted t from mid next (token.Sign sign.Comma) comma before behind) (IsExprs-more first (record { kind = refl }) second)
+      → from ≤ mid → mid < next → all ≡ es ++ e ∷ [] → IsExprs s x (between t from next) all
+  more_exprs s x from mid next es all e comma first second before behind pushed =
+      rw (parted t from mid next (token.Sign sign.Comma) comma before behind, pushed) (IsExprs-more first (record { kind = refl }) second)
+
+  -- and the same lists where they are handed on
+  pub all_args : (s : Scope) (from next : ℕ) (given all : List Given) → IsArgList s (between t from next) given → all ≡ given → IsArgList s (between t from next) all
+  all_args s from next given all is same = rw same is
+
+  pub all_exprs : (s : Scope) (x : Around) (from next : ℕ) (es all : List Expr) → IsExprs s x (between t from next) es → all ≡ es → IsExprs s x (between t from next) all
+  all_exprs s x from next es all is same = rw same is
 
   pub in_mode : (place : ℕ) → GivesMode (between t place place) In
   in_mode place s ms e value = rw (none t place) (exprs.in_value value)
@@ -173,18 +180,21 @@ module _ (t : Tokens) where
   character s x from byte pos there stands = rw (alone t from (token.Char byte) there, stands) (exprs.character refl)
 
   pub texts : (s : Scope) (x : Around) (from next : ℕ) (first bytes : List ℕ) (pos : Pos)
-      → kind_at t.list.now from ≡ Some (token.Text first) → ContinuesTexts first (between t (from + 1) next) bytes
+      → ContinuesTexts first (between t (from + 1) next) bytes → kind_at t.list.now from ≡ Some (token.Text first)
       → from < next → pos ≡ pos_at t from → IsFirst s x (between t from next) (tree.Text bytes pos)
-  texts s x from next first bytes pos there behind before stands =
+  texts s x from next first bytes pos behind there before stands =
       rw (front t from next (token.Text first) there before, stands) (exprs.texts (behind (lexeme_at t from (token.Text first)) refl))
 
   pub one_text : (first : List ℕ) (place : ℕ) → ContinuesTexts first (between t place place) first
   one_text first place l is = rw (none t place) (exprs.last_text is)
 
-  pub more_text : (first bytes more : List ℕ) (from mid : ℕ) → kind_at t.list.now mid ≡ Some (token.Text more) → from ≤ mid
-      → ContinuesTexts first (between t from mid) bytes → ContinuesTexts first (between t from (mid + 1)) (bytes ++ more)
-  more_text first bytes more from mid there before behind l is =
-      rw (ended t from mid (token.Text more) there before) (IsTexts-more (lexeme_at t mid (token.Text more)) (behind l is) refl)
+  pub more_text : (first bytes more all : List ℕ) (from mid : ℕ) → kind_at t.list.now mid ≡ Some (token.Text more) → from ≤ mid
+      → ContinuesTexts first (between t from mid) bytes → all ≡ bytes ++ more → ContinuesTexts first (between t from (mid + 1)) all
+  more_text first bytes more all from mid there before behind extended l is =
+      rw (ended t from mid (token.Text more) there before, extended) (IsTexts-more (lexeme_at t mid (token.Text more)) (behind l is) refl)
+
+  pub all_texts : (first bytes all : List ℕ) (from next : ℕ) → ContinuesTexts first (between t from next) bytes → all ≡ bytes → ContinuesTexts first (between t from next) all
+  all_texts first bytes all from next is same l begins = rw same (is l begins)
 
   -- a form that is a word alone
   pub word_alone : (s : Scope) (x : Around) (from : ℕ) (w : Word) (form : Pos → Expr) (pos : Pos)

@@ -1,5 +1,5 @@
 -- What is read is spelled so: a case of the grammar at each return.
-use Rattle.std.proofs.Common.{arith}
+use Rattle.std.proofs.Common.{arith, rules}
 use Rattle.std.proofs.lemmas.Result.{IfOk-weaker}
 use Rattle.sa_parse_expr.specs.Expressions as exprs
 use Rattle.sa_parse_expr.proofs.SpelledExpressions.{operation}
@@ -17,7 +17,7 @@ operation-more-preserved g t c =
     let next = c.in_ok-right.ensures.next in
     record {
       behind = (omega (arith, begun.behind.0, next.0), next.1);
-      spelled = operation c.args.self.now.tokens c.args.self.now.scope c.args.precedence c.args.around c.args.from c.more.next _ c.in-Some.op _ _ _ _ begun.spelled c.in-Some.ensures.spelled c.in_ok-right.ensures.spelled (omega (arith, begun.behind.0)) (omega (arith, next.0)) c.pos.ensures c.in_ok-left-in-loop-more.ensures;
+      spelled = operation c.args.self.now.tokens c.args.self.now.scope c.args.precedence c.args.around c.args.from c.more.next _ c.in-Some.op _ _ _ begun.spelled c.in-Some.ensures.spelled c.in_ok-right.ensures.spelled (omega (arith, begun.behind.0)) (omega (arith, next.0)) (first_of (search rules, grind arith));
     }
 
 pub operand-returns-in-Logical-clause-spelled : goal.operand-returns-in-Logical-clause-spelled

@@ -14,4 +14,4 @@ power-returns-clause-spelled g t c =
     let base = c.in_ok-base in
     let caret : kind_at c.args.self.now.tokens.list.now base.next ≡ Some (token.Sign sign.Caret) = search rules in
     let exponent = c.in_ok-exponent.ensures in
-    raised c.args.self.now.tokens c.args.self.now.scope c.args.around c.args.from base.next _ _ _ _ _ base.ensures.spelled caret exponent.spelled (omega (arith, base.ensures.next.0)) (omega (arith, exponent.next.0)) c.pos.ensures c.in_ok-raised.ensures
+    raised c.args.self.now.tokens c.args.self.now.scope c.args.around c.args.from base.next _ _ _ _ base.ensures.spelled caret exponent.spelled (omega (arith, base.ensures.next.0)) (omega (arith, exponent.next.0)) (first_of (search rules, grind arith))

@@ -9,4 +9,4 @@ returns-clause-spelled g c =
     let t = c.args.self.now.tokens in
     let names : (kind_at t.list.now c.args.from ≡ Some token.Lower) ⊎ (kind_at t.list.now c.args.from ≡ Some token.IterName) = c.is_feature_name.ensures.value.0 (search rules) in
     let given = c.in_ok-given.ensures in
-    call t c.args.self.now.scope c.args.on c.args.from _ _ _ _ (feature_stands t c.args.from names) given.spelled (omega (arith, given.next.0)) c.in_ok-name.ensures c.pos.ensures
+    call t c.args.self.now.scope c.args.on c.args.from _ _ _ _ (feature_stands t c.args.from names) given.spelled (omega (arith, given.next.0)) (search rules) (search rules)

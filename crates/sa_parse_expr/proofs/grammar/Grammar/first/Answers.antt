@@ -1,21 +1,19 @@
-use Rattle.std.proofs.Common.{◌≡◌, Some, arith, rules}
+use Rattle.std.proofs.Common.{arith, rules}
 use Rattle.std.proofs.lemmas.Result.{IfOk-weaker}
-use Rattle.sa_lex.specs.declared.token.TokenKind.TheVariants as token
 use Rattle.sa_parse_expr.specs.Expressions as exprs
-use Rattle.sa_parse_expr.specs.Places.{kind_at}
 use Rattle.sa_parse_expr.proofs.SpelledExpressions.{number, character, texts}
 use Rattle.sa_parse_expr.proofs.grammar.Grammar.first.Goals as goal
 
 pub returns-in-Some-Int-clause-spelled : goal.returns-in-Some-Int-clause-spelled
-returns-in-Some-Int-clause-spelled g c = number c.args.self.now.tokens c.args.self.now.scope c.args.around c.args.from _ _ (grind arith) c.pos.ensures
+returns-in-Some-Int-clause-spelled g c = number c.args.self.now.tokens c.args.self.now.scope c.args.around c.args.from _ _ (grind arith) (search rules)
 
 pub returns-in-Some-Char-clause-spelled : goal.returns-in-Some-Char-clause-spelled
-returns-in-Some-Char-clause-spelled g c = character c.args.self.now.tokens c.args.self.now.scope c.args.around c.args.from _ _ (grind arith) c.pos.ensures
+returns-in-Some-Char-clause-spelled g c = character c.args.self.now.tokens c.args.self.now.scope c.args.around c.args.from _ _ (grind arith) (search rules)
 
 pub returns-in_ok-text-in-Some-Text-clause-spelled : goal.returns-in_ok-text-in-Some-Text-clause-spelled
 returns-in_ok-text-in-Some-Text-clause-spelled g c =
     let text = c.in_ok-text-in-Some-Text.ensures in
-    texts c.args.self.now.tokens c.args.self.now.scope c.args.around c.args.from _ c.in-Some-Text.text.now _ _ (grind arith) text.spelled (omega (arith, text.next.0)) c.pos.ensures
+    texts c.args.self.now.tokens c.args.self.now.scope c.args.around c.args.from _ _ _ _ text.spelled (grind arith) (omega (arith, text.next.0)) (search rules)
 
 pub returns-in-Some-Lower-clause-spelled : goal.returns-in-Some-Lower-clause-spelled
 returns-in-Some-Lower-clause-spelled g c = IfOk-weaker c.call.result _ _ (λ read is. exprs.implied_call is) c.call.ensures.spelled

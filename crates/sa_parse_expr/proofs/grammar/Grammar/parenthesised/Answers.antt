@@ -1,4 +1,4 @@
-use Rattle.std.proofs.Common.{arith, ◌∙◌, ap, ◌+◌, ℕ}
+use Rattle.std.proofs.Common.{arith}
 use Rattle.sa_parse_expr.proofs.SpelledExpressions.{in_parentheses}
 use Rattle.sa_parse_expr.proofs.grammar.Grammar.parenthesised.Goals as goal
 

@@ -17,7 +17,7 @@ pub more-preserved-then-is_sign : goal.more-preserved-then-is_sign
 more-preserved-then-is_sign g c =
     let begun = c.more.invariant in
     let dot : kind_at c.args.self.now.tokens.list.now c.more.next ≡ Some (token.Sign sign.Dot) = search rules in
-    let call = c.in_ok-of-in-loop-more.ensures in
+    let call = c.in_ok-call.ensures in
     record {
       behind = (omega (arith, begun.behind.0, call.next.0), call.next.1);
       spelled = call_on c.args.self.now.tokens c.args.self.now.scope c.args.around c.args.from c.more.next _ c.more.of _ _ begun.spelled dot call.spelled (omega (arith, begun.behind.0)) (omega (arith, call.next.0)) (search rules);
@@ -31,5 +31,5 @@ more-preserved-then-is_sign-2 g c =
     let there = standing t c.args.from (omega (arith, begun.behind.0, begun.behind.1)) in
     record {
       behind = (omega (arith, begun.behind.0, index.next.0), index.next.1);
-      spelled = index_of t c.args.self.now.scope c.args.around c.args.from c.more.next _ there.0 c.more.of _ _ _ there.1 begun.spelled index.spelled begun.behind.0 (omega (arith, index.next.0)) (search rules) c.pos.ensures;
+      spelled = index_of t c.args.self.now.scope c.args.around c.args.from c.more.next _ there.0 c.more.of _ _ _ there.1 begun.spelled index.spelled begun.behind.0 (omega (arith, index.next.0)) (search rules) (search rules);
     }

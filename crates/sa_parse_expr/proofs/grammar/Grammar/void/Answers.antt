@@ -6,9 +6,9 @@ use Rattle.sa_parse_expr.proofs.SpelledExpressions.{word_alone, void_of}
 use Rattle.sa_parse_expr.proofs.grammar.Grammar.void.Goals as goal
 
 pub returns-then-not-is_sign-clause-spelled : goal.returns-then-not-is_sign-clause-spelled
-returns-then-not-is_sign-clause-spelled g c = λ around. word_alone c.args.self.now.tokens c.args.self.now.scope around c.args.from word.Void tree.Void _ c.requires.there c.pos.ensures (exprs.void_word (record { kind = refl }))
+returns-then-not-is_sign-clause-spelled g c = λ around. word_alone c.args.self.now.tokens c.args.self.now.scope around c.args.from word.Void tree.Void _ c.requires.there (search rules) (exprs.void_word (record { kind = refl }))
 
 pub returns-clause-spelled : goal.returns-clause-spelled
 returns-clause-spelled g c = λ around.
     let of = c.in_ok-of.ensures in
-    void_of c.args.self.now.tokens c.args.self.now.scope around c.args.from _ _ _ _ c.requires.there of.spelled (omega (arith, of.next.0)) (search rules) c.pos.ensures
+    void_of c.args.self.now.tokens c.args.self.now.scope around c.args.from _ _ _ _ c.requires.there of.spelled (omega (arith, of.next.0)) (search rules) (search rules)
