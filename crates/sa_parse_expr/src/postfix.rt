@@ -44,7 +44,9 @@ impl<F: Fn(Global, &Tokens<'_>, Scope, Form, u32) -> Result<(Expr, u32), FrontFa
         'more: loop {
             if self.tokens.is_sign(next, Sign::Dot) {
                 let on = Recv::Of(Boxed::new(self.alloc, of)?);
-                (of, next) = self.call(on, next + 1)?;
+                let (called, end) = self.call(on, next + 1)?;
+                of = called;
+                next = end;
             } else if self.tokens.is_sign(next, Sign::LeftBracket) {
                 let (places, end) = self.index(next)?;
                 let on = Some(Boxed::new(self.alloc, of)?);

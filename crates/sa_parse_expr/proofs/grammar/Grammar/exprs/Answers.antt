@@ -1,4 +1,4 @@
-use Rattle.std.proofs.Common.{◌≡◌, [], ◌∷◌, Some, arith, rules}
+use Rattle.std.proofs.Common.{◌≡◌, Some, arith, rules}
 use Rattle.sa_lex.specs.declared.token.TokenKind.TheVariants as token
 use Rattle.sa_lex.specs.declared.sign.Sign.TheVariants as sign
 use Rattle.sa_parse_expr.specs.Expressions as exprs
@@ -7,12 +7,10 @@ use Rattle.sa_parse_expr.proofs.SpelledExpressions.{all_exprs, more_exprs}
 use Rattle.sa_parse_expr.proofs.grammar.Grammar.exprs.Goals as goal
 
 pub more-init : goal.more-init
-more-init g c =
-    let first : c.push.new.self.items ≡ c.in_ok-first.first ∷ [] = first_of (search rules, grind arith) in
-    record {
-      behind = c.in_ok-first.ensures.next;
-      spelled = rw first (exprs.last_expr c.in_ok-first.ensures.spelled);
-    }
+more-init g c = record {
+  behind = c.in_ok-first.ensures.next;
+  spelled = rw (c.in_ok-push.ensures.items, c.new-exprs.ensures.items) (exprs.last_expr c.in_ok-first.ensures.spelled);
+}
 
 pub more-preserved : goal.more-preserved
 more-preserved g c =

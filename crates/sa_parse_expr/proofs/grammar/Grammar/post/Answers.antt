@@ -17,10 +17,10 @@ pub more-preserved-then-is_sign : goal.more-preserved-then-is_sign
 more-preserved-then-is_sign g c =
     let begun = c.more.invariant in
     let dot : kind_at c.args.self.now.tokens.list.now c.more.next ≡ Some (token.Sign sign.Dot) = search rules in
-    let call = c.in_ok-call.ensures in
+    let called = c.in_ok-called.ensures in
     record {
-      behind = (omega (arith, begun.behind.0, call.next.0), call.next.1);
-      spelled = call_on c.args.self.now.tokens c.args.self.now.scope c.args.around c.args.from c.more.next _ c.more.of _ _ begun.spelled dot call.spelled (omega (arith, begun.behind.0)) (omega (arith, call.next.0)) (search rules);
+      behind = (omega (arith, begun.behind.0, called.next.0), called.next.1);
+      spelled = call_on c.args.self.now.tokens c.args.self.now.scope c.args.around c.args.from c.more.next _ c.more.of _ _ begun.spelled dot called.spelled (omega (arith, begun.behind.0)) (omega (arith, called.next.0)) (search rules);
     }
 
 pub more-preserved-then-is_sign-2 : goal.more-preserved-then-is_sign-2
