@@ -20,9 +20,9 @@ const E01: &str = r#"E01: bad byte
 `FILE:LINE: E01: bad byte`, status 120, at the byte.
 
 No token begins with this byte. Most come from another language (`&&`, `!=`,
-`?`), from a word processor (“curly” quotes), or are the byte order mark that
-an editor has put in front of the file. Letters beyond ASCII are taken in texts
-and comments alone.
+`?`), or from a word processor (“curly” quotes). Letters beyond ASCII are taken
+in texts and comments alone, and a byte order mark at the beginning of a file
+alone.
 
     class MAIN is
        main is
