@@ -23,7 +23,7 @@ fn main(rt: HostRuntime) -> ExitCode {
     };
     let mut store = FileStore::new(&rt);
     let mut input = ReadSource::new(rt.stdin());
-    let mut out = WriteSink::new(rt.stdout());
+    let mut out = WriteSink::of_stream(rt.stdout());
     let exit = sather(
         alloc,
         words.as_slice(),
