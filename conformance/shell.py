@@ -99,6 +99,9 @@ class Shell:
         full = self.run('build', '-o', '/dev/full', 'f.sa')
         yield 'a module that can\'t be written is a store fault', full, STORE_FAULT
         yield 'a text is no module', self.run('exec', 'f.sa'), Left(lines=b'f.sa: malformed\n', status=126)
+        yield 'a module of a program may have all pages', self.run('exec', '--pages', '65536', 'm'), Left(b'Hello\n')
+        few = self.run('exec', '--pages', '1', 'm')
+        yield 'a module of a program needs more than a page', few, Left(lines=b'out of memory\n', status=125)
 
     def sites(self):
         """The sites of faults, in a file of their own."""

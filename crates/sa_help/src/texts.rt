@@ -98,11 +98,14 @@ The input is the module's, so that MODULE isn't -.
 
   --fuel N      let it make at most N steps, from 0 to 18446744073709551615;
                 without the option the greatest number
+  --pages N     let its memory have at most N pages of 64 KiB, from 0 to 65536;
+                one that begins with more is out of memory, and a further page
+                is refused to the module, which goes on without it
   --stats       at the end tell on err the steps and the bytes of the module
   --explain     at the end tell on err what its line means, and
                 what to do
 
-  sather exec --fuel 1000000 --stats hello.wasm
+  sather exec --fuel 1000000 --pages 1100 hello.wasm
 "#;
 
 /// `gen`

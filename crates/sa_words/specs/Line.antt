@@ -28,7 +28,7 @@ pub data Line : Type 0 where
   Run : (fuel : ℕ) → (room : ℕ) → (stats : Bool) → (contracts : Contracts) → (trace : Trace) → (detail : Detail) → (files : List Text) → Line
   Build : (room : ℕ) → (contracts : Contracts) → (detail : Detail) → (out : Text) → (sites : Option Text) → (files : List Text) → Line
   Check : (contracts : Contracts) → (extent : Extent) → (detail : Detail) → (files : List Text) → Line
-  Exec : (fuel : ℕ) → (stats : Bool) → (detail : Detail) → (file : Text) → Line
+  Exec : (fuel : ℕ) → (pages : Option ℕ) → (stats : Bool) → (detail : Detail) → (file : Text) → Line
   Gen : (classes : ℕ) → Line
   Selftest : (classes : ℕ) → Line
   Listing : (file : Text) → Line
@@ -44,7 +44,7 @@ line_of (command.Run run) = Run run.fuel run.room run.stats run.contracts run.tr
 line_of (command.Build build) =
     Build build.room build.contracts build.detail build.out.now (option_map (λ file. file.now) build.sites) (map (λ file. file.now) build.files.items)
 line_of (command.Check check) = Check check.contracts check.extent check.detail (map (λ file. file.now) check.files.items)
-line_of (command.Exec exec) = Exec exec.fuel exec.stats exec.detail exec.«module».now
+line_of (command.Exec exec) = Exec exec.fuel exec.pages exec.stats exec.detail exec.«module».now
 line_of (command.Gen classes) = Gen classes
 line_of (command.Selftest classes) = Selftest classes
 line_of (command.Listing listing) = Listing listing.«module».now
@@ -59,7 +59,7 @@ abbrev pub detail_of : Option Line → Detail
 detail_of (Some (Run fuel room stats contracts trace detail files)) = detail
 detail_of (Some (Build room contracts detail out sites files)) = detail
 detail_of (Some (Check contracts extent detail files)) = detail
-detail_of (Some (Exec fuel stats detail file)) = detail
+detail_of (Some (Exec fuel pages stats detail file)) = detail
 detail_of _ = Brief
 
 -- the fuel, which has no limit but that of its type, and else that limit
@@ -133,12 +133,19 @@ build_in rows =
 abbrev pub check_in : List Row → Line
 check_in rows = Check (contracts_in rows) (extent_in rows) (detail_in rows) (files_in rows)
 
+-- the bound of the memory in pages, if there is one and it is in its range
+abbrev pub pages_in : List Row → Option (Option ℕ)
+pages_in rows = option_map_or (λ text. option_map Some (number_in 0 65536 text)) (first_of (codes "pages") rows) (Some None)
+
 -- the run of the module in this file, which isn't the input, since that is the module's
-abbrev pub exec_of : List Row → (fuel : ℕ) → (file : Text) → Option Line
-exec_of rows fuel file = if bytes_eq file input then None else Some (Exec fuel (stats_in rows) (detail_in rows) file)
+abbrev pub exec_of : List Row → (fuel : ℕ) → (pages : Option ℕ) → (file : Text) → Option Line
+exec_of rows fuel pages file = if bytes_eq file input then None else Some (Exec fuel pages (stats_in rows) (detail_in rows) file)
 
 abbrev pub exec_in : List Row → Option Line
-exec_in rows = option_and_then (λ fuel. option_and_then (exec_of rows fuel) (first_of (codes "module") rows)) (fuel_in rows)
+exec_in rows =
+    option_and_then
+    (λ fuel. option_and_then (λ pages. option_and_then (exec_of rows fuel pages) (first_of (codes "module") rows)) (pages_in rows))
+    (fuel_in rows)
 
 -- how many classes the generated program is to have
 abbrev pub classes_in : List Row → Option ℕ

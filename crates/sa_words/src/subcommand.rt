@@ -3,7 +3,7 @@
 ghost use Rattle.std.specs.Prelude.{◌≡◌, IfOk, Some, map, option_map};
 ghost use Rattle.clap.specs.Words.{all_of, first_of, found_of, rows_of};
 ghost use Rattle.sa_words.specs.Line.{assemble_in, build_in, check_in, classes_in, contracts_in, detail_in, do_clash, exec_in, extent_in};
-ghost use Rattle.sa_words.specs.Line.{files_in, fuel_in, is_among, is_given, is_kept, line_of, listing_in, named_line, room_in};
+ghost use Rattle.sa_words.specs.Line.{files_in, fuel_in, is_among, is_given, is_kept, line_of, listing_in, named_line, pages_in, room_in};
 ghost use Rattle.sa_words.specs.Line.{run_in, stats_in, trace_in, Gen, Selftest};
 
 use crate::command::{
@@ -23,6 +23,9 @@ pub const ROOM: u32 = 65_536;
 const LEAST_ROOM: u64 = 64;
 
 const MOST_ROOM: u64 = 1_048_576;
+
+/// How many pages a memory has at most.
+const MOST_PAGES: u64 = 65_536;
 
 /// How many classes a generated program has at most.
 const MOST_CLASSES: u64 = 500;
@@ -62,6 +65,19 @@ fn room(matches: &ArgMatches<'_>) -> Option<u32>
         MOST_ROOM,
     )?;
     Some(room as u32)
+}
+
+/// The bound of the memory in pages, if there is one. None where it isn't in its range.
+fn pages(matches: &ArgMatches<'_>) -> Option<Option<u32>>
+    ensures { result ≡ pages_in (rows_of (found_of matches.now)) }
+{
+    match value(matches, "pages") {
+        Some(text) => {
+            let pages = number_in(text, 0, MOST_PAGES)?;
+            Some(Some(pages as u32))
+        }
+        None => Some(None),
+    }
 }
 
 /// Whether the flag of this name is given. `clap` gives it the value `true` then.
@@ -218,6 +234,7 @@ fn exec<'a>(matches: &ArgMatches<'a>) -> Option<Command<'a>>
     ensures { option_map line_of result ≡ exec_in (rows_of (found_of matches.now)) }
 {
     let fuel = fuel(matches)?;
+    let pages = pages(matches)?;
     let module = value(matches, "module")?;
     // The input is the module's.
     if module == INPUT {
@@ -225,6 +242,7 @@ fn exec<'a>(matches: &ArgMatches<'a>) -> Option<Command<'a>>
     }
     Some(Command::Exec(Exec {
         fuel,
+        pages,
         stats: stats(matches),
         detail: detail(matches),
         module,
