@@ -99,6 +99,9 @@ class Shell:
         full = self.run('build', '-o', '/dev/full', 'f.sa')
         yield 'a module that can\'t be written is a store fault', full, STORE_FAULT
         yield 'a text is no module', self.run('exec', 'f.sa'), Left(lines=b'f.sa: malformed\n', status=126)
+        yield 'a module of a program may have all pages', self.run('exec', '--pages', '65536', 'm'), Left(b'Hello\n')
+        few = self.run('exec', '--pages', '1', 'm')
+        yield 'a module of a program needs more than a page', few, Left(lines=b'out of memory\n', status=125)
 
     def sites(self):
         """The sites of faults, in a file of their own."""
@@ -143,6 +146,23 @@ class Shell:
         closed = report.run(['sh', '-c', 'exec "$0" run f.sa >&-', self.program], self.folder)
         yield 'a closed output is an output fault', closed, OUTPUT_FAULT
 
+    def inputs(self):
+        """The input as a file: through pipes, at once and slowly, and where it can't be read."""
+        def shell(line):
+            return report.run(['sh', '-c', line, self.program], self.folder)
+        accepted = Left(b'accepted\n')
+        yield 'a program comes through a pipe', shell('cat f.sa | "$0" check -'), accepted
+        slowly = 'for part in "class MAIN is" "main is end;" "end;"; do echo "$part"; sleep 0.3; done | "$0" check -'
+        yield 'a program comes through a pipe part by part', shell(slowly), accepted
+        yield 'a program that is printed is checked behind a pipe', shell('"$0" gen 500 | "$0" check -'), accepted
+        yield 'a program comes from a file', shell('"$0" check - <f.sa'), accepted
+        around = '"$0" listing - <main | "$0" assemble -o again - && cat again'
+        yield 'a module that goes through pipes as a listing has its bytes', shell(around), Left(MAIN)
+        yield 'an input that is closed is a store fault', shell('exec "$0" check - <&-'), STORE_FAULT
+        yield 'a folder as the input is a store fault', shell('"$0" check - <.'), STORE_FAULT
+        told = STORE_FAULT.lines + b'The input can\'t be read: it was closed, or it is a folder.\nGive it a text, as by `< FILE`.\n'
+        yield 'an input that can\'t be read is explained', shell('"$0" check --explain - <.'), Left(lines=told, status=123)
+
     def terminals(self):
         """Lines of programs that run on, on a terminal."""
         lines = Left(b'one\ntwo\n')
@@ -161,7 +181,7 @@ def try_all(program, told, word=''):
     with report.folder_with(SOURCES) as folder:
         shell = Shell(program, folder)
         parts = (shell.programs, shell.files, shell.modules, shell.sites, shell.listings, shell.streams,
-                 shell.terminals)
+                 shell.inputs, shell.terminals)
         chosen = [(name, report.difference(wanted, left)) for part in parts for name, left, wanted in part() if word in name]
     told.part('command lines', len(chosen))
     for name, wrong in chosen:

@@ -1,4 +1,4 @@
-//! What a command asks to be told of the cause of its end, and of which files a fault of the store can be.
+//! What a command asks to be told of the cause of its end, of which files a fault of the store can be, and how a memory is bounded.
 
 ghost use Rattle.std.specs.Prelude.{◌≡◌, Some};
 ghost use Rattle.sa_words.specs.Line.{detail_of, line_of};
@@ -13,6 +13,8 @@ pub struct Asked<'a> {
     pub read: Option<&'a str>,
     /// The name of the file that it writes, where it writes one.
     pub written: Option<&'a str>,
+    /// How many pages the memory of a module may have, where it bounds that.
+    pub pages: Option<u32>,
 }
 
 impl<'a> Asked<'a> {
@@ -24,6 +26,7 @@ impl<'a> Asked<'a> {
             detail: Detail::Brief,
             read: None,
             written: None,
+            pages: None,
         }
     }
 
@@ -35,6 +38,7 @@ impl<'a> Asked<'a> {
             detail: detail_of(command),
             read: read_by(command),
             written: written_by(command),
+            pages: pages_of(command),
         }
     }
 }
@@ -57,6 +61,14 @@ fn written_by<'a>(command: &Command<'a>) -> Option<&'a str> {
             Some(_) => None,
             None => Some(line.out),
         },
+        _ => None,
+    }
+}
+
+/// How many pages the memory of a module may have, where a command bounds that.
+fn pages_of(command: &Command<'_>) -> Option<u32> {
+    match command {
+        Command::Exec(line) => line.pages,
         _ => None,
     }
 }

@@ -5,7 +5,7 @@ ghost use Rattle.sa_drive.specs.Seen.{part};
 
 use crate::asked::Asked;
 use crate::cause::Cause;
-use crate::module_end::module_end;
+use crate::module_end::{memory_end, module_end};
 use crate::outcome::Outcome;
 use crate::outside_end::{outside_end, store_fault};
 use sa_explain::{explain_fault, explain_refusal};
@@ -74,6 +74,7 @@ fn explanation(
         Cause::Fault(kind, pos) => explain_fault(alloc, &outcome.sources, kind, pos),
         Cause::StoreFault => store_fault(alloc, asked, module.is_empty()),
         Cause::Spent(_) | Cause::InFault | Cause::OutFault => outside_end(alloc, cause),
+        Cause::NoMemory => memory_end(alloc, module, asked.pages),
         _ => module_end(alloc, module, cause),
     }
 }

@@ -22,6 +22,10 @@ fn unread(file: Option<&str>, said: &mut Sentences) -> Result<(), AllocError> {
         " can't be read: it isn't there, it is a folder or a pipe, or it may not be read.",
     );
     match file {
+        Some("-") => {
+            said.say_words("The input can't be read: it was closed, or it is a folder.")?;
+            said.say_words("Give it a text, as by `< FILE`.")
+        }
         Some(name) => {
             said.say(&[Part::Code(name.as_bytes()), reason])?;
             said.say_words("See how its name is written, and from which folder it is named.")

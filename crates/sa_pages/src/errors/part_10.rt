@@ -145,8 +145,9 @@ status 124.
 
 The words are no command: the first one is none of these and none of `help`,
 `version`, `explain` and `lib`, an option isn't one of the command's or has no
-number that it takes, a file is missing, or the file behind `-o` is one of
-those that are read. `sather help` has a line for each command, and
+number that it takes, a file is missing, the file behind `-o` is one of those
+that are read, or `-`, which is the input, stands where a program or a module
+is run or a file is written. `sather help` has a line for each command, and
 `sather help run` the options of `run`.
 
     class MAIN is
