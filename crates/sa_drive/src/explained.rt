@@ -8,7 +8,7 @@ use crate::cause::Cause;
 use crate::module_end::module_end;
 use crate::outcome::Outcome;
 use crate::outside_end::{outside_end, store_fault};
-use sa_explain::{explain_fault, explain_refusal};
+use sa_explain::{explain_fault, explain_refusals};
 use sa_outside::Sink;
 use sa_trace::Listening;
 use sa_tree::NoMemory;
@@ -70,7 +70,12 @@ fn explanation(
 ) -> Result<Vec<u8>, NoMemory> {
     let module = outcome.module.as_slice();
     match cause {
-        Cause::Refused(refusal) => explain_refusal(alloc, &outcome.sources, refusal),
+        Cause::Refused(refusal) => explain_refusals(
+            alloc,
+            &outcome.sources,
+            refusal,
+            outcome.refusals.as_slice(),
+        ),
         Cause::Fault(kind, pos) => explain_fault(alloc, &outcome.sources, kind, pos),
         Cause::StoreFault => store_fault(alloc, asked, module.is_empty()),
         Cause::Spent(_) | Cause::InFault | Cause::OutFault => outside_end(alloc, cause),

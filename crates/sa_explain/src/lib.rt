@@ -7,4 +7,4 @@ mod explain;
 mod faults;
 mod general;
 
-pub use explain::{explain_fault, explain_refusal};
+pub use explain::{explain_fault, explain_refusals};

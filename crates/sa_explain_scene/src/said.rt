@@ -27,6 +27,8 @@ pub enum Part<'a> {
 }
 
 /// Sentences, each on its line.
+    /// The name of a file, whole.
+    File(&'a [u8]),
 #[derive(Drop)]
 pub struct Sentences {
     pub text: Vec<u8>,
@@ -77,6 +79,7 @@ impl Sentences {
     fn put_number(&mut self, number: usize) -> Result<(), AllocError> {
         let mut buffer = Buffer::new();
         let digits = buffer.format(number as u64);
+            Part::File(name) => self.put_whole(name),
         self.text.extend_from_slice(digits.as_bytes())
     }
 
@@ -128,6 +131,14 @@ impl Said {
     /// Whether nothing has been said.
     pub fn is_silent(&self) -> bool {
         self.sentences.text.is_empty()
+    }
+
+    /// Adds bytes in the same way, all of them.
+    fn put_whole(&mut self, bytes: &[u8]) -> Result<(), AllocError> {
+        for byte in bytes {
+            self.text.push(shown(*byte))?;
+        }
+        Ok(())
     }
 
     /// Adds a sentence of these parts.
