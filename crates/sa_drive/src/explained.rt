@@ -8,11 +8,12 @@ use crate::cause::Cause;
 use crate::module_end::module_end;
 use crate::outcome::Outcome;
 use crate::outside_end::{outside_end, store_fault};
+use crate::retyped::typed_again;
 use sa_explain::{explain_fault, explain_refusals};
 use sa_outside::Sink;
 use sa_trace::Listening;
-use sa_tree::NoMemory;
-use sa_words::Detail;
+use sa_tree::{FaultKind, NoMemory, Pos, Sources};
+use sa_words::{Contracts, Detail};
 use std::alloc::Global;
 
 /// Puts on err what explains the cause that stands at the end of an outcome, if that is asked for and err still listens. Where memory
@@ -76,9 +77,24 @@ fn explanation(
             refusal,
             outcome.refusals.as_slice(),
         ),
-        Cause::Fault(kind, pos) => explain_fault(alloc, &outcome.sources, kind, pos),
+        Cause::Fault(kind, pos) => fault(alloc, asked.contracts, &outcome.sources, kind, pos),
         Cause::StoreFault => store_fault(alloc, asked, module.is_empty()),
         Cause::Spent(_) | Cause::InFault | Cause::OutFault => outside_end(alloc, cause),
         _ => module_end(alloc, module, cause),
     }
+}
+
+/// What explains a fault at a position. The typed tree tells more of one in the prelude, and of an exception.
+fn fault(
+    alloc: Global,
+    contracts: Contracts,
+    sources: &Sources,
+    kind: FaultKind,
+    pos: Pos,
+) -> Result<Vec<u8>, NoMemory> {
+    if pos.file != 0 && kind != FaultKind::Uncaught {
+        return explain_fault(alloc, sources, None, kind, pos);
+    }
+    let core = typed_again(alloc, sources, contracts);
+    explain_fault(alloc, sources, core.as_ref(), kind, pos)
 }

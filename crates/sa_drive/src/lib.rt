@@ -21,6 +21,7 @@ mod outside_end;
 mod place;
 mod print;
 mod report;
+mod retyped;
 mod run;
 mod selftest;
 mod sites;

@@ -5,6 +5,7 @@ ghost use Rattle.std.specs.Prelude.{◌↔◌, ◌<◌, All, IsTrue, length};
 use crate::classes::{about_class, about_features};
 use crate::faults::about_fault;
 use crate::general::{Advice, of_rule};
+use sa_core::Core;
 use sa_explain_bodies::about_body;
 use sa_explain_grammar::{about_bytes, unexpected};
 use sa_explain_scene::{
@@ -97,6 +98,7 @@ fn of_refusal(alloc: Global, table: Table<'_>, refusal: Refusal) -> Result<Vec<u
 }
 
 /// What a fault of this kind at a position means, in the same form. Where the position is in the prelude, the feature there is named.
+/// Where the typed tree is given, the lines are told from which that place can be come to, and of an uncaught exception its type.
 ///
 /// # Errors
 ///
@@ -104,6 +106,7 @@ fn of_refusal(alloc: Global, table: Table<'_>, refusal: Refusal) -> Result<Vec<u
 pub fn explain_fault(
     alloc: Global,
     sources: &Sources,
+    core: Option<&Core>,
     kind: FaultKind,
     pos: Pos,
 ) -> Result<Vec<u8>, NoMemory> {
@@ -119,7 +122,7 @@ pub fn explain_fault(
     };
     let scene = scene_of(alloc, text, tokens.as_slice(), pos, table)?;
     let mut said = Said::new(alloc, scene.span(scene.at));
-    about_fault(scene, kind, &mut said)?;
+    about_fault(scene, core, kind, &mut said)?;
     shown(alloc, text, &said)
 }
 
