@@ -14,6 +14,7 @@ mod explained;
 mod further;
 mod lines;
 mod listing;
+mod malformed;
 mod module;
 mod module_end;
 mod outcome;
@@ -28,6 +29,7 @@ mod sites;
 mod texts;
 mod told;
 mod top;
+mod unlinked;
 
 pub use cause::{Cause, Exit};
 pub use lines::NO_MEMORY;
