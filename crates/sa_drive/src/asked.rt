@@ -3,12 +3,14 @@
 ghost use Rattle.std.specs.Prelude.{◌≡◌, Some};
 ghost use Rattle.sa_words.specs.Line.{detail_of, line_of};
 
-use sa_words::{Command, Detail, detail_of};
+use sa_words::{Command, Contracts, Detail, detail_of};
 
 /// What is to be told, and of which files.
 #[derive(Clone, Copy)]
 pub struct Asked<'a> {
     pub detail: Detail,
+    /// What was done with the contracts of the program, where one was run.
+    pub contracts: Contracts,
     /// The name of the file that the command reads, where it reads one.
     pub read: Option<&'a str>,
     /// The name of the file that it writes, where it writes one.
@@ -24,6 +26,7 @@ impl<'a> Asked<'a> {
     {
         Asked {
             detail: Detail::Brief,
+            contracts: Contracts::Dropped,
             read: None,
             written: None,
             pages: None,
@@ -36,10 +39,19 @@ impl<'a> Asked<'a> {
     {
         Asked {
             detail: detail_of(command),
+            contracts: contracts_of(command),
             read: read_by(command),
             written: written_by(command),
             pages: pages_of(command),
         }
+    }
+}
+
+/// What a command does with the contracts of the program that it runs.
+fn contracts_of(command: &Command<'_>) -> Contracts {
+    match command {
+        Command::Run(line) => line.contracts,
+        _ => Contracts::Dropped,
     }
 }
 

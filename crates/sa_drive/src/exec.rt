@@ -65,6 +65,7 @@ impl Ended {
             file,
             module,
             further: Vec::new(alloc),
+            refusals: Vec::new(alloc),
             steps,
             listening: Listening::Yes,
         }

@@ -53,11 +53,17 @@ fn unwritten(file: Option<&str>, said: &mut Sentences) -> Result<(), AllocError>
 pub fn outside_end(alloc: Global, cause: Cause) -> Result<Vec<u8>, NoMemory> {
     let mut said = Sentences::new(alloc);
     match cause {
-        Cause::Spent(_) => {
+        Cause::Spent(steps) => {
+            said.say(&[
+                Part::Words("It hadn't ended within "),
+                Part::Number(usize::try_from(steps).unwrap_or(usize::MAX)),
+                Part::Words(
+                    " steps, which are those that `--fuel` gives: it needs more, or it doesn't end at all.",
+                ),
+            ])?;
             said.say_words(
-                "It hadn't ended within the steps that `--fuel` gives: it needs more, or it doesn't end at all.",
+                "In which line it was isn't kept. Give more, or print something in each loop to see which one doesn't end.",
             )?;
-            said.say_words("Give more, or look for a loop that nothing ends.")?;
         }
         Cause::InFault => {
             said.say_words(
