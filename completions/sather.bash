@@ -11,7 +11,7 @@ _sather() {
     run) options='--fuel --room --stats --contracts --trace --explain' ;;
     build) options='--room --contracts --explain --sites -o' ;;
     check) options='--contracts --all --explain' ;;
-    exec) options='--fuel --stats --explain' endings='*.wasm' ;;
+    exec) options='--fuel --pages --stats --explain' endings='*.wasm' ;;
     listing) endings='*.wasm' ;;
     assemble) options='-o' endings='*' ;;
     help)
@@ -21,7 +21,7 @@ _sather() {
     *) return ;;
   esac
   case $before in
-    --fuel | --room) return ;;
+    --fuel | --pages | --room) return ;;
     -o) endings='*.wasm' ;;
     --sites) endings='*.json' ;;
   esac

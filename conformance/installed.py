@@ -24,8 +24,8 @@ INSTALL = os.path.join(report.TOP, 'install')
 BASH = os.path.join(report.TOP, 'completions', 'sather.bash')
 ZSH = os.path.join(report.TOP, 'completions', '_sather')
 USAGE = 124
-VALUES = {'--fuel': ['1000'], '--room': ['64'], '--stats': [], '--contracts': [], '--trace': [], '--all': [], '--explain': [],
-          '--sites': ['sites'], '-o': ['out']}
+VALUES = {'--fuel': ['1000'], '--pages': ['9'], '--room': ['64'], '--stats': [], '--contracts': [], '--trace': [], '--all': [],
+          '--explain': [], '--sites': ['sites'], '-o': ['out']}
 OWN = {'gen': ['3'], 'selftest': ['3'], 'help': ['run'], 'version': [], 'explain': ['E33'], 'lib': ['fmap']}
 HELLO = b'class MAIN is main is #OUT + "Hello\\n"; end; end;'
 # Prints what bash offers for the last of the words.
@@ -120,7 +120,7 @@ def zsh_differs():
         return 'expected the commands %s, and came %s' % (list(synopsis()), commands)
     for command, options in synopsis().items():
         line = re.search(r'^  (?:\w+\|)?%s(?:\|\w+)?\) (.*) ;;$' % command, text, re.M).group(1)
-        found = re.findall(r'\$(fuel|room|stats|contracts|trace|all|explain)\b|\'(-o|--sites)\[', line)
+        found = re.findall(r'\$(fuel|pages|room|stats|contracts|trace|all|explain)\b|\'(-o|--sites)\[', line)
         if ['--' + name if name else other for name, other in found] != options:
             return '%s: expected the options %s, and came the line %s' % (command, options, line)
     return None

@@ -70,6 +70,11 @@ def sather(program, folder, module, given=b'', words=()):
     return Run(end_of(line, ended.returncode), ended.stdout, steps)
 
 
+def explained(program, folder):
+    """What `exec --explain` tells of the module that was run last."""
+    return subprocess.run([program, 'exec', '--explain', 'm'], cwd=folder, input=b'', capture_output=True, timeout=SECONDS).stderr
+
+
 @functools.cache
 def has_node():
     """Whether V8 is there."""

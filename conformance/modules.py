@@ -7,12 +7,13 @@ Compares what `PROGRAM exec` says of modules with what the definition says, and 
   alike; wabt says the same of their validity.
 - N random modules that are valid by construction end alike in PROGRAM, V8 and wabt, with the same output.
 - N modules that are these with some bytes changed are malformed where a reader of the format in this folder says so, and
-  else valid where V8 and wabt say so.
+  else valid where V8 and wabt say so. Of those that are malformed `--explain` tells a place.
 
 What V8 and wabt are known to judge otherwise is left out, and counted. A tool that is missing is named. Prints each difference
 with the module in hex, and a last line 'N passed, M failed', where each comparison counts; the status is 1 where any failed."""
 import argparse
 import os
+import re
 import sys
 
 import handmade
@@ -24,6 +25,8 @@ from reader import BODY_WITHOUT_END, INITIAL_WITHOUT_END, Reading
 FUEL = ['--fuel', '20000000']
 INPUT = b'some input\0\xff'
 REFUSED = ('malformed', 'invalid')
+MAGIC = b'\0asm'
+PLACE = re.compile(rb'\nAt byte (\d+) \(0x([0-9a-f]+)\)')
 # What later versions of the standard judge otherwise, and V8's own limits.
 V8_JUDGES_OTHERWISE = {'several results', 'several tables', 'an own global in an offset', 'labels of several types',
                        'many locals', 'a large table', 'flags of a segment'}
@@ -109,12 +112,22 @@ class Comparison:
             said = 'malformed' if found.end == 'malformed' else 'well formed'
             wanted = 'malformed' if reading.malformed else 'well formed'
             self.compare('changed, the grammar', '%s (%s)' % (name, reading.malformed), module, wanted, said)
+            if found.end == 'malformed':
+                self.explained(name, module, reading)
             accepted = found.end.split()[0] if found.end not in REFUSED else 'refused'
             if answers is not None:
                 self.changed_in('V8', V8_JUDGES_OTHERWISE, name, module, reading, answers[place][0], accepted)
             if self.wabt:
                 self.changed_in('wabt', WABT_JUDGES_OTHERWISE, name, module, reading, judges.wabt_accepts(self.folder),
                                 accepted)
+
+    def explained(self, name, module, reading):
+        """What is told of a changed module that is malformed: a place in it, unless it doesn't begin as a module."""
+        told = judges.explained(self.program, self.folder)
+        found = PLACE.search(told)
+        is_place = found and int(found[1]) == int(found[2], 16) <= len(module)
+        wanted = 'a place' if MAGIC.startswith(module[:4]) else 'no place'
+        self.compare('changed, explained', '%s (%s)' % (name, reading.malformed), module, wanted, 'a place' if is_place else 'no place')
 
     def changed_in(self, tool, otherwise, name, module, reading, valid, found):
         """Compares a verdict with a tool's. A module that breaks a rule of the profile alone is left out where the tool takes

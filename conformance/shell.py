@@ -2,12 +2,17 @@
 """shell.py PROGRAM [--only WORD]
 
 Tries the program from the shell, with real files and streams: files that are written, missing or may not be read, folders, and
-streams that are files, full or closed. --only takes the tries whose names hold a word."""
+streams that are files, terminals, full or closed. --only takes the tries whose names hold a word."""
 import json
 import os
+import pty
 import re
+import select
 import shutil
+import subprocess
 import sys
+import time
+import tty
 
 import report
 from report import Left
@@ -17,15 +22,17 @@ SUM = b'class MAIN is main is #OUT + (1 + 2); end; end;'
 ITER = b'class MAIN is main is loop #OUT + 1.upto!(3); end; end; end;'
 FAULT = b'class MAIN is main is #OUT + "a";\n#OUT + 1 / 0; end; end;'
 COPY = b'class MAIN is main is loop b ::= #IN.get_byte; while!(b >= 0); #OUT + b.char; end; end; end;'
+ENDLESS = b'class MAIN is main is #OUT + "one\\ntwo\\nthree"; loop end; end; end;'
 UNKNOWN = b'class MAIN is\nmain is x ::= y; end; end;'
 LISTING = b'type ->\nfunc 0\nend\nexport 6d61696e func 0\n'
 MAIN = bytes.fromhex('0061736d01000000 010401600000 03020100 070801046d61696e0000 0a040102000b')
 SOURCES = {'f.sa': HELLO, 'sum.sa': SUM, 'unknown.sa': UNKNOWN, 'iter.sa': ITER, 'fault.sa': FAULT, 'copy.sa': COPY,
-           'main.txt': LISTING}
+           'endless.sa': ENDLESS, 'main.txt': LISTING}
 USAGE = b'usage: sather run, build, check, exec, gen, selftest, listing or assemble\n'
 REFUSED = Left(lines=b'unknown.sa:2: E30: unknown name\n', status=120)
 STORE_FAULT = Left(lines=b'store fault\n', status=123)
 OUTPUT_FAULT = Left(lines=b'output fault\n', status=123)
+SHOWING = 20        # the most seconds in which a terminal shows a line of a program that runs
 
 
 class Shell:
@@ -37,6 +44,20 @@ class Shell:
     def run(self, *words, **how):
         """What the program left."""
         return report.run([self.program, *words], self.folder, **how)
+
+    def on_terminal(self, length, *words):
+        """The output of so many bytes that a terminal shows of the program, which is ended then."""
+        reader, terminal = pty.openpty()
+        tty.setraw(terminal)
+        shown, late = b'', time.monotonic() + SHOWING
+        with subprocess.Popen([self.program, *words], cwd=self.folder, stdin=subprocess.DEVNULL, stdout=terminal,
+                              stderr=subprocess.DEVNULL) as running:
+            while len(shown) < length and select.select([reader], [], [], max(late - time.monotonic(), 0))[0]:
+                shown += os.read(reader, length)
+            running.kill()
+        os.close(terminal)
+        os.close(reader)
+        return Left(shown)
 
     def path(self, name):
         """The path of a file in the folder."""
@@ -78,6 +99,9 @@ class Shell:
         full = self.run('build', '-o', '/dev/full', 'f.sa')
         yield 'a module that can\'t be written is a store fault', full, STORE_FAULT
         yield 'a text is no module', self.run('exec', 'f.sa'), Left(lines=b'f.sa: malformed\n', status=126)
+        yield 'a module of a program may have all pages', self.run('exec', '--pages', '65536', 'm'), Left(b'Hello\n')
+        few = self.run('exec', '--pages', '1', 'm')
+        yield 'a module of a program needs more than a page', few, Left(lines=b'out of memory\n', status=125)
 
     def sites(self):
         """The sites of faults, in a file of their own."""
@@ -122,12 +146,42 @@ class Shell:
         closed = report.run(['sh', '-c', 'exec "$0" run f.sa >&-', self.program], self.folder)
         yield 'a closed output is an output fault', closed, OUTPUT_FAULT
 
+    def inputs(self):
+        """The input as a file: through pipes, at once and slowly, and where it can't be read."""
+        def shell(line):
+            return report.run(['sh', '-c', line, self.program], self.folder)
+        accepted = Left(b'accepted\n')
+        yield 'a program comes through a pipe', shell('cat f.sa | "$0" check -'), accepted
+        slowly = 'for part in "class MAIN is" "main is end;" "end;"; do echo "$part"; sleep 0.3; done | "$0" check -'
+        yield 'a program comes through a pipe part by part', shell(slowly), accepted
+        yield 'a program that is printed is checked behind a pipe', shell('"$0" gen 500 | "$0" check -'), accepted
+        yield 'a program comes from a file', shell('"$0" check - <f.sa'), accepted
+        around = '"$0" listing - <main | "$0" assemble -o again - && cat again'
+        yield 'a module that goes through pipes as a listing has its bytes', shell(around), Left(MAIN)
+        yield 'an input that is closed is a store fault', shell('exec "$0" check - <&-'), STORE_FAULT
+        yield 'a folder as the input is a store fault', shell('"$0" check - <.'), STORE_FAULT
+        told = STORE_FAULT.lines + b'The input can\'t be read: it was closed, or it is a folder.\nGive it a text, as by `< FILE`.\n'
+        yield 'an input that can\'t be read is explained', shell('"$0" check --explain - <.'), Left(lines=told, status=123)
+
+    def terminals(self):
+        """Lines of programs that run on, on a terminal."""
+        lines = Left(b'one\ntwo\n')
+        yield 'a terminal shows the lines of a program that never ends', self.on_terminal(8, 'run', 'endless.sa'), lines
+        yield 'a module is written that never ends', self.run('build', '-o', 'endless', 'endless.sa'), Left()
+        yield 'a terminal shows the lines of a module that never ends', self.on_terminal(8, 'exec', 'endless'), lines
+        yield 'a terminal shows the lines of a traced program', self.on_terminal(8, 'run', '--trace', 'endless.sa'), lines
+        whole, spent = b'one\ntwo\nthree', b'fuel spent\n'
+        bounded = 'run', '--fuel', '1000000', 'endless.sa'
+        yield 'a terminal shows what has no end of line at the end', self.on_terminal(13, *bounded), Left(whole)
+        yield 'a pipe has the same bytes', self.run(*bounded), Left(whole, spent, 122)
+
 
 def try_all(program, told, word=''):
     """Tries what has a name that holds the word."""
     with report.folder_with(SOURCES) as folder:
         shell = Shell(program, folder)
-        parts = (shell.programs, shell.files, shell.modules, shell.sites, shell.listings, shell.streams)
+        parts = (shell.programs, shell.files, shell.modules, shell.sites, shell.listings, shell.streams,
+                 shell.inputs, shell.terminals)
         chosen = [(name, report.difference(wanted, left)) for part in parts for name, left, wanted in part() if word in name]
     told.part('command lines', len(chosen))
     for name, wrong in chosen:

@@ -4,7 +4,7 @@ texts.py --write
 
 Holds the texts that `sather explain` and `sather lib` print to the files that they come from:
 
-- crates/sa_pages/src/errors.rt has the sections of docs/ERRORS.md, and crates/sa_pages/src/library.rt the files of lib/; both are
+- crates/sa_pages/src/errors has the sections of docs/ERRORS.md in parts, and crates/sa_pages/src/library the files of lib/; both are
   what this script writes with --write;
 - `sather explain WORD` prints the section of each code, of each text of a line, and of both as they stand in a line;
 - `sather lib` lists the files of lib/ with what each has, and `sather lib NAME` prints one, with `.sa` or without.
@@ -132,24 +132,30 @@ def parted(texts):
     return parts
 
 
-def source(head, table, says, texts):
-    """The source of the tables of words with their texts: a constant for each text, named by the first word that asks for it."""
-    tables = ''
-    for number, part in enumerate(parted(texts)):
-        rows = [['"%s"' % word for word in words] + [name_of(words[0])] for *words, _ in part]
-        name = 'pub(crate) const %s_%d: [(&str, &str, &str, &str); %d] = ' % (table, number, len(part))
-        tables += '/// %s\n%s\n' % (says, table_of(name, rows))
-    return '%s\n%s%s' % (head, tables, '\n'.join(constant(name_of(words[0]), text) for *words, text in texts))
+def part_source(table, number, says, texts):
+    """The source of a part: the table of its words, and a constant for each text, named by the first word that asks for it."""
+    rows = [['"%s"' % word for word in words] + [name_of(words[0])] for *words, _ in texts]
+    head = 'pub(crate) const %s_%d: [(&str, &str, &str, &str); %d] = ' % (table, number, len(texts))
+    constants = [constant(name_of(words[0]), text) for *words, text in texts]
+    return '//! %s\n\n/// The texts of this part, each behind the words that ask for it.\n%s' % (
+        says % (number + 1), '\n'.join([table_of(head, rows), *constants]))
+
+
+def part_sources(folder, table, says, texts):
+    """The sources of all parts, by their names."""
+    return {'%s/part_%d.rt' % (folder, number): part_source(table, number, says, part) for number, part in enumerate(parted(texts))}
 
 
 def sources():
     """The sources of the crate that this script writes, by their names."""
+    modules = ''.join('pub(crate) mod part_%d;\n' % number for number in sorted(range(PARTS), key=str))
+    by = 'conformance/texts.py writes these files.'
     return {
-        'errors.rt': source('//! The sections of docs/ERRORS.md. conformance/texts.py writes this file.\n', 'ERRORS',
-                            'A part of the pages, each behind the words that ask for it.', explained()),
-        'library.rt': source('//! The files of lib/. conformance/texts.py writes this file.\n', 'FILES',
-                             'A part of the files, each behind the words that ask for it.', printed())
-        + '\n/// The files, each with what it has.\n' + constant('LISTED', listed(), 'pub(crate) ')}
+        'errors.rt': '//! The sections of docs/ERRORS.md, in parts. %s\n\n%s' % (by, modules),
+        'library.rt': '//! The files of lib/, in parts. %s\n\n%s\n/// The files, each with what it has.\n%s' % (
+            by, modules, constant('LISTED', listed(), 'pub(crate) ')),
+        **part_sources('errors', 'ERRORS', 'Part %d of the sections of docs/ERRORS.md.', explained()),
+        **part_sources('library', 'FILES', 'Part %d of the files of lib/.', printed())}
 
 
 def source_differs(name, text):
@@ -184,6 +190,7 @@ def try_all(program, told, word=''):
 def write():
     """Writes the sources of the crate."""
     for name, text in sources().items():
+        os.makedirs(os.path.dirname(os.path.join(CRATE, name)), exist_ok=True)
         with open(os.path.join(CRATE, name), 'w', encoding='utf-8') as file:
             file.write(text)
 

@@ -18,7 +18,7 @@ use Rattle.std.specs.Prelude.{Option, None}
 use Rattle.sa_drive.specs.Answer.{DoesNothing, Obeys, empty_input, own_sink}
 use Rattle.sa_drive.specs.Built.{IsTried}
 use Rattle.sa_drive.specs.Ends.{IsOfModule, cause_of}
-use Rattle.sa_drive.specs.Runs.{IsRunOf, IsRunOfModule, Ran, RanBuilt, RanTraced, Shows, done_of, ended_of, framed_output, sinks_of}
+use Rattle.sa_drive.specs.Runs.{IsRunBounded, IsRunOf, IsRunOfModule, Ran, RanBuilt, RanTraced, Shows, done_of, ended_of, framed_output, sinks_of}
 use Rattle.sa_drive.specs.Seen.{Outside, Part}
 use Rattle.sa_drive.specs.declared.cause.Cause.{Cause}
 use Rattle.sa_drive.specs.declared.cause.Cause.TheVariants as cause
@@ -43,10 +43,10 @@ shows_of IsCause fuel ended run outcome is cause done steps = record {
 }
 
 -- the outcome of what ended so is that of the run
-pub shown : (input : Part Input) (out : Part (List ℕ)) (IsCause : Cause → Cause → Type 0) (bytes : List ℕ) (fuel : ℕ) (ended : Ended) (run : Run) (outcome : Outcome) → ended ≡ ended_of fuel run → IsRunOf input out bytes fuel run → outcome.«module».items ≡ bytes → IsCause ended.cause outcome.cause → outcome.done ≡ ended.done → ((steps : ℕ) → outcome.steps ≡ Some steps → steps ≡ ended.steps) → Ran input out fuel IsCause outcome
-shown input out IsCause bytes fuel ended run outcome is ran same cause done steps = (
+pub shown : (input : Part Input) (out : Part (List ℕ)) (IsCause : Cause → Cause → Type 0) (bytes : List ℕ) (pages : Option ℕ) (fuel : ℕ) (ended : Ended) (run : Run) (outcome : Outcome) → ended ≡ ended_of fuel run → IsRunBounded input out pages bytes fuel run → outcome.«module».items ≡ bytes → IsCause ended.cause outcome.cause → outcome.done ≡ ended.done → ((steps : ℕ) → outcome.steps ≡ Some steps → steps ≡ ended.steps) → Ran input out pages fuel IsCause outcome
+shown input out IsCause bytes pages fuel ended run outcome is ran same cause done steps = (
   run,
-  rw same ran,
+  subst (λ told. IsRunBounded input out pages told fuel run) (sym same) ran,
   shows_of IsCause fuel ended run outcome is cause done steps,
 )
 

@@ -86,11 +86,11 @@ IsModuleIn store file bytes = HasFile store.before file bytes × (length bytes �
 abbrev pub IsSame : (of_module : Cause) → (told : Cause) → Type 0
 IsSame of_module told = told ≡ of_module
 
--- the module in this file was run, or none was read
-abbrev pub IsExecuted : Part Files → Part Input → Part (List ℕ) → ℕ → List ℕ → Outcome → Type 0
-IsExecuted store input out fuel file outcome =
+-- the module in this file was run, with this bound of its memory in pages, if there is one; or none was read
+abbrev pub IsExecuted : Part Files → Part Input → Part (List ℕ) → ℕ → Option ℕ → List ℕ → Outcome → Type 0
+IsExecuted store input out fuel pages file outcome =
     (IsUnread store file outcome.cause × HasNoModule outcome × IsKept input × IsKept out)
-    ⊎ (IsModuleIn store file outcome.«module».items × Ran input out fuel IsSame outcome)
+    ⊎ (IsModuleIn store file outcome.«module».items × Ran input out pages fuel IsSame outcome)
 
 -- the listing of the module in this file was put on out, or there is none
 abbrev pub IsListed : Part Files → Part (List ℕ) → List ℕ → Outcome → Type 0
@@ -173,8 +173,8 @@ Does outside (Build room contracts detail out sites names) outcome =
     IsBuilt outside.store out sites names outcome × IsSilent outside.err outcome
 Does outside (Check contracts extent detail names) outcome =
     IsChecked outside.store outside.out extent names outcome × IsSilent outside.err outcome
-Does outside (Exec fuel stats detail file) outcome =
-    IsExecuted outside.store outside.input outside.out fuel file outcome × IsSilent outside.err outcome
+Does outside (Exec fuel pages stats detail file) outcome =
+    IsExecuted outside.store outside.input outside.out fuel pages file outcome × IsSilent outside.err outcome
 Does outside (Gen classes) outcome = IsGenerated outside.out classes outcome × IsSilent outside.err outcome
 Does outside (Selftest classes) outcome = IsTested outside.out classes outcome × IsSilent outside.err outcome
 Does outside (Listing file) outcome = IsListed outside.store outside.out file outcome × IsSilent outside.err outcome
@@ -200,7 +200,7 @@ Obeys outside (Some line) outcome = DoesNothing outside outcome cause.NoMemory �
 
 -- the file of the module or the listing that the command reads, and nothing for another command
 abbrev pub module_file : Option Line → List ℕ
-module_file (Some (Exec fuel stats detail file)) = file
+module_file (Some (Exec fuel pages stats detail file)) = file
 module_file (Some (Listing file)) = file
 module_file (Some (Assemble out file)) = file
 module_file _ = []
@@ -208,7 +208,7 @@ module_file _ = []
 -- the command asks for the statistics
 abbrev pub asks_stats : Option Line → Bool
 asks_stats (Some (Run fuel room stats contracts trace detail names)) = stats
-asks_stats (Some (Exec fuel stats detail file)) = stats
+asks_stats (Some (Exec fuel pages stats detail file)) = stats
 asks_stats _ = false
 
 -- the command tells one refusal alone
@@ -234,7 +234,7 @@ pub record IsTellable (line : Option Line) (outcome : Outcome) : Type 0 where
 -- the command runs no module on the input and to out
 abbrev pub RunsNone : Option Line → Type 0
 RunsNone (Some (Run fuel room stats contracts trace detail names)) = ⊥
-RunsNone (Some (Exec fuel stats detail file)) = ⊥
+RunsNone (Some (Exec fuel pages stats detail file)) = ⊥
 RunsNone _ = ⊤
 
 -- the command reads no file

@@ -1,5 +1,5 @@
 -- What a command shows of the run of a module.
-use Rattle.std.specs.Prelude.{◌≡◌, ◌≤◌, ℕ, ◌%◌, ◌^◌, List, [], Some}
+use Rattle.std.specs.Prelude.{◌≡◌, ◌≤◌, ℕ, ◌%◌, ◌^◌, List, [], Option, None, Some}
 use Rattle.sa_outside.specs.Input.{Input}
 use Rattle.sa_statement.specs.Runnable.{IsRunnable}
 use Rattle.sa_trace.specs.Handing.{sink}
@@ -11,6 +11,7 @@ use Rattle.wa_syntax.specs.Binary.{SpellsModule}
 use Rattle.wa_run.specs.Answers.{IsBeforeRun, IsTold}
 use Rattle.wa_run.specs.Modules.{SaysOf, SaysOfValid}
 use Rattle.wa_run.specs.Runs.{HasRun, HasRunModule, streams}
+use Rattle.wa_run.specs.Within.{HasRunWithin, SaysOfWithin}
 use Rattle.wa_run.specs.declared.answer.Answer.{Answer}
 use Rattle.wa_run.specs.declared.answer.Answer.TheVariants as answer
 use Rattle.wa_run.specs.declared.module_run.Run.{Run}
@@ -37,6 +38,18 @@ pub record IsRunOf (input : Part Input) (out : Part (List ℕ)) (bytes : List �
   pub within : run.steps ≤ fuel
   pub ran : HasRun bytes fuel run (streams input.before out.before) (streams input.after out.after)
 
+-- it was run so with a memory of at most so many pages
+pub record IsRunWithin (input : Part Input) (out : Part (List ℕ)) (pages : ℕ) (bytes : List ℕ) (fuel : ℕ) (run : Run) : Type 0 where
+  pub says : SaysOfWithin pages bytes run.answer
+  pub told : IsTold run.answer (Failed input) (Failed out)
+  pub within : run.steps ≤ fuel
+  pub ran : HasRunWithin pages bytes fuel run (streams input.before out.before) (streams input.after out.after)
+
+-- it was run with this bound of its memory in pages, or with the module's own
+abbrev pub IsRunBounded : Part Input → Part (List ℕ) → (pages : Option ℕ) → (bytes : List ℕ) → (fuel : ℕ) → Run → Type 0
+IsRunBounded input out None bytes fuel run = IsRunOf input out bytes fuel run
+IsRunBounded input out (Some pages) bytes fuel run = IsRunWithin input out pages bytes fuel run
+
 -- this valid module was run so with this fuel; where it can be run, it was started
 pub record IsRunOfModule (input : Part Input) (out : Part (List ℕ)) (m : Module) (fuel : ℕ) (run : Run) : Type 0 where
   pub says : SaysOfValid m run.answer
@@ -52,10 +65,10 @@ pub record Shows (fuel : ℕ) (IsCause : (of_module : Cause) → (told : Cause) 
   pub done : outcome.done ≡ done_of run.answer
   pub steps : (steps : ℕ) → outcome.steps ≡ Some steps → steps ≡ run.steps
 
--- the module of the outcome was run with this fuel, and the outcome is that of the run
-abbrev pub Ran : Part Input → Part (List ℕ) → ℕ → ((of_module : Cause) → (told : Cause) → Type 0) → Outcome → Type 0
-Ran input out fuel IsCause outcome =
-    (run : Run) × IsRunOf input out outcome.«module».items fuel run × Shows fuel IsCause outcome run
+-- the module of the outcome was run with this bound of its memory and this fuel, and the outcome is that of the run
+abbrev pub Ran : Part Input → Part (List ℕ) → (pages : Option ℕ) → (fuel : ℕ) → ((of_module : Cause) → (told : Cause) → Type 0) → Outcome → Type 0
+Ran input out pages fuel IsCause outcome =
+    (run : Run) × IsRunBounded input out pages outcome.«module».items fuel run × Shows fuel IsCause outcome run
 
 -- the bytes of the outcome spell a module that can be run, it was run with this fuel, and the outcome is that of the run
 pub record RanBuilt (input : Part Input) (out : Part (List ℕ)) (fuel : ℕ)

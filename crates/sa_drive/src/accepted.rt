@@ -1,5 +1,11 @@
 //! The typed program of what its files declare, with or without the checks of its contracts.
 
+ghost use Rattle.std.specs.Prelude.{◌≡◌, IfOk, MatchResult, None};
+ghost use Rattle.sa_contract.specs.AskedChecks.{asked_by};
+ghost use Rattle.sa_contract.specs.NotQuiet.{first_in_features};
+ghost use Rattle.sa_words.specs.declared.command.Contracts.TheVariants.{Checked};
+ghost use Rattle.sa_drive.specs.Accepted.{IsNotQuiet, asked_under, classes_under};
+
 use sa_check::{check, check_all};
 use sa_contract::{Checks, Woven, weave};
 use sa_core::Core;
@@ -16,6 +22,7 @@ use std::alloc::Global;
 /// The first refusal by the rules of classes and bodies. Where contracts are checked, then that of the classes with the checks in
 /// their bodies, and then E46. Where all is checked, the further refusals of the same classes are put at the end of `further`.
 /// `NoMemory`.
+#[tactic(auto, using(crate::proofs::QuietLemmas::none))]
 pub(crate) fn accepted(
     alloc: Global,
     declared: Parsed,
@@ -23,7 +30,10 @@ pub(crate) fn accepted(
     contracts: Contracts,
     extent: Extent,
     further: &mut Vec<Refusal>,
-) -> Result<Core, FrontFault> {
+) -> Result<Core, FrontFault>
+    ensures quiet { let asked = asked_under contracts declared.contracts declared.classes in
+        IfOk result (λ core. first_in_features asked core.features ≡ None) }
+{
     let core = typed(alloc, declared.classes.as_slice(), texts, extent, further)?;
     match contracts {
         Contracts::Dropped => Ok(core),
@@ -55,20 +65,30 @@ fn with_checks(
     texts: &[Items<u8>],
     extent: Extent,
     further: &mut Vec<Refusal>,
-) -> Result<Core, FrontFault> {
+) -> Result<Core, FrontFault>
+    ensures quiet { let asked = asked_under Checked declared.contracts declared.classes in
+        IfOk result (λ core. first_in_features asked core.features ≡ None) }
+{
     let woven = woven(alloc, declared)?;
     let core = typed(alloc, woven.classes.as_slice(), texts, extent, further)?;
     if_quiet(core, &woven.checks)
 }
 
 /// The declared classes with the checks in their bodies, and which checks these are.
-fn woven(alloc: Global, declared: Parsed) -> Result<Woven, NoMemory> {
+fn woven(alloc: Global, declared: Parsed) -> Result<Woven, NoMemory>
+    ensures classes { IfOk result (λ woven. woven.classes ≡ classes_under Checked declared.contracts declared.classes) }
+    ensures checks { IfOk result (λ woven. asked_by woven.checks ≡ asked_under Checked declared.contracts declared.classes) }
+{
     let Parsed { classes, contracts } = declared;
     weave(alloc, classes, contracts.as_slice())
 }
 
 /// The typed program, if each of these checks is quiet in it.
-fn if_quiet(core: Core, checks: &Checks) -> Result<Core, FrontFault> {
+fn if_quiet(core: Core, checks: &Checks) -> Result<Core, FrontFault>
+    ensures same { IfOk result (λ quiet. quiet ≡ core) }
+    ensures quiet { let first = first_in_features (asked_by checks.now) core.features in
+        MatchResult result (λ _. first ≡ None) (IsNotQuiet first) }
+{
     checks.check_quiet(&core)?;
     Ok(core)
 }

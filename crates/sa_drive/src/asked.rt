@@ -1,18 +1,22 @@
-//! What a command asks to be told of the cause of its end, and of which files a fault of the store can be.
+//! What a command asks to be told of the cause of its end, of which files a fault of the store can be, and how a memory is bounded.
 
 ghost use Rattle.std.specs.Prelude.{◌≡◌, Some};
 ghost use Rattle.sa_words.specs.Line.{detail_of, line_of};
 
-use sa_words::{Command, Detail, detail_of};
+use sa_words::{Command, Contracts, Detail, detail_of};
 
 /// What is to be told, and of which files.
 #[derive(Clone, Copy)]
 pub struct Asked<'a> {
     pub detail: Detail,
+    /// What was done with the contracts of the program, where one was run.
+    pub contracts: Contracts,
     /// The name of the file that the command reads, where it reads one.
     pub read: Option<&'a str>,
     /// The name of the file that it writes, where it writes one.
     pub written: Option<&'a str>,
+    /// How many pages the memory of a module may have, where it bounds that.
+    pub pages: Option<u32>,
 }
 
 impl<'a> Asked<'a> {
@@ -22,8 +26,10 @@ impl<'a> Asked<'a> {
     {
         Asked {
             detail: Detail::Brief,
+            contracts: Contracts::Dropped,
             read: None,
             written: None,
+            pages: None,
         }
     }
 
@@ -33,9 +39,19 @@ impl<'a> Asked<'a> {
     {
         Asked {
             detail: detail_of(command),
+            contracts: contracts_of(command),
             read: read_by(command),
             written: written_by(command),
+            pages: pages_of(command),
         }
+    }
+}
+
+/// What a command does with the contracts of the program that it runs.
+fn contracts_of(command: &Command<'_>) -> Contracts {
+    match command {
+        Command::Run(line) => line.contracts,
+        _ => Contracts::Dropped,
     }
 }
 
@@ -57,6 +73,14 @@ fn written_by<'a>(command: &Command<'a>) -> Option<&'a str> {
             Some(_) => None,
             None => Some(line.out),
         },
+        _ => None,
+    }
+}
+
+/// How many pages the memory of a module may have, where a command bounds that.
+fn pages_of(command: &Command<'_>) -> Option<u32> {
+    match command {
+        Command::Exec(line) => line.pages,
         _ => None,
     }
 }

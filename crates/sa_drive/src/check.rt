@@ -54,17 +54,17 @@ pub fn check<'a, S: ReadFiles, O: Sink>(
     );
     match core {
         Ok(_core) => Outcome::without_module(alloc, print(ACCEPTED, out), sources),
-        Err(cause) => unaccepted(alloc, line.extent, cause, sources, further.as_slice()),
+        Err(cause) => unaccepted(alloc, line.extent, cause, sources, further),
     }
 }
 
-/// The outcome of a program that isn't accepted for this cause, with the lines of further refusals where all is checked.
+/// The outcome of a program that isn't accepted for this cause, with further refusals and their lines where all is checked.
 fn unaccepted<'a>(
     alloc: Global,
     extent: Extent,
     cause: Cause,
     sources: Sources,
-    further: &[Refusal],
+    further: Vec<Refusal>,
 ) -> Outcome<'a>
     requires placed { IsPlaced sources cause }
     ensures cause { (result.cause ≡ cause) ⊎ (result.cause ≡ Cause.NoMemory) }
@@ -87,12 +87,12 @@ fn unaccepted<'a>(
     }
 }
 
-/// The outcome of a program that is refused, with the lines of further refusals.
+/// The outcome of a program that is refused, with further refusals and their lines.
 fn all_refused<'a>(
     alloc: Global,
     first: Refusal,
     sources: Sources,
-    further: &[Refusal],
+    further: Vec<Refusal>,
 ) -> Outcome<'a>
     requires placed { IsPlaced sources (Cause.Refused first) }
     ensures cause { (result.cause ≡ Cause.Refused first) ⊎ (result.cause ≡ Cause.NoMemory) }
@@ -105,11 +105,12 @@ fn all_refused<'a>(
     ensures listening { result.listening ≡ listening.Yes }
     ensures done { result.done ≡ 0 }
 {
-    match refusal_lines(alloc, &sources, further) {
+    match refusal_lines(alloc, &sources, further.as_slice()) {
         Ok(lines) => {
             let outcome = Outcome::without_module(alloc, Cause::Refused(first), sources);
             Outcome {
                 further: lines,
+                refusals: further,
                 ..outcome
             }
         }

@@ -222,7 +222,7 @@ fn check_texts(alloc: Global, sources: Sources, contracts: Contracts, extent: Ex
 /// The typed tree of a program of these texts, or the cause why there is none. A refusal of the checker by a rule that isn't its own,
 /// which it never gives, is answered as out of memory. Where all is checked, the refusals behind the first are put at the end of
 /// `further`.
-fn typed(
+pub(crate) fn typed(
     alloc: Global,
     texts: &[Items<u8>],
     contracts: Contracts,

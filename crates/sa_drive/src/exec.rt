@@ -6,7 +6,7 @@ ghost use Rattle.sa_trace.specs.declared.sinks.Listening.TheVariants as listenin
 ghost use Rattle.sa_drive.specs.Answer.{IsExecuted, has_steps};
 ghost use Rattle.sa_drive.specs.Ends.{ComesBeforeOutput, cause_of};
 ghost use Rattle.sa_drive.specs.Lines.{IsPlaced};
-ghost use Rattle.sa_drive.specs.Runs.{IsRunOf, done_of, ended_of};
+ghost use Rattle.sa_drive.specs.Runs.{IsRunBounded, done_of, ended_of};
 ghost use Rattle.sa_drive.specs.Seen.{part};
 ghost use Rattle.sa_tree.specs.declared.pos.Sources.{Sources as Places};
 ghost use Rattle.wa_run.specs.Answers.{IsBeforeRun};
@@ -21,7 +21,7 @@ use sa_trace::Listening;
 use sa_tree::Sources;
 use sa_words::Exec;
 use std::alloc::Global;
-use wa_run::{Answer, run_bytes};
+use wa_run::{Answer, Run, run_bytes, run_within};
 
 /// How many bytes a module's file has at most.
 pub const MOST_MODULE_BYTES: usize = 67_108_864;
@@ -65,6 +65,7 @@ impl Ended {
             file,
             module,
             further: Vec::new(alloc),
+            refusals: Vec::new(alloc),
             steps,
             listening: Listening::Yes,
         }
@@ -90,7 +91,7 @@ pub fn exec<'a, S: ReadFiles, I: Source, O: Sink>(
     out: &mut O,
 ) -> Outcome<'a>
     ensures does { IsExecuted (part S.files S.faults store.old store.new) (part I.input I.faults input.old input.new)
-        (part O.output O.faults out.old out.new) line.now.fuel line.now.«module».now result }
+        (part O.output O.faults out.old out.new) line.now.fuel line.now.pages line.now.«module».now result }
     ensures placed { IsPlaced result.sources result.cause }
     ensures steps { is_some result.steps ≡ (line.now.stats && has_steps result.cause) }
     ensures further { result.further.items ≡ [] }
@@ -102,7 +103,7 @@ pub fn exec<'a, S: ReadFiles, I: Source, O: Sink>(
 {
     match read_file(alloc, store, line.module, MOST_MODULE_BYTES) {
         Ok(Read::Whole(bytes)) => {
-            let ended = run_module(alloc, bytes.as_slice(), line.fuel, input, out);
+            let ended = run_module(alloc, bytes.as_slice(), line.pages, line.fuel, input, out);
             ended.outcome(alloc, no_sources(alloc), line.module, bytes, line.stats)
         }
         Ok(Read::Cut(_bytes)) => without_file(alloc, line.module, Cause::Malformed),
@@ -124,22 +125,34 @@ pub fn without_file<'a>(alloc: Global, file: &'a str, cause: Cause) -> Outcome<'
     Outcome { file, ..outcome }
 }
 
-/// Runs the module of these bytes.
-pub fn run_module<I: Source, O: Sink>(
+/// Runs the module of these bytes, with this bound of its memory in pages, if there is one.
+fn run_module<I: Source, O: Sink>(
     alloc: Global,
     bytes: &[u8],
+    pages: Option<u32>,
     fuel: u64,
     input: &mut I,
     out: &mut O,
 ) -> Ended
     requires { length bytes.now < 4294967295 }
-    ensures ran { (run : Runs) × (result ≡ ended_of fuel run) × IsRunOf (part I.input I.faults input.old input.new)
-        (part O.output O.faults out.old out.new) bytes.now fuel run }
+    ensures ran { (run : Runs) × (result ≡ ended_of fuel run) × IsRunBounded (part I.input I.faults input.old input.new)
+        (part O.output O.faults out.old out.new) pages bytes.now fuel run }
     ensures placed { (sources : Places) → IsPlaced sources result.cause }
     ensures output { Grew (O.output out.old) (O.output out.new) }
     ensures untouched { ComesBeforeOutput result.cause → (out.new ≡ out.old) × (input.new ≡ input.old) }
 {
-    let run = run_bytes(alloc, bytes, fuel, input, out);
+    match pages {
+        Some(pages) => ended_of(run_within(alloc, bytes, pages, fuel, input, out), fuel),
+        None => ended_of(run_bytes(alloc, bytes, fuel, input, out), fuel),
+    }
+}
+
+/// How a run with this fuel ended.
+fn ended_of(run: Run, fuel: u64) -> Ended
+    ensures value { result ≡ ended_of fuel run }
+    ensures before { ComesBeforeOutput result.cause → IsBeforeRun run.answer }
+    ensures placed { (sources : Places) → IsPlaced sources result.cause }
+{
     Ended {
         cause: cause_of(run.answer, fuel),
         done: done_of(run.answer),

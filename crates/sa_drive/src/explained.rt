@@ -5,14 +5,16 @@ ghost use Rattle.sa_drive.specs.Seen.{part};
 
 use crate::asked::Asked;
 use crate::cause::Cause;
+use crate::memory_end::memory_end;
 use crate::module_end::module_end;
 use crate::outcome::Outcome;
 use crate::outside_end::{outside_end, store_fault};
-use sa_explain::{explain_fault, explain_refusal};
+use crate::retyped::typed_again;
+use sa_explain::{explain_fault, explain_refusals};
 use sa_outside::Sink;
 use sa_trace::Listening;
-use sa_tree::NoMemory;
-use sa_words::Detail;
+use sa_tree::{FaultKind, NoMemory, Pos, Sources};
+use sa_words::{Contracts, Detail};
 use std::alloc::Global;
 
 /// Puts on err what explains the cause that stands at the end of an outcome, if that is asked for and err still listens. Where memory
@@ -70,10 +72,31 @@ fn explanation(
 ) -> Result<Vec<u8>, NoMemory> {
     let module = outcome.module.as_slice();
     match cause {
-        Cause::Refused(refusal) => explain_refusal(alloc, &outcome.sources, refusal),
-        Cause::Fault(kind, pos) => explain_fault(alloc, &outcome.sources, kind, pos),
+        Cause::Refused(refusal) => explain_refusals(
+            alloc,
+            &outcome.sources,
+            refusal,
+            outcome.refusals.as_slice(),
+        ),
+        Cause::Fault(kind, pos) => fault(alloc, asked.contracts, &outcome.sources, kind, pos),
         Cause::StoreFault => store_fault(alloc, asked, module.is_empty()),
         Cause::Spent(_) | Cause::InFault | Cause::OutFault => outside_end(alloc, cause),
+        Cause::NoMemory => memory_end(alloc, module, asked.pages),
         _ => module_end(alloc, module, cause),
     }
+}
+
+/// What explains a fault at a position. The typed tree tells more of one in the prelude, and of an exception.
+fn fault(
+    alloc: Global,
+    contracts: Contracts,
+    sources: &Sources,
+    kind: FaultKind,
+    pos: Pos,
+) -> Result<Vec<u8>, NoMemory> {
+    if pos.file != 0 && kind != FaultKind::Uncaught {
+        return explain_fault(alloc, sources, None, kind, pos);
+    }
+    let core = typed_again(alloc, sources, contracts);
+    explain_fault(alloc, sources, core.as_ref(), kind, pos)
 }

@@ -1,11 +1,12 @@
 //! What is said of a module that `exec` doesn't run, or that ended by itself.
 
 use crate::cause::Cause;
+use crate::malformed::malformed;
+use crate::unlinked::unlinked;
 use sa_explain_scene::{Part, Sentences};
 use sa_tree::{FaultKind, NoMemory};
 use std::alloc::{AllocError, Global};
-use wa_decode::{DecodeFault, decode};
-use wa_syntax::{Import, Module, TrapKind};
+use wa_syntax::TrapKind;
 
 /// What a cause means that a module of these bytes ended with; nothing where no module has such an end.
 pub fn module_end(alloc: Global, module: &[u8], cause: Cause) -> Result<Vec<u8>, NoMemory> {
@@ -23,21 +24,6 @@ pub fn module_end(alloc: Global, module: &[u8], cause: Cause) -> Result<Vec<u8>,
     Ok(said.text)
 }
 
-/// Bytes that are no module, by what they begin with.
-fn malformed(module: &[u8], said: &mut Sentences) -> Result<(), AllocError> {
-    let wrong = match module {
-        [] => "The file has no bytes, or more than 67108864.",
-        [0x00, b'a', b's', b'm', 0x01, 0x00, 0x00, 0x00, ..] =>
-            "The file begins as a module of WebAssembly 1.0, and goes on as none without floating point: it was cut, or it has floats or later features.",
-        _ =>
-            "The file is no module of WebAssembly 1.0: these begin with the bytes 00 61 73 6d 01 00 00 00.",
-    };
-    said.say_words(wrong)?;
-    said.say_words(
-        "A source is run by `run`, a listing is made a module by `assemble`, and `exec` takes what `build` has made.",
-    )
-}
-
 fn invalid(func: Option<u32>, said: &mut Sentences) -> Result<(), AllocError> {
     match func {
         Some(number) => said.say(&[
@@ -52,66 +38,6 @@ fn invalid(func: Option<u32>, said: &mut Sentences) -> Result<(), AllocError> {
         )?,
     }
     said.say_words("Look at what has made it; `listing` shows its instructions.")
-}
-
-/// An import that can't be given, or no `main`.
-fn unlinked(
-    alloc: Global,
-    bytes: &[u8],
-    number: u32,
-    said: &mut Sentences,
-) -> Result<(), NoMemory> {
-    let Some(module) = decoded(alloc, bytes)? else {
-        return Ok(());
-    };
-    match module.imports.get(number as usize) {
-        Some(import) => not_given(import, said)?,
-        None => without_main(&module, said)?,
-    }
-    Ok(())
-}
-
-/// The module that bytes spell, or nothing where they spell none.
-fn decoded(alloc: Global, bytes: &[u8]) -> Result<Option<Module>, NoMemory> {
-    if bytes.len() >= u32::MAX as usize {
-        return Ok(None);
-    }
-    match decode(alloc, bytes) {
-        Ok(module) => Ok(Some(module)),
-        Err(DecodeFault::Malformed) => Ok(None),
-        Err(DecodeFault::NoMemory) => Err(NoMemory),
-    }
-}
-
-fn not_given(import: &Import, said: &mut Sentences) -> Result<(), AllocError> {
-    said.say(&[
-        Part::Words("`exec` can't give the import `"),
-        Part::Plain(import.module.as_slice()),
-        Part::Words("."),
-        Part::Plain(import.name.as_slice()),
-        Part::Words(
-            "`: it has the functions `env.put`, which takes an i32, `env.get`, which gives one, and `env.stop`, which takes two.",
-        ),
-    ])?;
-    said.say_words("Give the module these imports alone.")
-}
-
-fn without_main(module: &Module, said: &mut Sentences) -> Result<(), AllocError> {
-    let has_main = module
-        .exports
-        .as_slice()
-        .iter()
-        .any(|export| export.name.as_slice() == b"main".as_slice());
-    if has_main {
-        said.say_words(
-            "A run begins at the export `main`, and this one isn't a function of the module's own that takes nothing and gives nothing or an i32.",
-        )?;
-    } else {
-        said.say_words("A run begins at the export `main`, and this module has none.")?;
-    }
-    said.say_words(
-        "Export such a function; in C write `__attribute__((export_name(\"main\"))) int run(void)`.",
-    )
 }
 
 fn segment(said: &mut Sentences) -> Result<(), AllocError> {

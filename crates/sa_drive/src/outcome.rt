@@ -5,7 +5,7 @@ ghost use Rattle.sa_trace.specs.declared.sinks.Listening.TheVariants as listenin
 
 use crate::cause::Cause;
 use sa_trace::Listening;
-use sa_tree::Sources;
+use sa_tree::{Refusal, Sources};
 use std::alloc::Global;
 
 /// How a command ended, and what is reported of it.
@@ -22,6 +22,8 @@ pub struct Outcome<'a> {
     pub module: Vec<u8>,
     /// The lines of further refusals, behind that of the cause.
     pub further: Vec<u8>,
+    /// These refusals, in the order of their lines.
+    pub refusals: Vec<Refusal>,
     /// How many steps the machine made, where they are to be shown.
     pub steps: Option<u64>,
     /// Whether err has taken all lines of the trace, where there is one.
@@ -52,6 +54,7 @@ impl<'a> Outcome<'a> {
             file: "",
             module,
             further: Vec::new(alloc),
+            refusals: Vec::new(alloc),
             steps: None,
             listening: Listening::Yes,
         }

@@ -22,6 +22,10 @@ fn unread(file: Option<&str>, said: &mut Sentences) -> Result<(), AllocError> {
         " can't be read: it isn't there, it is a folder or a pipe, or it may not be read.",
     );
     match file {
+        Some("-") => {
+            said.say_words("The input can't be read: it was closed, or it is a folder.")?;
+            said.say_words("Give it a text, as by `< FILE`.")
+        }
         Some(name) => {
             said.say(&[Part::Code(name.as_bytes()), reason])?;
             said.say_words("See how its name is written, and from which folder it is named.")
@@ -49,11 +53,17 @@ fn unwritten(file: Option<&str>, said: &mut Sentences) -> Result<(), AllocError>
 pub fn outside_end(alloc: Global, cause: Cause) -> Result<Vec<u8>, NoMemory> {
     let mut said = Sentences::new(alloc);
     match cause {
-        Cause::Spent(_) => {
+        Cause::Spent(steps) => {
+            said.say(&[
+                Part::Words("It hadn't ended within "),
+                Part::Number(usize::try_from(steps).unwrap_or(usize::MAX)),
+                Part::Words(
+                    " steps, which are those that `--fuel` gives: it needs more, or it doesn't end at all.",
+                ),
+            ])?;
             said.say_words(
-                "It hadn't ended within the steps that `--fuel` gives: it needs more, or it doesn't end at all.",
+                "In which line it was isn't kept. Give more, or print something in each loop to see which one doesn't end.",
             )?;
-            said.say_words("Give more, or look for a loop that nothing ends.")?;
         }
         Cause::InFault => {
             said.say_words(

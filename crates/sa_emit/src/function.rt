@@ -1,14 +1,17 @@
 //! The function of a body.
 
+ghost use Rattle.std.specs.Prelude.{IfOk};
+ghost use Rattle.sa_emit.specs.Tables.{IsFunctionOf};
+
 use crate::dispatch::{Dispatch, add_loop};
 use crate::pool::has_frames;
 use crate::predecessors::predecessors_of;
-use crate::reached::Reached;
 use crate::resuming::add_before_choice;
 use crate::steps::Writer;
 use crate::structured::add_shaped;
-use crate::sums::{held_graph, sum};
+use crate::sums::held_graph;
 use crate::targets::targets_of;
+use crate::trial::tried;
 use sa_emit_step::add_suspension;
 use sa_emit_value::{Around, Nesting, Program, Role, add_prologue, locals_of, parameters_of};
 use sa_flat::FlatBody;
@@ -19,44 +22,17 @@ use sqlite_items::Items;
 use std::alloc::Global;
 use wa_syntax::{Func, Instr, NoMemory};
 
-/// The function of each body that is reached, in order.
-pub(crate) fn add_bodies(
-    alloc: Global,
-    funcs: &mut Items<Func>,
-    program: Program<'_>,
-    reached: &Reached,
-) -> Result<(), NoMemory> {
-    let Some((last, others)) = program.flat.bodies.as_slice().split_last() else {
-        return Ok(());
-    };
-    let mut first_site = 0u32;
-    for (body, is_reached) in others.iter().zip(reached.bodies.iter()) {
-        if *is_reached {
-            funcs.push(function(alloc, program, body, role_of(body), first_site)?)?;
-        }
-        first_site = sum(first_site, body.sites)?;
-    }
-    funcs.push(function(alloc, program, last, Role::Last, first_site)?)?;
-    Ok(())
-}
-
-/// What a body that isn't the last one is for.
-fn role_of(body: &FlatBody) -> Role {
-    match body.feature {
-        Some(_) => Role::Feature,
-        None => Role::Made,
-    }
-}
-
 /// The function of a body, whose first site has this place among all sites of the program. It has the shape of the body where there is
 /// one, and else dispatches between the blocks.
-fn function(
+pub(crate) fn function(
     alloc: Global,
     program: Program<'_>,
     body: &FlatBody,
     role: Role,
     first_site: u32,
-) -> Result<Func, NoMemory> {
+) -> Result<Func, NoMemory>
+    ensures { IfOk result (λ func. IsFunctionOf body.now func) }
+{
     let keeping = held_graph(Keeping::of(alloc, body))?;
     let around = Around {
         program,
@@ -72,15 +48,17 @@ fn function(
         keeping: &keeping,
         first_site,
     };
-    let code = match held_graph(shape_of(alloc, body))? {
-        Some(shaped) => shaped_code(alloc, &around, &shaped)?,
+    let shaped = held_graph(shape_of(alloc, body))?;
+    let code = match &shaped {
+        Some(shaped) => shaped_code(alloc, &around, shaped)?,
         None => dispatched_code(alloc, &around)?,
     };
-    Ok(Func {
+    let func = Func {
         ty: BODY_TYPE.saturating_add(parameters_of(body)),
         locals: locals_of(alloc, body)?,
         body: suspending(alloc, &around, code)?,
-    })
+    };
+    tried(body, shaped.is_some(), func)
 }
 
 /// The code of a body that has a shape.

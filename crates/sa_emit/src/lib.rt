@@ -4,6 +4,7 @@
 mod dispatch;
 mod entry;
 mod function;
+mod functions;
 mod globals;
 mod memory;
 mod module;
@@ -22,6 +23,7 @@ mod superblock;
 mod table;
 mod targets;
 mod texts;
+mod trial;
 mod types;
 
 pub use program::{emit, emit_traced};

@@ -1,7 +1,9 @@
 //! The module: imports, the runtime's functions, those of the bodies, `main`, and what they work on.
 
-use crate::entry::main_function;
-use crate::function::add_bodies;
+ghost use Rattle.std.specs.Prelude.{IfOk};
+ghost use Rattle.sa_emit.specs.Tables.{AreFunctionsOf};
+
+use crate::functions::add_functions;
 use crate::globals::globals;
 use crate::memory::Memory;
 use crate::places::Places;
@@ -27,10 +29,11 @@ pub(crate) fn module(
     places: &Places,
     mut funcs: Items<Func>,
     types: Items<FuncTy>,
-) -> Result<Module, NoMemory> {
-    add_bodies(alloc, &mut funcs, program, reached)?;
-    let main = sum(FIRST_BUILTIN, number(funcs.len())?)?;
-    funcs.push(main_function(alloc, last_function(program)?)?)?;
+) -> Result<Module, NoMemory>
+    ensures { IfOk result (λ made. AreFunctionsOf program.entry.flat.now.bodies made.funcs) }
+{
+    add_functions(alloc, &mut funcs, program, reached)?;
+    let main = sum(FIRST_BUILTIN, number(funcs.len().saturating_sub(1))?)?;
     Ok(Module {
         types,
         imports: imports(alloc)?,
@@ -43,12 +46,6 @@ pub(crate) fn module(
         elems: elements(alloc, program, reached, places)?,
         segments: segments(alloc, program.flat, reached, memory.texts_at)?,
     })
-}
-
-/// The function of the last body.
-fn last_function(program: Program<'_>) -> Result<u32, NoMemory> {
-    let last = program.flat.bodies.len().saturating_sub(1);
-    program.function_of(number(last)?)
 }
 
 /// For each body the number of its function, behind so many others, if it is reached.

@@ -1,5 +1,8 @@
 //! A flat program as a module.
 
+ghost use Rattle.std.specs.Prelude.{IfOk};
+ghost use Rattle.sa_emit.specs.Tables.{AreFunctionsOf};
+
 use crate::memory::{Memory, memory_of};
 use crate::module::{functions_of, module};
 use crate::places::{Places, places_of};
@@ -22,7 +25,9 @@ use wa_syntax::{FuncTy, Module, NoMemory};
 ///
 /// `NoMemory`, also where an address or a number of the module doesn't fit 32 bits, and where a number of the program names
 /// nothing.
-pub fn emit(alloc: Global, flat: &FlatProgram, rows: &Rows, room: u32) -> Result<Module, NoMemory> {
+pub fn emit(alloc: Global, flat: &FlatProgram, rows: &Rows, room: u32) -> Result<Module, NoMemory>
+    ensures tables { IfOk result (λ made. AreFunctionsOf flat.now.bodies made.funcs) }
+{
     emitted(alloc, flat, rows, room, Tracing::Off)
 }
 
@@ -37,7 +42,9 @@ pub fn emit_traced(
     flat: &FlatProgram,
     rows: &Rows,
     room: u32,
-) -> Result<Module, NoMemory> {
+) -> Result<Module, NoMemory>
+    ensures tables { IfOk result (λ made. AreFunctionsOf flat.now.bodies made.funcs) }
+{
     let tellers = Tellers::from_first(FIRST_TELLER)?;
     emitted(alloc, flat, rows, room, Tracing::On(tellers))
 }
@@ -79,7 +86,9 @@ fn emitted(
     rows: &Rows,
     room: u32,
     tracing: Tracing,
-) -> Result<Module, NoMemory> {
+) -> Result<Module, NoMemory>
+    ensures { IfOk result (λ made. AreFunctionsOf flat.now.bodies made.funcs) }
+{
     let found = found_of(alloc, flat, rows, room, tracing)?;
     let mut types = own_types(alloc)?;
     let called = found.reached.runtime.as_slice();
@@ -96,7 +105,9 @@ fn with_runtime(
     types: Items<FuncTy>,
     runtime: Runtime,
     tracing: Tracing,
-) -> Result<Module, NoMemory> {
+) -> Result<Module, NoMemory>
+    ensures { IfOk result (λ made. AreFunctionsOf flat.now.bodies made.funcs) }
+{
     let Runtime { funcs, numbers } = runtime;
     let functions = functions_of(alloc, &found.reached, funcs.len())?;
     let program = Program {

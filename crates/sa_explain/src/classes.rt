@@ -61,7 +61,7 @@ fn defined_twice(scene: Scene<'_>, said: &mut Said) -> Result<(), AllocError> {
         said.say(&[
             Part::Code(name),
             Part::Words(" is defined in "),
-            Part::Plain(scene.table.file(pos)),
+            Part::File(scene.table.file(pos)),
             Part::Words(":"),
             Part::Number(scene.table.line(pos)),
             Part::Words(" too."),

@@ -5,9 +5,12 @@ ghost use Rattle.std.specs.Prelude.{◌↔◌, ◌<◌, All, IsTrue, length};
 use crate::classes::{about_class, about_features};
 use crate::faults::about_fault;
 use crate::general::{Advice, of_rule};
+use sa_core::Core;
 use sa_explain_bodies::about_body;
 use sa_explain_grammar::{about_bytes, unexpected};
-use sa_explain_scene::{Said, Scene, Span, Table, Tokens, line_in, opened_before, put_marked};
+use sa_explain_scene::{
+    Part, Said, Scene, Sentences, Span, Table, Tokens, line_in, opened_before, put_marked,
+};
 use sa_lex::{Token, lex};
 use sa_read::{Parsed, parse_program};
 use sa_tree::{Class, FaultKind, NoMemory, Pos, Refusal, Rule, Sources};
@@ -17,26 +20,85 @@ use std::alloc::Global;
 /// The greatest number of bytes that a text may have to be explained.
 const MOST_BYTES: usize = 4_294_967_294;
 
-/// What a refusal of a program with these texts means: the line of the place with the place marked, a sentence about what is wrong
-/// there, and what to do. Nothing where the position is in none of the texts.
+/// How many refusals behind the first one are explained. Each takes a walk over its text.
+const MOST_FURTHER: usize = 199;
+
+/// What the refusals of a program with these texts mean: of each the line of the place with the place marked, a sentence about what is
+/// wrong there, and what to do. Nothing where the position is in none of the texts. Where there are further ones behind the first,
+/// each explanation stands below an empty line and one with the rule and the place, and of more than 200 the last ones are counted.
 ///
 /// # Errors
 ///
 /// `NoMemory` where memory runs out.
-pub fn explain_refusal(
+pub fn explain_refusals(
     alloc: Global,
     sources: &Sources,
-    refusal: Refusal,
+    first: Refusal,
+    further: &[Refusal],
 ) -> Result<Vec<u8>, NoMemory> {
-    let Some(text) = sources.texts.get(refusal.pos.file as usize) else {
+    let classes = classes_of(alloc, sources)?;
+    let table = Table {
+        classes: classes.as_slice(),
+        sources,
+    };
+    if further.is_empty() {
+        return of_refusal(alloc, table, first);
+    }
+    let mut lines = below_head(alloc, table, first)?;
+    for refusal in further.iter().take(MOST_FURTHER) {
+        let explained = below_head(alloc, table, *refusal)?;
+        lines.extend_from_slice(explained.as_slice())?;
+    }
+    let left = left_out(alloc, further.len().saturating_sub(MOST_FURTHER))?;
+    lines.extend_from_slice(left.as_slice())?;
+    Ok(lines)
+}
+
+/// What a refusal means, below an empty line and one with its rule and its place.
+fn below_head(alloc: Global, table: Table<'_>, refusal: Refusal) -> Result<Vec<u8>, NoMemory> {
+    let mut head = Sentences::new(alloc);
+    head.say_words("")?;
+    head.say(&[
+        Part::Words(refusal.rule.text()),
+        Part::Words(" in line "),
+        Part::Number(table.line(refusal.pos)),
+        Part::Words(" of "),
+        Part::File(table.file(refusal.pos)),
+        Part::Words(":"),
+    ])?;
+    let mut lines = head.text;
+    let explained = of_refusal(alloc, table, refusal)?;
+    lines.extend_from_slice(explained.as_slice())?;
+    Ok(lines)
+}
+
+/// What is said of so many refusals that aren't explained.
+fn left_out(alloc: Global, count: usize) -> Result<Vec<u8>, NoMemory> {
+    let mut said = Sentences::new(alloc);
+    if count > 0 {
+        said.say_words("")?;
+        said.say(&[
+            Part::Number(count),
+            Part::Words(
+                " more of these lines aren't explained: mend the first ones, and check again.",
+            ),
+        ])?;
+    }
+    Ok(said.text)
+}
+
+/// What a refusal means.
+fn of_refusal(alloc: Global, table: Table<'_>, refusal: Refusal) -> Result<Vec<u8>, NoMemory> {
+    let Some(text) = table.sources.texts.get(refusal.pos.file as usize) else {
         return Ok(Vec::new(alloc));
     };
     let text = text.as_slice();
-    let said = said_of_refusal(alloc, sources, text, refusal)?;
+    let said = said_of_refusal(alloc, table, text, refusal)?;
     shown(alloc, text, &said)
 }
 
 /// What a fault of this kind at a position means, in the same form. Where the position is in the prelude, the feature there is named.
+/// Where the typed tree is given, the lines are told from which that place can be come to, and of an uncaught exception its type.
 ///
 /// # Errors
 ///
@@ -44,6 +106,7 @@ pub fn explain_refusal(
 pub fn explain_fault(
     alloc: Global,
     sources: &Sources,
+    core: Option<&Core>,
     kind: FaultKind,
     pos: Pos,
 ) -> Result<Vec<u8>, NoMemory> {
@@ -59,7 +122,7 @@ pub fn explain_fault(
     };
     let scene = scene_of(alloc, text, tokens.as_slice(), pos, table)?;
     let mut said = Said::new(alloc, scene.span(scene.at));
-    about_fault(scene, kind, &mut said)?;
+    about_fault(scene, core, kind, &mut said)?;
     shown(alloc, text, &said)
 }
 
@@ -74,7 +137,7 @@ fn shown(alloc: Global, text: &[u8], said: &Said) -> Result<Vec<u8>, NoMemory> {
 /// What is said of a refusal at a place of this text.
 fn said_of_refusal(
     alloc: Global,
-    sources: &Sources,
+    table: Table<'_>,
     text: &[u8],
     refusal: Refusal,
 ) -> Result<Said, NoMemory> {
@@ -85,7 +148,7 @@ fn said_of_refusal(
         | Rule::NumberForm
         | Rule::UnknownEscape => of_bytes(alloc, text, refusal)?,
         Rule::SourceTooLarge => Said::new(alloc, one_byte(refusal.pos)),
-        _ => of_tokens(alloc, sources, text, refusal)?,
+        _ => of_tokens(alloc, table, text, refusal)?,
     };
     if said.is_silent() {
         let Advice { wrong, remedy } = of_rule(refusal.rule);
@@ -114,16 +177,11 @@ fn of_bytes(alloc: Global, text: &[u8], refusal: Refusal) -> Result<Said, NoMemo
 /// What is said of a refusal of a text that has tokens.
 fn of_tokens(
     alloc: Global,
-    sources: &Sources,
+    table: Table<'_>,
     text: &[u8],
     refusal: Refusal,
 ) -> Result<Said, NoMemory> {
     let tokens = tokens_of(alloc, text, refusal.pos.file)?;
-    let classes = classes_of(alloc, sources)?;
-    let table = Table {
-        classes: classes.as_slice(),
-        sources,
-    };
     let scene = scene_of(alloc, text, tokens.as_slice(), refusal.pos, table)?;
     let mut said = Said::new(alloc, scene.span(scene.at));
     about_rule(scene, refusal.rule, &mut said)?;

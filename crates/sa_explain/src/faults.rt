@@ -1,14 +1,20 @@
 //! Faults: what went wrong where a program stopped, and what of the prelude it was in.
 
 use crate::general::{Advice, of_fault};
+use crate::ways::tell_ways;
+use sa_core::Core;
+use sa_explain_calls::{lines_to, raised_type};
 use sa_explain_scene::{Part, Said, Scene, Tokens};
 use sa_lex::{Sign, TokenKind};
-use sa_tree::{FaultKind, NoMemory};
+use sa_tree::{FaultKind, NoMemory, Ty};
+use sa_types::is_abstract;
 use std::alloc::AllocError;
 
-/// Says what a kind of fault means, and where the place is in the prelude which feature it is in.
+/// Says what a kind of fault means, and where the place is in the prelude which feature it is in and, by the typed tree, which lines lead
+/// there.
 pub(crate) fn about_fault(
     scene: Scene<'_>,
+    core: Option<&Core>,
     kind: FaultKind,
     said: &mut Said,
 ) -> Result<(), NoMemory> {
@@ -16,8 +22,9 @@ pub(crate) fn about_fault(
     said.say_words(wrong)?;
     if scene.pos.file == 0 {
         in_prelude(scene, said)?;
+        ways_there(scene, core, said)?;
     } else {
-        of_program(scene, kind, said)?;
+        of_program(scene, core, kind, said)?;
     }
     said.say_words(remedy)?;
     Ok(())
@@ -39,6 +46,15 @@ fn in_prelude(scene: Scene<'_>, said: &mut Said) -> Result<(), AllocError> {
     ])
 }
 
+/// Tells the lines from which the place in the prelude can be come to.
+fn ways_there(scene: Scene<'_>, core: Option<&Core>, said: &mut Said) -> Result<(), NoMemory> {
+    if let Some(core) = core {
+        let lines = lines_to(scene.alloc, core, scene.pos)?;
+        tell_ways(scene, lines.as_slice(), said)?;
+    }
+    Ok(())
+}
+
 /// The operator that calls a feature.
 fn written_as(name: &[u8]) -> &'static str {
     match name {
@@ -52,19 +68,33 @@ fn written_as(name: &[u8]) -> &'static str {
     }
 }
 
-/// Names the variable that is void, and the text that was raised.
-fn of_program(scene: Scene<'_>, kind: FaultKind, said: &mut Said) -> Result<(), AllocError> {
+/// Names the variable that is void, and the text that was raised, or the type of what was raised.
+fn of_program(
+    scene: Scene<'_>,
+    core: Option<&Core>,
+    kind: FaultKind,
+    said: &mut Said,
+) -> Result<(), NoMemory> {
     match kind {
-        FaultKind::Void => match void_variable(scene.tokens, scene.at) {
-            Some(name) => said.say(&[
-                Part::Code(scene.tokens.bytes(name)),
-                Part::Words(" is void here."),
-            ]),
-            None => Ok(()),
+        FaultKind::Void => {
+            if let Some(name) = void_variable(scene.tokens, scene.at) {
+                said.say(&[
+                    Part::Code(scene.tokens.bytes(name)),
+                    Part::Words(" is void here."),
+                ])?;
+            }
+        }
+        FaultKind::Uncaught => match text_raised(scene.tokens, scene.at) {
+            Some(text) => said.say(&[
+                Part::Words("What was raised is the text "),
+                Part::Code(scene.tokens.bytes(text)),
+                Part::Words("."),
+            ])?,
+            None => value_raised(scene, core, said)?,
         },
-        FaultKind::Uncaught => raised_text(scene, said),
-        _ => Ok(()),
+        _ => {}
     }
+    Ok(())
 }
 
 /// The name before the `.` of a call, or of an assignment, at a token, where nothing stands before it.
@@ -83,19 +113,60 @@ fn void_variable(tokens: Tokens<'_>, at: usize) -> Option<usize> {
     is_plain.then_some(name)
 }
 
-/// Tells the text behind the `raise` at the place.
-fn raised_text(scene: Scene<'_>, said: &mut Said) -> Result<(), AllocError> {
-    let text = scene.at.saturating_add(1);
-    let is_text = matches!(scene.tokens.kind(text), Some(TokenKind::Text(_)))
-        && scene
-            .tokens
-            .is_sign(text.saturating_add(1), Sign::Semicolon);
-    if !is_text {
+/// The text behind the `raise` at a token, where nothing is done with it.
+fn text_raised(tokens: Tokens<'_>, at: usize) -> Option<usize> {
+    let text = at.saturating_add(1);
+    let is_text = matches!(tokens.kind(text), Some(TokenKind::Text(_)))
+        && tokens.is_sign(text.saturating_add(1), Sign::Semicolon);
+    is_text.then_some(text)
+}
+
+/// Tells the type of the value that is raised at the place.
+fn value_raised(scene: Scene<'_>, core: Option<&Core>, said: &mut Said) -> Result<(), NoMemory> {
+    let Some(core) = core else {
         return Ok(());
+    };
+    let Some(ty) = raised_type(scene.alloc, core, scene.pos)? else {
+        return Ok(());
+    };
+    let mut parts = Vec::new(scene.alloc);
+    parts.push(Part::Words(if is_abstract(ty) {
+        "What was raised is of a type below "
+    } else {
+        "What was raised is of type "
+    }))?;
+    put_type(&mut parts, ty)?;
+    parts.push(Part::Words(", and its value is gone now: print it before the `raise` to see it."))?;
+    said.say(parts.as_slice())?;
+    Ok(())
+}
+
+/// Adds the name of a type, with its parameters.
+#[cycle(put_type)]
+fn put_type<'a>(parts: &mut Vec<Part<'a>>, ty: &'a Ty) -> Result<(), AllocError> {
+    match ty {
+        Ty::Named(name, params, _) => {
+            parts.push(Part::Plain(name.as_slice()))?;
+            put_parameters(parts, params.as_slice())?;
+        }
+        Ty::Same(_) => parts.push(Part::Words("SAME"))?,
+        Ty::Rout(_, _, _) => parts.push(Part::Words("ROUT"))?,
+        Ty::Iter(_, _, _) => parts.push(Part::Words("ITER"))?,
     }
-    said.say(&[
-        Part::Words("What was raised is the text "),
-        Part::Code(scene.tokens.bytes(text)),
-        Part::Words("."),
-    ])
+    Ok(())
+}
+
+/// Adds `{T, U}`, or nothing where there are none.
+#[cycle(put_type)]
+fn put_parameters<'a>(parts: &mut Vec<Part<'a>>, params: &'a [Ty]) -> Result<(), AllocError> {
+    let mut before = "{";
+    for param in params {
+        parts.push(Part::Words(before))?;
+        put_type(parts, param)?;
+        before = ", ";
+    }
+    if !params.is_empty() {
+        parts.push(Part::Words("}"))?;
+    }
+    Ok(())
 }

@@ -6,5 +6,6 @@ mod classes;
 mod explain;
 mod faults;
 mod general;
+mod ways;
 
-pub use explain::{explain_fault, explain_refusal};
+pub use explain::{explain_fault, explain_refusals};

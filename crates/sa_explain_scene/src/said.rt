@@ -6,6 +6,12 @@ use std::alloc::{AllocError, Global};
 /// How many bytes of a name or a literal are shown.
 const LONGEST: usize = 40;
 
+/// The hexadecimal digits by what they are.
+const HEX: &[u8] = b"0123456789abcdef";
+
+/// How many hexadecimal digits a number has at most.
+const DIGITS: u32 = 16;
+
 /// The bytes from one place of a text up to another.
 #[derive(Clone, Copy, Debug, PartialEq, Eq)]
 pub struct Span {
@@ -21,7 +27,11 @@ pub enum Part<'a> {
     Code(&'a [u8]),
     /// What the source spells, as it is.
     Plain(&'a [u8]),
+    /// The name of a file, whole.
+    File(&'a [u8]),
     Number(usize),
+    /// A number as `0x`, and its hexadecimal digits.
+    Hex(usize),
     /// So many arguments.
     Arguments(usize),
 }
@@ -69,7 +79,9 @@ impl Sentences {
             Part::Words(words) => self.text.extend_from_slice(words.as_bytes()),
             Part::Code(bytes) => self.put_code(bytes),
             Part::Plain(bytes) => self.put_shown(bytes),
+            Part::File(name) => self.put_whole(name),
             Part::Number(number) => self.put_number(number),
+            Part::Hex(number) => self.put_hex(number),
             Part::Arguments(count) => self.put_arguments(count),
         }
     }
@@ -78,6 +90,19 @@ impl Sentences {
         let mut buffer = Buffer::new();
         let digits = buffer.format(number as u64);
         self.text.extend_from_slice(digits.as_bytes())
+    }
+
+    fn put_hex(&mut self, number: usize) -> Result<(), AllocError> {
+        self.text.extend_from_slice(b"0x")?;
+        let mut begun = false;
+        for back in 0..DIGITS {
+            let digit = (number >> (4 * (DIGITS - 1 - back))) & 0xf;
+            begun = begun || digit > 0 || back + 1 == DIGITS;
+            if begun {
+                self.text.push(HEX.get(digit).copied().unwrap_or(b'0'))?;
+            }
+        }
+        Ok(())
     }
 
     fn put_arguments(&mut self, count: usize) -> Result<(), AllocError> {
@@ -104,6 +129,14 @@ impl Sentences {
         }
         if bytes.len() > LONGEST {
             self.text.extend_from_slice(b"..")?;
+        }
+        Ok(())
+    }
+
+    /// Adds bytes in the same way, all of them.
+    fn put_whole(&mut self, bytes: &[u8]) -> Result<(), AllocError> {
+        for byte in bytes {
+            self.text.push(shown(*byte))?;
         }
         Ok(())
     }

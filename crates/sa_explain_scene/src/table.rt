@@ -79,7 +79,12 @@ impl<'a> Table<'a> {
 
     /// The name of the file that a position is in.
     pub fn file(self, pos: Pos) -> &'a [u8] {
-        match self.sources.names.get(pos.file as usize) {
+        self.file_at(pos.file)
+    }
+
+    /// The name of the file with a number, or nothing where there is none.
+    pub fn file_at(self, number: u32) -> &'a [u8] {
+        match self.sources.names.get(number as usize) {
             Some(name) => name.as_slice(),
             None => &[],
         }

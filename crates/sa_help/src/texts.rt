@@ -31,7 +31,8 @@ and try: sather run hello.sa
 pub(crate) const RUN: &str = r#"sather run [OPTION].. FILE..
 
 Compiles the program in the files, and runs it. One of the classes is MAIN,
-with a routine main. The status is what main gives, from 0 to 255, or 0.
+with a routine main. The status is what main gives, from 0 to 255, or 0. The
+input is the program's, so that no FILE is -.
 
   --fuel N      let it make at most N steps, from 0 to 18446744073709551615;
                 without the option the greatest number
@@ -55,7 +56,8 @@ Classes of the library stand beside the program:
 pub(crate) const BUILD: &str = r#"sather build [OPTION].. -o OUT FILE..
 
 Compiles the program in the files, and writes its module to OUT, which is none
-of these files. A program that is refused leaves OUT as it is.
+of these files. A program that is refused leaves OUT as it is. The FILE - is
+the input.
 
   -o OUT        the file to which the module is written
   --sites SITES write the file and the line of each site of a fault to SITES, as
@@ -74,7 +76,8 @@ of these files. A program that is refused leaves OUT as it is.
 pub(crate) const CHECK: &str = r#"sather check [OPTION].. FILE..
 
 Tells whether the program in the files is accepted. One of the classes is MAIN,
-with a routine main.
+with a routine main. The FILE - is the input, of which a refusal says -:3, as
+of another file hello.sa:3.
 
   --contracts   check it with the checks of pre, post and invariant in it
   --all         tell the first refusal of each feature, and check classes that
@@ -83,6 +86,7 @@ with a routine main.
                 what to do
 
   sather check hello.sa
+  sather check - < hello.sa
 "#;
 
 /// `exec`
@@ -90,14 +94,18 @@ pub(crate) const EXEC: &str = r#"sather exec [OPTION].. MODULE
 
 Decodes, validates, links and runs a module of WebAssembly Core 1.0, by this
 compiler or another one. The status is what main gives, from 0 to 255, or 0.
+The input is the module's, so that MODULE isn't -.
 
   --fuel N      let it make at most N steps, from 0 to 18446744073709551615;
                 without the option the greatest number
+  --pages N     let its memory have at most N pages of 64 KiB, from 0 to 65536;
+                one that begins with more is out of memory, and a further page
+                is refused to the module, which goes on without it
   --stats       at the end tell on err the steps and the bytes of the module
   --explain     at the end tell on err what its line means, and
                 what to do
 
-  sather exec --fuel 1000000 --stats hello.wasm
+  sather exec --fuel 1000000 --pages 1100 hello.wasm
 "#;
 
 /// `gen`
@@ -122,7 +130,8 @@ an empty input, and tells how many bytes it has put out, and its status.
 pub(crate) const LISTING: &str = r#"sather listing MODULE
 
 Prints the listing of a module: a text with an item or an instruction on each
-line, of which sather assemble makes the module again.
+line, of which sather assemble makes the module again. The MODULE - is the
+input.
 
   sather listing hello.wasm > hello.txt
 "#;
@@ -131,6 +140,7 @@ line, of which sather assemble makes the module again.
 pub(crate) const ASSEMBLE: &str = r#"sather assemble -o OUT FILE
 
 Writes the module of the listing in the file to OUT, which is another file.
+The FILE - is the input.
 
   -o OUT        the file to which the module is written
 

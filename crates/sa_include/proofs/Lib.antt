@@ -1,5 +1,8 @@
 pub mod WrittenLemmas
 pub mod Nothing
+pub mod Firsts
+pub mod Conflicting
 pub mod Refusing
+pub mod Resolving
 pub mod Renamings
 pub mod Bringing

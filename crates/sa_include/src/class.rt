@@ -1,32 +1,41 @@
 //! The features of one class, from those of the classes that it includes and its own, and its first refusal: two features
 //! that it writes conflict (E11), two that its includes bring do or both have an array part (E17), or a stub is left.
 
+ghost use Rattle.std.specs.Prelude.{◌≡◌, ◌||◌, IfOk, IfSome, is_some};
+ghost use Rattle.sa_include.specs.Firsts.{do_brought_clash, left_stub, staying_features, written_conflict};
+ghost use Rattle.sa_include_conflicts.specs.Sharing.{AreGrouped};
+ghost use Rattle.sa_include_conflicts.specs.Staying.{all_stay};
+ghost use Rattle.sa_tree.specs.declared.rule.Rule.TheVariants as rule;
+ghost use Rattle.sa_include.specs.Refusals.{HasFeatures, IsClauseRefusal, IsGathered, IsOfClause, IsVerdict, IsVerdictAt, at_name, type_pos};
+ghost use Rattle.sa_include.specs.Resolved.{KnowsIncludes};
+
 use crate::clause::{Gathered, gather};
-use crate::refused::{ClassRefusal, ClassRule};
 use crate::resolved::{Flattened, Program};
 use crate::substitute::Maker;
+use crate::whole::is_immutable;
 use sa_graph::entry;
 use sa_include_conflicts::{
     ClassFeatures, Conflicts, first_conflict, group_features, is_set, item, staying, stub_left,
 };
-use sa_tree::{Class, Feature, Kind, NoMemory, Pos, Ty};
+use sa_tree::{Class, Feature, Kind, NoMemory, Pos, Refusal, Rule, Ty};
 use sqlite_items::Items;
 use std::alloc::{AllocError, Global};
 
 /// The features of the class with this number, whose included classes are resolved.
+#[tactic(auto, using(crate::proofs::Refusing::verdicts_at))]
 pub(crate) fn flatten_class(
     alloc: Global,
     program: &Program<'_>,
     resolved: &[Flattened],
     maker: &mut Maker<'_>,
     number: u32,
-) -> Result<Flattened, NoMemory> {
+) -> Result<Flattened, NoMemory>
+    requires { KnowsIncludes program.now }
+    ensures { IfOk result (λ flattened. IsVerdictAt program.now.classes.now number flattened.refusal) }
+{
     let class = item(program.classes, number as usize)?;
-    let gathered = gather(alloc, program, resolved, maker, number)?;
-    let arrays = program
-        .includes
-        .second_with_array(class.includes.as_slice());
-    let judged = judge(alloc, class, &gathered, arrays)?;
+    let gathered = gather(alloc, program, resolved, maker, class)?;
+    let judged = judge(alloc, program, class, &gathered)?;
     kept(alloc, gathered, judged)
 }
 
@@ -34,56 +43,115 @@ pub(crate) fn flatten_class(
 #[derive(Drop)]
 struct Judged {
     stays: Vec<bool>,
-    refusal: Option<ClassRefusal>,
+    refusal: Option<Refusal>,
 }
 
-/// Which features stay of those that the includes of a class bring and of those that it writes. `arrays` is the second of
-/// its clauses with an array part. The refusal of a change comes before the others.
+/// Which features stay of those that the includes of a class bring and of those that it writes.
+#[tactic(auto, using(crate::proofs::Refusing::verdicts_at))]
 fn judge(
     alloc: Global,
+    program: &Program<'_>,
     class: &Class,
     gathered: &Gathered,
-    arrays: Option<usize>,
-) -> Result<Judged, NoMemory> {
+) -> Result<Judged, NoMemory>
+    requires includes { KnowsIncludes program.now }
+    requires gathered { IsGathered class.now gathered.now }
+    ensures { IfOk result (λ judged. IsVerdict program.now.classes.now class.now judged.refusal) }
+{
     let features = ClassFeatures {
         brought: gathered.features.as_slice(),
         written: class.features.as_slice(),
-        immutable: class.kind == Kind::Immutable,
+        immutable: is_immutable(class.kind),
     };
     let conflicts = group_features(alloc, &features)?;
     let stays = staying(alloc, &features, &conflicts)?;
-    if gathered.refusal.is_some() {
-        let refusal = gathered.refusal;
-        return Ok(Judged { stays, refusal });
-    }
-    let refusal = written_refused(alloc, &features, &conflicts, &stays)?;
-    if refusal.is_some() {
-        return Ok(Judged { stays, refusal });
-    }
-    let last = features.brought.len();
-    let conflict = first_conflict(alloc, &conflicts, &stays, 0, last)?;
-    let clause = refused_clause(&gathered.clauses, conflict, arrays)?;
-    let refusal = clause_refused(class, clause)?;
-    if refusal.is_some() {
-        return Ok(Judged { stays, refusal });
-    }
-    let refusal = stub_refused(class.kind, &features, &stays)?;
+    let refusal = first_refusal(
+        alloc, program, class, gathered, &features, &conflicts, &stays,
+    )?;
     Ok(Judged { stays, refusal })
 }
 
+/// The first refusal of a class with these features. That of a change comes before the others.
+#[tactic(auto, using(crate::proofs::Refusing::verdicts))]
+fn first_refusal(
+    alloc: Global,
+    program: &Program<'_>,
+    class: &Class,
+    gathered: &Gathered,
+    features: &ClassFeatures<'_>,
+    conflicts: &Conflicts,
+    stays: &[bool],
+) -> Result<Option<Refusal>, NoMemory>
+    requires includes { KnowsIncludes program.now }
+    requires changes { IfSome gathered.now.refusal (IsOfClause class.now.includes) }
+    requires features { HasFeatures class.now features.now }
+    requires grouped { AreGrouped features.now conflicts.now }
+    requires stays { stays.now ≡ all_stay features.now }
+    ensures { IfOk result (IsVerdict program.now.classes.now class.now) }
+{
+    if gathered.refusal.is_some() {
+        return Ok(gathered.refusal);
+    }
+    let written = written_refused(alloc, features, conflicts, stays)?;
+    if written.is_some() {
+        return Ok(written);
+    }
+    let clause = clause_refused(alloc, program, class, gathered, features, conflicts, stays)?;
+    if clause.is_some() {
+        return Ok(clause);
+    }
+    stub_refused(class.kind, features, stays)
+}
+
 /// The refusal of the first written feature that conflicts with an earlier one.
+#[tactic(auto, using(crate::proofs::Refusing::written_conflicts))]
 fn written_refused(
     alloc: Global,
     features: &ClassFeatures<'_>,
     conflicts: &Conflicts,
     stays: &[bool],
-) -> Result<Option<ClassRefusal>, NoMemory> {
+) -> Result<Option<Refusal>, NoMemory>
+    requires grouped { AreGrouped features.now conflicts.now }
+    requires stays { stays.now ≡ all_stay features.now }
+    ensures { IfOk result (λ refusal. refusal ≡
+        at_name rule.FeaturesConflict (written_conflict features.now.immutable features.now.brought.now features.now.written.now)) }
+{
     let first = features.brought.len();
     let Some(place) = first_conflict(alloc, conflicts, stays, first, features.len())? else {
         return Ok(None);
     };
     let pos = features.at(place)?.name.pos;
-    Ok(Some(ClassRule::FeaturesConflict.at(pos)))
+    Ok(Some(Rule::FeaturesConflict.at(pos)))
+}
+
+/// The refusal of the first clause that brings a feature that conflicts with an earlier brought one, or that is the second
+/// with an array part.
+#[tactic(auto, using(crate::proofs::Refusing::clauses_refused))]
+fn clause_refused(
+    alloc: Global,
+    program: &Program<'_>,
+    class: &Class,
+    gathered: &Gathered,
+    features: &ClassFeatures<'_>,
+    conflicts: &Conflicts,
+    stays: &[bool],
+) -> Result<Option<Refusal>, NoMemory>
+    requires includes { KnowsIncludes program.now }
+    requires grouped { AreGrouped features.now conflicts.now }
+    requires stays { stays.now ≡ all_stay features.now }
+    ensures { IfOk result (IsClauseRefusal program.now.classes.now class.now
+        (do_brought_clash features.now.immutable features.now.brought.now features.now.written.now features.now.brought.now)) }
+{
+    let last = features.brought.len();
+    let conflict = first_conflict(alloc, conflicts, stays, 0, last)?;
+    let arrays = program
+        .includes
+        .second_with_array(class.includes.as_slice());
+    let Some(clause) = refused_clause(&gathered.clauses, conflict, arrays)? else {
+        return Ok(None);
+    };
+    let include = item(class.includes.as_slice(), clause)?;
+    Ok(Some(Rule::IncludedFeaturesConflict.at(pos_of(&include.ty))))
 }
 
 /// The first include clause that is refused: the one that brings the first brought feature that conflicts with an earlier
@@ -92,7 +160,9 @@ fn refused_clause(
     clauses: &[usize],
     conflict: Option<usize>,
     arrays: Option<usize>,
-) -> Result<Option<usize>, NoMemory> {
+) -> Result<Option<usize>, NoMemory>
+    ensures { IfOk result (λ clause. is_some clause ≡ (is_some conflict || is_some arrays)) }
+{
     let Some(place) = conflict else {
         return Ok(arrays);
     };
@@ -103,29 +173,27 @@ fn refused_clause(
     }
 }
 
-/// The refusal of an include clause at its type.
-fn clause_refused(class: &Class, clause: Option<usize>) -> Result<Option<ClassRefusal>, NoMemory> {
-    let Some(clause) = clause else {
-        return Ok(None);
-    };
-    let include = item(class.includes.as_slice(), clause)?;
-    let pos = pos_of(&include.ty);
-    Ok(Some(ClassRule::IncludedFeaturesConflict.at(pos)))
-}
-
 /// The refusal of the first stub that is left.
+#[tactic(auto, using(crate::proofs::Refusing::stubs_left))]
 fn stub_refused(
     kind: Kind,
     features: &ClassFeatures<'_>,
     stays: &[bool],
-) -> Result<Option<ClassRefusal>, NoMemory> {
+) -> Result<Option<Refusal>, NoMemory>
+    requires { stays.now ≡ all_stay features.now }
+    ensures { IfOk result (λ refusal. refusal ≡ at_name rule.StubLeft
+        (left_stub kind (staying_features features.now.immutable features.now.brought.now features.now.written.now))) }
+{
     match stub_left(kind, features, stays)? {
-        Some(pos) => Ok(Some(ClassRule::StubLeft.at(pos))),
+        Some(pos) => Ok(Some(Rule::StubLeft.at(pos))),
         None => Ok(None),
     }
 }
 
-fn pos_of(ty: &Ty) -> Pos {
+#[tactic(auto, using(crate::proofs::Refusing::positions))]
+fn pos_of(ty: &Ty) -> Pos
+    ensures { result ≡ type_pos ty.now }
+{
     match ty {
         Ty::Named(_, _, pos) => *pos,
         Ty::Same(pos) => *pos,
@@ -135,7 +203,9 @@ fn pos_of(ty: &Ty) -> Pos {
 }
 
 /// What stays of the features of a class.
-fn kept(alloc: Global, gathered: Gathered, judged: Judged) -> Result<Flattened, NoMemory> {
+fn kept(alloc: Global, gathered: Gathered, judged: Judged) -> Result<Flattened, NoMemory>
+    ensures { IfOk result (λ flattened. flattened.refusal ≡ judged.refusal) }
+{
     let Gathered { features, open, .. } = gathered;
     let Judged { stays, refusal } = judged;
     let written = marks_from(alloc, &stays, features.len())?;

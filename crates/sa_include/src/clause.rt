@@ -1,14 +1,14 @@
 //! The features that the include clauses of a class bring.
 
-ghost use Rattle.std.specs.Prelude.{◌≡◌};
+ghost use Rattle.std.specs.Prelude.{◌≡◌, IfOk, IfSome};
 ghost use Rattle.sa_include.specs.Included.{given_in};
+ghost use Rattle.sa_include.specs.Refusals.{IsGathered, IsOfChange};
 
-use crate::refused::ClassRefusal;
 use crate::renamed::{Renaming, access_after, name_after};
 use crate::resolved::{Flattened, Program};
 use crate::substitute::{Included, Maker, Renamed, TypeArguments};
 use sa_include_conflicts::{is_set, item};
-use sa_tree::{Class, Feature, Include, NoMemory, Ty, held};
+use sa_tree::{Class, Feature, Include, NoMemory, Refusal, Ty, held};
 use std::alloc::Global;
 
 /// What the include clauses of a class bring, before anything is replaced.
@@ -20,34 +20,56 @@ pub(crate) struct Gathered {
     /// The place of the clause that brings each feature.
     pub(crate) clauses: Vec<usize>,
     /// The refusal of the first change that is none of a feature that its clause brings.
-    pub(crate) refusal: Option<ClassRefusal>,
+    pub(crate) refusal: Option<Refusal>,
 }
 
-/// What the include clauses of a class bring, which has this number.
+/// The features that include clauses bring, one behind the other.
+#[derive(Drop)]
+struct Brought {
+    features: Vec<Feature>,
+    open: Vec<bool>,
+    clauses: Vec<usize>,
+}
+
+/// What the include clauses of a class bring.
+#[tactic(auto, using(crate::proofs::Refusing::gathering))]
 pub(crate) fn gather<'a>(
     alloc: Global,
     program: &Program<'a>,
     resolved: &'a [Flattened],
     maker: &mut Maker<'_>,
-    number: u32,
-) -> Result<Gathered, NoMemory> {
-    let class = item(program.classes, number as usize)?;
-    let mut gathered = Gathered {
+    class: &Class,
+) -> Result<Gathered, NoMemory>
+    ensures { IfOk result (IsGathered class.now) }
+{
+    let mut brought = Brought {
         features: Vec::new(alloc),
         open: Vec::new(alloc),
         clauses: Vec::new(alloc),
-        refusal: None,
     };
+    let mut refusal = None;
     let same = Ty::Same(class.name.pos);
     for (place, include) in class.includes.as_slice().iter().enumerate() {
         let included = held(program.includes.included(&include.ty))?;
         let source = source_of(program, resolved, included)?;
-        bring_clause(alloc, &source, include, place, &same, maker, &mut gathered)?;
+        let wrong = bring_clause(alloc, &source, include, place, &same, maker, &mut brought)?;
+        refusal = refusal.or(wrong);
     }
-    Ok(gathered)
+    let Brought {
+        features,
+        open,
+        clauses,
+    } = brought;
+    Ok(Gathered {
+        features,
+        open,
+        clauses,
+        refusal,
+    })
 }
 
-/// Brings what an include clause brings of its class. `same` is the type of the including class.
+/// Brings what an include clause brings of its class, and gives the refusal of its changes. `same` is the type of the
+/// including class.
 fn bring_clause(
     alloc: Global,
     source: &Source<'_>,
@@ -55,15 +77,16 @@ fn bring_clause(
     place: usize,
     same: &Ty,
     maker: &mut Maker<'_>,
-    gathered: &mut Gathered,
-) -> Result<(), NoMemory> {
+    brought: &mut Brought,
+) -> Result<Option<Refusal>, NoMemory>
+    ensures { IfOk result (λ refusal. IfSome refusal (IsOfChange include.now.changes)) }
+{
     let mut clause = Clause::new(alloc, source.class, include, place, same)?;
-    clause.bring(alloc, source, maker, gathered)?;
-    gathered.refuse(clause.renaming.refused(include.changes.as_slice()));
-    Ok(())
+    clause.bring(alloc, source, maker, brought)?;
+    Ok(clause.renaming.refused(include.changes.as_slice()))
 }
 
-impl Gathered {
+impl Brought {
     /// Puts a feature that a clause brings behind the others.
     fn add(&mut self, included: Included, clause: usize) -> Result<(), NoMemory> {
         let Included { feature, open } = included;
@@ -71,13 +94,6 @@ impl Gathered {
         self.open.push(open)?;
         self.clauses.push(clause)?;
         Ok(())
-    }
-
-    /// Keeps the refusal of a clause, where there is none of an earlier one.
-    fn refuse(&mut self, refusal: Option<ClassRefusal>) {
-        if self.refusal.is_none() {
-            self.refusal = refusal;
-        }
     }
 }
 
@@ -137,14 +153,14 @@ impl<'a> Clause<'a> {
         alloc: Global,
         source: &Source<'_>,
         maker: &mut Maker<'_>,
-        gathered: &mut Gathered,
+        brought: &mut Brought,
     ) -> Result<(), NoMemory> {
         let flattened = source.flattened;
         for (place, feature) in flattened.brought.as_slice().iter().enumerate() {
             let open = is_set(&flattened.open, place);
-            self.bring_feature(alloc, feature, open, maker, gathered)?;
+            self.bring_feature(alloc, feature, open, maker, brought)?;
         }
-        self.bring_written(alloc, source, maker, gathered)
+        self.bring_written(alloc, source, maker, brought)
     }
 
     fn bring_written(
@@ -152,12 +168,12 @@ impl<'a> Clause<'a> {
         alloc: Global,
         source: &Source<'_>,
         maker: &mut Maker<'_>,
-        gathered: &mut Gathered,
+        brought: &mut Brought,
     ) -> Result<(), NoMemory> {
         for (place, feature) in source.class.features.as_slice().iter().enumerate() {
             if is_set(&source.flattened.stays, place) {
                 let open = is_set(source.open, place);
-                self.bring_feature(alloc, feature, open, maker, gathered)?;
+                self.bring_feature(alloc, feature, open, maker, brought)?;
             }
         }
         Ok(())
@@ -170,13 +186,13 @@ impl<'a> Clause<'a> {
         feature: &Feature,
         open: bool,
         maker: &mut Maker<'_>,
-        gathered: &mut Gathered,
+        brought: &mut Brought,
     ) -> Result<(), NoMemory> {
         let Some(renamed) = self.renamed(alloc, feature)? else {
             return Ok(());
         };
         let included = maker.include(alloc, feature, open, renamed, &self.arguments)?;
-        gathered.add(included, self.place)
+        brought.add(included, self.place)
     }
 
     /// What a feature is called in the including class and who sees it there, or None where a change leaves it out.

@@ -1,13 +1,16 @@
 //! The classes of a program with their features flattened.
 
-ghost use Rattle.std.specs.Prelude.{◌≡◌, Err, IfOk, OnOk, true};
+ghost use Rattle.std.specs.Prelude.{◌≡◌, Err, IfOk, OnOk, length, slice_set};
 ghost use Rattle.std.specs.List.{All};
 ghost use Rattle.sa_tree.specs.declared.refusal.FrontFault.TheVariants.{Refused};
 ghost use Rattle.sa_tree.specs.declared.refusal.Refusal.{Refusal};
 ghost use Rattle.sa_include.specs.Flattened.{AreFlattened, IsApart};
 ghost use Rattle.sa_include.specs.Included.{AreIncluded};
-ghost use Rattle.sa_include.specs.Refusals.{RefusesIncludes, is_of_class};
+ghost use Rattle.sa_include.specs.Refusals.{AreAccepted, IsFirstRefusal, RefusesIncludes};
+ghost use Rattle.sa_include.specs.Resolved.{AreDone, AreUndone, IsRefusedFrom, KnowsIncludes};
+ghost use Rattle.sa_include_names.specs.Includes.{AreArrays};
 ghost use Rattle.sa_include_names.specs.Refusals.{AreIncludesRight};
+ghost use Rattle.sa_include_names.specs.Tables.{HasNumbers};
 
 use crate::brought::try_whole;
 use crate::budget::Budget;
@@ -38,6 +41,7 @@ pub fn flatten(alloc: Global, classes: &[Class]) -> Result<Flat, FrontFault>
     ensures apart { IfOk result (λ flat. All IsApart flat.classes) }
     ensures included { IfOk result (λ flat. AreIncluded classes.now flat.classes) }
     ensures right { OnOk result (AreIncludesRight classes.now) }
+    ensures accepted { OnOk result (AreAccepted classes.now (length classes.now)) }
     ensures refused { (refusal : Refusal) → result ≡ Err (Refused refusal) → RefusesIncludes classes.now refusal }
 {
     let includes = Includes::new(alloc, classes)?;
@@ -52,12 +56,16 @@ pub fn flatten(alloc: Global, classes: &[Class]) -> Result<Flat, FrontFault>
 /// # Errors
 ///
 /// The first refusal in text order.
+#[tactic(auto, using(crate::proofs::Resolving::knows_includes))]
 fn resolved(
     alloc: Global,
     classes: &[Class],
     includes: &Includes,
 ) -> Result<Vec<Flattened>, FrontFault>
-    ensures { (refusal : Refusal) → result ≡ Err (Refused refusal) → is_of_class refusal.rule ≡ true }
+    requires numbers { HasNumbers classes.now includes.now.numbers }
+    requires arrays { AreArrays classes.now includes.now.arrays.items }
+    ensures accepted { OnOk result (AreAccepted classes.now (length classes.now)) }
+    ensures refused { (refusal : Refusal) → result ≡ Err (Refused refusal) → IsFirstRefusal classes.now refusal }
 {
     let params = all_params(alloc, classes)?;
     let open = open_in_all(alloc, classes, &params)?;
@@ -79,24 +87,33 @@ fn resolved(
 ///
 /// The first refusal in text order. A class may have one while a class before it isn't gone through yet; so a refusal is
 /// given as soon as all classes before it are, and the rest isn't gone through.
+#[tactic(auto, using(crate::proofs::Resolving::resolving))]
 fn resolve(
     alloc: Global,
     program: &Program<'_>,
     maker: &mut Maker<'_>,
 ) -> Result<Vec<Flattened>, FrontFault>
-    ensures { (refusal : Refusal) → result ≡ Err (Refused refusal) → is_of_class refusal.rule ≡ true }
+    requires { KnowsIncludes program.now }
+    ensures accepted { OnOk result (AreAccepted program.now.classes.now (length program.now.classes.now)) }
+    ensures refused { (refusal : Refusal) → result ≡ Err (Refused refusal) → IsFirstRefusal program.now.classes.now refusal }
 {
     let mut resolved = unresolved(alloc, program.classes.len())?;
     let mut accepted = 0;
     for number in program.includes.order() {
         let flattened = flatten_class(alloc, program, resolved.as_slice(), maker, *number)?;
         keep(&mut resolved, *number as usize, flattened)?;
-        accepted = accepted_up_to(resolved.as_slice(), accepted)?;
+        accepted = accepted_up_to(resolved.as_slice(), accepted, program.classes.len())?;
+    }
+    if accepted < program.classes.len() {
+        return Err(FrontFault::NoMemory);
     }
     Ok(resolved)
 }
 
-fn unresolved(alloc: Global, classes: usize) -> Result<Vec<Flattened>, NoMemory> {
+#[tactic(auto, using(crate::proofs::Resolving::undone))]
+fn unresolved(alloc: Global, classes: usize) -> Result<Vec<Flattened>, NoMemory>
+    ensures { IfOk result (λ list. AreUndone list.items) }
+{
     let mut list = Vec::new(alloc);
     for _ in 0..classes {
         list.push(Flattened::none(alloc))?;
@@ -105,9 +122,13 @@ fn unresolved(alloc: Global, classes: usize) -> Result<Vec<Flattened>, NoMemory>
 }
 
 /// Puts a class at its place, which is there.
-fn keep(resolved: &mut [Flattened], at: usize, flattened: Flattened) -> Result<(), NoMemory> {
-    let place = held(resolved.get_mut(at))?;
-    *place = flattened;
+fn keep(resolved: &mut Vec<Flattened>, at: usize, flattened: Flattened) -> Result<(), NoMemory>
+    ensures { OnOk result (resolved.new.items ≡ slice_set resolved.old.items at flattened) }
+{
+    if at >= resolved.len() {
+        return Err(NoMemory);
+    }
+    resolved.as_mut_slice()[at] = flattened;
     Ok(())
 }
 
@@ -143,19 +164,22 @@ fn open_in(alloc: Global, features: &[Feature], params: &Weights) -> Result<Vec<
 
 /// The number of the first class from this one on that isn't gone through, or how many classes there are. The first class
 /// before it that has a refusal is refused.
-fn accepted_up_to(resolved: &[Flattened], from: usize) -> Result<usize, FrontFault>
-    ensures { (refusal : Refusal) → result ≡ Err (Refused refusal) → is_of_class refusal.rule ≡ true }
+#[tactic(auto, using(crate::proofs::Resolving::accepting))]
+fn accepted_up_to(resolved: &[Flattened], from: usize, classes: usize) -> Result<usize, FrontFault>
+    ensures done { IfOk result (AreDone resolved.now from) }
+    ensures refused { (refusal : Refusal) → result ≡ Err (Refused refusal) → IsRefusedFrom resolved.now from classes refusal }
 {
-    for number in from..resolved.len() {
+    for number in from..classes {
         let flattened = item(resolved, number)?;
-        if let Some(refused) = &flattened.refusal {
-            return Err(FrontFault::Refused(refused.refusal()));
-        }
         if !flattened.done {
             return Ok(number);
         }
+        match flattened.refusal {
+            Some(refusal) => return Err(FrontFault::Refused(refusal)),
+            None => {}
+        }
     }
-    Ok(resolved.len())
+    Ok(classes)
 }
 
 /// The classes without includes, each with the features that its includes bring and those of its own that stay.

@@ -6,7 +6,6 @@ mod budget;
 mod class;
 mod clause;
 mod flattening;
-mod refused;
 mod renamed;
 mod resolved;
 mod size;

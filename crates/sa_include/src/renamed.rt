@@ -1,16 +1,16 @@
 //! The changes of an include clause: what an included feature is called, and who sees it. A change is of a feature that the
 //! clause brings, and its two names are both those of iters or neither is (else E16).
 
-ghost use Rattle.std.specs.Prelude.{◌≡◌, IfOk, OnOk};
+ghost use Rattle.std.specs.Prelude.{◌≡◌, IfOk, IfSome, OnOk};
 ghost use Rattle.std.specs.Option.{option_copied};
 ghost use Rattle.sa_include.specs.Changes.{AddsChange, HasChanges};
 ghost use Rattle.sa_include.specs.Included.{name_brought};
+ghost use Rattle.sa_include.specs.Refusals.{IsOfChange};
 
-use crate::refused::{ClassRefusal, ClassRule};
 use indexmap::IndexMap;
 use sa_graph::put;
 use sa_include_conflicts::is_set;
-use sa_tree::{Access, Change, Include, Name, NoMemory};
+use sa_tree::{Access, Change, Include, Name, NoMemory, Refusal, Rule};
 use sqlite_items::at;
 use std::alloc::{AllocError, Global};
 
@@ -83,10 +83,13 @@ impl Renaming {
     }
 
     /// The refusal of the first change, in text order, that isn't one of a feature that the clause brings.
-    pub(crate) fn refused(&self, changes: &[Change]) -> Option<ClassRefusal> {
+    #[tactic(auto, using(crate::proofs::Refusing::of_this_change))]
+    pub(crate) fn refused(&self, changes: &[Change]) -> Option<Refusal>
+        ensures { IfSome result (IsOfChange changes.now) }
+    {
         for change in changes {
             if !self.is_met(&change.from.name) || !keeps_the_kind(change) {
-                return Some(ClassRule::NoSuchIncludedFeature.at(change.from.pos));
+                return Some(Rule::NoSuchIncludedFeature.at(change.from.pos));
             }
         }
         None

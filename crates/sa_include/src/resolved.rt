@@ -1,8 +1,9 @@
 //! The classes of a program while their includes are gone through.
 
-use crate::refused::ClassRefusal;
+ghost use Rattle.std.specs.Prelude.{◌≡◌, false};
+
 use sa_include_names::Includes;
-use sa_tree::{Class, Feature};
+use sa_tree::{Class, Feature, Refusal};
 use sqlite_items::Items;
 use std::alloc::Global;
 
@@ -16,14 +17,16 @@ pub(crate) struct Flattened {
     /// For each feature that the class writes whether it stays.
     pub(crate) stays: Vec<bool>,
     /// The first refusal of the class.
-    pub(crate) refusal: Option<ClassRefusal>,
+    pub(crate) refusal: Option<Refusal>,
     /// Whether the class was gone through.
     pub(crate) done: bool,
 }
 
 impl Flattened {
     /// What stands for a class until it is gone through.
-    pub(crate) fn none(alloc: Global) -> Flattened {
+    pub(crate) fn none(alloc: Global) -> Flattened
+        ensures { result.done ≡ false }
+    {
         Flattened {
             brought: Items::new(alloc),
             open: Vec::new(alloc),

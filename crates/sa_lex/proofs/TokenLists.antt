@@ -6,6 +6,7 @@ use Rattle.sa_tree.specs.declared.refusal.Refusal.{Refusal}
 use Rattle.sa_lex.specs.declared.token.Token.{Token}
 use Rattle.sa_lex.specs.declared.found.Found.{Found}
 use Rattle.sa_lex.specs.declared.found.Fault.{Fault}
+use Rattle.sa_lex.specs.Gap.{mark_len}
 use Rattle.sa_lex.specs.Token.{IsWithin}
 use Rattle.sa_lex.specs.Tokens.{gap_end, found_as, StandsAt, Follow, end_of, AreTokensOf, BreaksAt, IsFaultOf}
 
@@ -67,7 +68,7 @@ lists text place (t ∷ ts) (u ∷ us) f g e h =
 
 -- a text has at most one list of tokens
 pub one_list : (text : List ℕ) (ts us : List Token) → AreTokensOf text ts → AreTokensOf text us → ts ≡ us
-one_list text ts us p q = lists text 0 ts us p.follow q.follow p.all q.all
+one_list text ts us p q = lists text (mark_len text) ts us p.follow q.follow p.all q.all
 
 list_or_fault : (text : List ℕ) (place : ℕ) (refusal : Refusal) (ts us : List Token) → Follow text place ts → Follow text place us → gap_end text (end_of place ts) ≡ length text → BreaksAt text (gap_end text (end_of place us)) refusal → ⊥
 list_or_fault text place refusal [] [] f g e b = omega (arith, b.behind, b.in_text)
@@ -80,7 +81,7 @@ list_or_fault text place refusal (t ∷ ts) (u ∷ us) f g e b =
 
 -- a text doesn't have both a list of tokens and a fault
 pub not_both : (text : List ℕ) (ts : List Token) (refusal : Refusal) → AreTokensOf text ts → IsFaultOf text refusal → ⊥
-not_both text ts refusal p q = list_or_fault text 0 refusal ts q.tokens p.follow q.follow p.all q.breaks
+not_both text ts refusal p q = list_or_fault text (mark_len text) refusal ts q.tokens p.follow q.follow p.all q.breaks
 
 -- two refusals that name the same rule at the same byte
 pub record IsSameFault (r s : Refusal) : Type 0 where
@@ -101,7 +102,7 @@ faults text place r s (t ∷ ts) (u ∷ us) f g b d =
 
 -- a text has at most one fault
 pub one_fault : (text : List ℕ) (r s : Refusal) → IsFaultOf text r → IsFaultOf text s → IsSameFault r s
-one_fault text r s p q = faults text 0 r s p.tokens q.tokens p.follow q.follow p.breaks q.breaks
+one_fault text r s p q = faults text (mark_len text) r s p.tokens q.tokens p.follow q.follow p.breaks q.breaks
 
 within_from : (text : List ℕ) (place : ℕ) (tokens : List Token) → Follow text place tokens → All (IsWithin text) tokens
 within_from text place [] follow = All-nil (IsWithin text)
@@ -110,4 +111,4 @@ within_from text place (token ∷ tokens) follow =
 
 -- each token of a text spans bytes of it
 pub within : (text : List ℕ) (tokens : List Token) → AreTokensOf text tokens → All (IsWithin text) tokens
-within text tokens p = within_from text 0 tokens p.follow
+within text tokens p = within_from text (mark_len text) tokens p.follow

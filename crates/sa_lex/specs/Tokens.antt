@@ -5,7 +5,7 @@ use Rattle.sa_lex.specs.declared.found.Found.{Found}
 use Rattle.sa_tree.specs.declared.refusal.Refusal.{Refusal}
 use Rattle.sa_tree.specs.declared.refusal.FrontFault.{FrontFault}
 use Rattle.sa_tree.specs.declared.refusal.FrontFault.TheVariants.{Refused, NoMemory}
-use Rattle.sa_lex.specs.Gap.{gap_len}
+use Rattle.sa_lex.specs.Gap.{gap_len, mark_len}
 use Rattle.sa_lex.specs.Front.{front_of}
 use Rattle.sa_lex.specs.TokenRules.{IsLongest}
 
@@ -35,10 +35,10 @@ abbrev pub end_of : ℕ → List Token → ℕ
 end_of place [] = place
 end_of place (token ∷ tokens) = end_of token.end tokens
 
--- the tokens of a text: what lies before, between and behind them are blanks and comments
+-- the tokens of a text, whose first three bytes may be a byte order mark: what lies before, between and behind them are blanks and comments
 pub record AreTokensOf (text : List ℕ) (tokens : List Token) : Type 0 where
-  pub follow : Follow text 0 tokens
-  pub all : gap_end text (end_of 0 tokens) ≡ length text
+  pub follow : Follow text (mark_len text) tokens
+  pub all : gap_end text (end_of (mark_len text) tokens) ≡ length text
 
 -- no token begins at this place of the text, since the rule is broken there
 pub record BreaksAt (text : List ℕ) (place : ℕ) (refusal : Refusal) : Type 0 where
@@ -54,8 +54,8 @@ RefusesAt text file place NoMemory = ⊤
 -- the rule that is broken at the first place where the list of tokens can't go on
 pub record IsFaultOf (text : List ℕ) (refusal : Refusal) : Type 0 where
   pub tokens : List Token
-  pub follow : Follow text 0 tokens
-  pub breaks : BreaksAt text (gap_end text (end_of 0 tokens)) refusal
+  pub follow : Follow text (mark_len text) tokens
+  pub breaks : BreaksAt text (gap_end text (end_of (mark_len text) tokens)) refusal
 
 -- a refusal names the fault of the file's text
 abbrev pub RefusesText : List ℕ → ℕ → FrontFault → Type 0

@@ -1,9 +1,20 @@
-//! Blanks and comments.
+//! Blanks, comments and the byte order mark.
 
 ghost use Rattle.std.specs.Prelude.{◌≡◌, ◌≤◌, false, length};
-ghost use Rattle.sa_lex.specs.Gap.{gap_len};
+ghost use Rattle.sa_lex.specs.Gap.{gap_len, mark_len};
 
 use crate::byte::{begins_with, is_blank};
+
+/// How many bytes the byte order mark at the front has, which is a blank at the beginning of a text alone.
+pub(crate) fn mark_len(bytes: &[u8]) -> usize
+    ensures mark { result ≡ mark_len bytes.now }
+    ensures within { result ≤ length bytes.now }
+{
+    match bytes {
+        [0xEF, 0xBB, 0xBF, ..] => 3,
+        _ => 0,
+    }
+}
 
 /// How many bytes of blanks and comments stand at the front.
 pub(crate) fn gap_len(bytes: &[u8]) -> usize

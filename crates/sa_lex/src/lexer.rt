@@ -5,7 +5,7 @@ ghost use Rattle.sa_lex.specs.Tokens.{StandsAt, AreTokensOf, RefusesAt, RefusesT
 
 use crate::found::Stop;
 use crate::front::front_of;
-use crate::gap::gap_len;
+use crate::gap::{gap_len, mark_len};
 use crate::token::Token;
 use sa_tree::{FrontFault, Pos};
 use std::alloc::Global;
@@ -32,7 +32,7 @@ fn token_at(alloc: Global, src: &[u8], file: u32, place: usize) -> Result<Token,
     }
 }
 
-/// The tokens of a text, which is that of file `file`. Adjacent texts stay apart.
+/// The tokens of a text, which is that of file `file`. Adjacent texts stay apart. A byte order mark at the beginning is passed over.
 ///
 /// `Refused` names the first place behind some tokens, blanks and comments where no token begins: E01 for a byte that
 /// begins none, E02 for a literal that doesn't end on its line or a character of no or several bytes, E03 for a number
@@ -44,7 +44,9 @@ pub fn lex(alloc: Global, src: &[u8], file: u32) -> Result<Vec<Token>, FrontFaul
     ensures refused { IfErr result (RefusesText src.now file) }
 {
     let mut tokens = Vec::new(alloc);
-    let mut place = gap_len(src);
+    let begin = mark_len(src);
+    let first_gap = gap_len(&src[begin..]);
+    let mut place = begin + first_gap;
     while place < src.len() {
         let token = token_at(alloc, src, file, place)?;
         let end = token.end as usize;

@@ -23,4 +23,9 @@ pub trait Sink {
 
         // An empty piece changes nothing.
         ensures empty { bytes.now ≡ [] → IsOk result × (faults self.new ≡ faults self.old) };
+
+    /// Whether someone reads along, so that each line is to be put as soon as it is there. Else pieces of any size serve.
+    fn wants_lines(&self) -> bool {
+        false
+    }
 }

@@ -9,7 +9,7 @@ use crate::calls::one_more;
 use crate::sink::Sink;
 use crate::source::{Source, Take};
 use crate::store::Outage;
-use std::io::{self, ErrorKind, Read, Write};
+use std::io::{self, ErrorKind, IsTerminal, Read, Write};
 use std::marker::Model;
 
 /// A source over a reader, which does not tell what it has left. It reads a byte at a time: give it a `BufReader` where
@@ -80,6 +80,7 @@ impl<R: Read> Source for ReadSource<R> {
 pub struct WriteSink<W> {
     writer: W,
     faults: u64,
+    wants_lines: bool,
 }
 
 impl<W> Model for WriteSink<W> {
@@ -96,7 +97,25 @@ impl<W: Write> WriteSink<W> {
     pub fn new(writer: W) -> WriteSink<W>
         ensures { result ≡ record { writer = writer; faults = 0 } }
     {
-        WriteSink { writer, faults: 0 }
+        WriteSink {
+            writer,
+            faults: 0,
+            wants_lines: false,
+        }
+    }
+}
+
+impl<W: Write + IsTerminal> WriteSink<W> {
+    /// A sink over a stream, which wants each line where the stream is a terminal.
+    pub fn of_stream(writer: W) -> WriteSink<W>
+        ensures { result ≡ record { writer = writer; faults = 0 } }
+    {
+        let wants_lines = writer.is_terminal();
+        WriteSink {
+            writer,
+            faults: 0,
+            wants_lines,
+        }
     }
 }
 
@@ -125,6 +144,11 @@ impl<W: Write> Sink for WriteSink<W> {
                 Err(Outage::Failed)
             }
         }
+    }
+
+    /// Whether it is over a terminal.
+    fn wants_lines(&self) -> bool {
+        self.wants_lines
     }
 }
 

@@ -1,10 +1,31 @@
 -- Which text a word asks for.
 use Rattle.std.specs.Prelude.{ℕ, ◌||◌, Bool, List, None, Option, Some, find, map, option_map, bytes_eq}
 use Rattle.std.specs.Borrow.{Bor}
-use Rattle.sa_pages.specs.declared.errors.TheConstants.{ERRORS_0, ERRORS_1, ERRORS_2, ERRORS_3, ERRORS_4, ERRORS_5, ERRORS_6, ERRORS_7}
-use Rattle.sa_pages.specs.declared.errors.TheConstants.{ERRORS_8, ERRORS_9, ERRORS_10, ERRORS_11}
-use Rattle.sa_pages.specs.declared.library.TheConstants.{FILES_0, FILES_1, FILES_2, FILES_3, FILES_4, FILES_5, FILES_6, FILES_7}
-use Rattle.sa_pages.specs.declared.library.TheConstants.{FILES_8, FILES_9, FILES_10, FILES_11, LISTED}
+use Rattle.sa_pages.specs.declared.errors.part_0.TheConstants.{ERRORS_0}
+use Rattle.sa_pages.specs.declared.errors.part_1.TheConstants.{ERRORS_1}
+use Rattle.sa_pages.specs.declared.errors.part_2.TheConstants.{ERRORS_2}
+use Rattle.sa_pages.specs.declared.errors.part_3.TheConstants.{ERRORS_3}
+use Rattle.sa_pages.specs.declared.errors.part_4.TheConstants.{ERRORS_4}
+use Rattle.sa_pages.specs.declared.errors.part_5.TheConstants.{ERRORS_5}
+use Rattle.sa_pages.specs.declared.errors.part_6.TheConstants.{ERRORS_6}
+use Rattle.sa_pages.specs.declared.errors.part_7.TheConstants.{ERRORS_7}
+use Rattle.sa_pages.specs.declared.errors.part_8.TheConstants.{ERRORS_8}
+use Rattle.sa_pages.specs.declared.errors.part_9.TheConstants.{ERRORS_9}
+use Rattle.sa_pages.specs.declared.errors.part_10.TheConstants.{ERRORS_10}
+use Rattle.sa_pages.specs.declared.errors.part_11.TheConstants.{ERRORS_11}
+use Rattle.sa_pages.specs.declared.library.TheConstants.{LISTED}
+use Rattle.sa_pages.specs.declared.library.part_0.TheConstants.{FILES_0}
+use Rattle.sa_pages.specs.declared.library.part_1.TheConstants.{FILES_1}
+use Rattle.sa_pages.specs.declared.library.part_2.TheConstants.{FILES_2}
+use Rattle.sa_pages.specs.declared.library.part_3.TheConstants.{FILES_3}
+use Rattle.sa_pages.specs.declared.library.part_4.TheConstants.{FILES_4}
+use Rattle.sa_pages.specs.declared.library.part_5.TheConstants.{FILES_5}
+use Rattle.sa_pages.specs.declared.library.part_6.TheConstants.{FILES_6}
+use Rattle.sa_pages.specs.declared.library.part_7.TheConstants.{FILES_7}
+use Rattle.sa_pages.specs.declared.library.part_8.TheConstants.{FILES_8}
+use Rattle.sa_pages.specs.declared.library.part_9.TheConstants.{FILES_9}
+use Rattle.sa_pages.specs.declared.library.part_10.TheConstants.{FILES_10}
+use Rattle.sa_pages.specs.declared.library.part_11.TheConstants.{FILES_11}
 
 abbrev pub Text : Type 0
 Text = List ℕ

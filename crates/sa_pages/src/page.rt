@@ -87,166 +87,166 @@ fn asks(word: &str, row: &(&'static str, &'static str, &'static str, &'static st
 fn errors_0() -> &'static [(&'static str, &'static str, &'static str, &'static str)]
     ensures { map seen_row result.now ≡ spec.errors_0 }
 {
-    &errors::ERRORS_0
+    &errors::part_0::ERRORS_0
 }
 
 #[tactic(auto, unfolding(crate::specs::Pages::errors_1))]
 fn errors_1() -> &'static [(&'static str, &'static str, &'static str, &'static str)]
     ensures { map seen_row result.now ≡ spec.errors_1 }
 {
-    &errors::ERRORS_1
+    &errors::part_1::ERRORS_1
 }
 
 #[tactic(auto, unfolding(crate::specs::Pages::errors_2))]
 fn errors_2() -> &'static [(&'static str, &'static str, &'static str, &'static str)]
     ensures { map seen_row result.now ≡ spec.errors_2 }
 {
-    &errors::ERRORS_2
+    &errors::part_2::ERRORS_2
 }
 
 #[tactic(auto, unfolding(crate::specs::Pages::errors_3))]
 fn errors_3() -> &'static [(&'static str, &'static str, &'static str, &'static str)]
     ensures { map seen_row result.now ≡ spec.errors_3 }
 {
-    &errors::ERRORS_3
+    &errors::part_3::ERRORS_3
 }
 
 #[tactic(auto, unfolding(crate::specs::Pages::errors_4))]
 fn errors_4() -> &'static [(&'static str, &'static str, &'static str, &'static str)]
     ensures { map seen_row result.now ≡ spec.errors_4 }
 {
-    &errors::ERRORS_4
+    &errors::part_4::ERRORS_4
 }
 
 #[tactic(auto, unfolding(crate::specs::Pages::errors_5))]
 fn errors_5() -> &'static [(&'static str, &'static str, &'static str, &'static str)]
     ensures { map seen_row result.now ≡ spec.errors_5 }
 {
-    &errors::ERRORS_5
+    &errors::part_5::ERRORS_5
 }
 
 #[tactic(auto, unfolding(crate::specs::Pages::errors_6))]
 fn errors_6() -> &'static [(&'static str, &'static str, &'static str, &'static str)]
     ensures { map seen_row result.now ≡ spec.errors_6 }
 {
-    &errors::ERRORS_6
+    &errors::part_6::ERRORS_6
 }
 
 #[tactic(auto, unfolding(crate::specs::Pages::errors_7))]
 fn errors_7() -> &'static [(&'static str, &'static str, &'static str, &'static str)]
     ensures { map seen_row result.now ≡ spec.errors_7 }
 {
-    &errors::ERRORS_7
+    &errors::part_7::ERRORS_7
 }
 
 #[tactic(auto, unfolding(crate::specs::Pages::errors_8))]
 fn errors_8() -> &'static [(&'static str, &'static str, &'static str, &'static str)]
     ensures { map seen_row result.now ≡ spec.errors_8 }
 {
-    &errors::ERRORS_8
+    &errors::part_8::ERRORS_8
 }
 
 #[tactic(auto, unfolding(crate::specs::Pages::errors_9))]
 fn errors_9() -> &'static [(&'static str, &'static str, &'static str, &'static str)]
     ensures { map seen_row result.now ≡ spec.errors_9 }
 {
-    &errors::ERRORS_9
+    &errors::part_9::ERRORS_9
 }
 
 #[tactic(auto, unfolding(crate::specs::Pages::errors_10))]
 fn errors_10() -> &'static [(&'static str, &'static str, &'static str, &'static str)]
     ensures { map seen_row result.now ≡ spec.errors_10 }
 {
-    &errors::ERRORS_10
+    &errors::part_10::ERRORS_10
 }
 
 #[tactic(auto, unfolding(crate::specs::Pages::errors_11))]
 fn errors_11() -> &'static [(&'static str, &'static str, &'static str, &'static str)]
     ensures { map seen_row result.now ≡ spec.errors_11 }
 {
-    &errors::ERRORS_11
+    &errors::part_11::ERRORS_11
 }
 
 #[tactic(auto, unfolding(crate::specs::Pages::files_0))]
 fn files_0() -> &'static [(&'static str, &'static str, &'static str, &'static str)]
     ensures { map seen_row result.now ≡ spec.files_0 }
 {
-    &library::FILES_0
+    &library::part_0::FILES_0
 }
 
 #[tactic(auto, unfolding(crate::specs::Pages::files_1))]
 fn files_1() -> &'static [(&'static str, &'static str, &'static str, &'static str)]
     ensures { map seen_row result.now ≡ spec.files_1 }
 {
-    &library::FILES_1
+    &library::part_1::FILES_1
 }
 
 #[tactic(auto, unfolding(crate::specs::Pages::files_2))]
 fn files_2() -> &'static [(&'static str, &'static str, &'static str, &'static str)]
     ensures { map seen_row result.now ≡ spec.files_2 }
 {
-    &library::FILES_2
+    &library::part_2::FILES_2
 }
 
 #[tactic(auto, unfolding(crate::specs::Pages::files_3))]
 fn files_3() -> &'static [(&'static str, &'static str, &'static str, &'static str)]
     ensures { map seen_row result.now ≡ spec.files_3 }
 {
-    &library::FILES_3
+    &library::part_3::FILES_3
 }
 
 #[tactic(auto, unfolding(crate::specs::Pages::files_4))]
 fn files_4() -> &'static [(&'static str, &'static str, &'static str, &'static str)]
     ensures { map seen_row result.now ≡ spec.files_4 }
 {
-    &library::FILES_4
+    &library::part_4::FILES_4
 }
 
 #[tactic(auto, unfolding(crate::specs::Pages::files_5))]
 fn files_5() -> &'static [(&'static str, &'static str, &'static str, &'static str)]
     ensures { map seen_row result.now ≡ spec.files_5 }
 {
-    &library::FILES_5
+    &library::part_5::FILES_5
 }
 
 #[tactic(auto, unfolding(crate::specs::Pages::files_6))]
 fn files_6() -> &'static [(&'static str, &'static str, &'static str, &'static str)]
     ensures { map seen_row result.now ≡ spec.files_6 }
 {
-    &library::FILES_6
+    &library::part_6::FILES_6
 }
 
 #[tactic(auto, unfolding(crate::specs::Pages::files_7))]
 fn files_7() -> &'static [(&'static str, &'static str, &'static str, &'static str)]
     ensures { map seen_row result.now ≡ spec.files_7 }
 {
-    &library::FILES_7
+    &library::part_7::FILES_7
 }
 
 #[tactic(auto, unfolding(crate::specs::Pages::files_8))]
 fn files_8() -> &'static [(&'static str, &'static str, &'static str, &'static str)]
     ensures { map seen_row result.now ≡ spec.files_8 }
 {
-    &library::FILES_8
+    &library::part_8::FILES_8
 }
 
 #[tactic(auto, unfolding(crate::specs::Pages::files_9))]
 fn files_9() -> &'static [(&'static str, &'static str, &'static str, &'static str)]
     ensures { map seen_row result.now ≡ spec.files_9 }
 {
-    &library::FILES_9
+    &library::part_9::FILES_9
 }
 
 #[tactic(auto, unfolding(crate::specs::Pages::files_10))]
 fn files_10() -> &'static [(&'static str, &'static str, &'static str, &'static str)]
     ensures { map seen_row result.now ≡ spec.files_10 }
 {
-    &library::FILES_10
+    &library::part_10::FILES_10
 }
 
 #[tactic(auto, unfolding(crate::specs::Pages::files_11))]
 fn files_11() -> &'static [(&'static str, &'static str, &'static str, &'static str)]
     ensures { map seen_row result.now ≡ spec.files_11 }
 {
-    &library::FILES_11
+    &library::part_11::FILES_11
 }

@@ -1,3 +1,4 @@
+pub mod Numbering
 pub mod Right
 pub mod Shapes
 pub mod Stands

@@ -27,11 +27,11 @@ begins there block = option_map_or (λ other. other == block) there false
 -- ---- ways to a block; `again` has for each block its number in the choice, if it is reached again by that, and `seen` the blocks
 -- whose labels can be seen
 
-abbrev pub is_again : List (Option ℕ) → ℕ → Bool
-is_again again block = is_some (option_flatten (slice_get again block))
+abbrev pub is_numbered : List (Option ℕ) → ℕ → Bool
+is_numbered numbers block = is_some (option_flatten (slice_get numbers block))
 
 abbrev pub is_jumped_to : List (Option ℕ) → List ℕ → ℕ → Bool
-is_jumped_to again seen block = is_again again block || is_in seen block
+is_jumped_to again seen block = is_numbered again block || is_in seen block
 
 -- it begins behind, or is jumped to
 abbrev pub is_reached : List (Option ℕ) → List ℕ → Option ℕ → ℕ → Bool
@@ -120,11 +120,24 @@ abbrev pub is_loop : Pieces → Bool
 is_loop nothing = false
 is_loop (q then rest) = is_whole_loop q rest
 
+-- what begins with the choice
+abbrev mutual
+  pub begins_with_choice : Piece → Bool
+  begins_with_choice (Block block) = false
+  begins_with_choice (If block side) = false
+  begins_with_choice (Part inside) = begin_with_choice inside
+  begins_with_choice (Loop inside) = begin_with_choice inside
+  begins_with_choice Choice = true
+
+  pub begin_with_choice : Pieces → Bool
+  begin_with_choice nothing = false
+  begin_with_choice (q then rest) = begins_with_choice q
+
 -- with the first block where that is the one entry, and else with the choice, which stands in a loop around all where blocks are
 -- reached again by it
 abbrev pub begins_by : List ℕ → List (Option ℕ) → Pieces → Option ℕ → Bool
 begins_by entries again list (Some block) = block == 0 && (length entries == 1 && length again == 0)
-begins_by entries again list None = length again == 0 || is_loop list
+begins_by entries again list None = begin_with_choice list && (length again == 0 || is_loop list)
 
 abbrev pub begins_well : List ℕ → List (Option ℕ) → Pieces → Bool
 begins_well entries again list = begins_by entries again list (first list)

@@ -7,6 +7,7 @@ mod building;
 mod dominators;
 mod flow;
 mod loops;
+mod numbering;
 mod placing;
 mod raises;
 mod shape;

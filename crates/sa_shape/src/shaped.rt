@@ -1,12 +1,13 @@
 //! The shape of a body, found and tried.
 
-ghost use Rattle.std.specs.Prelude.{◌≡◌, IfOk, IfSome};
+ghost use Rattle.std.specs.Prelude.{◌≡◌, ◌==◌, length, not, IfOk, IfSome, IsTrue};
 ghost use Rattle.sa_shape.specs.Right.{StandsFor};
 
 use crate::building::{Built, Plan, build_list};
 use crate::dominators::{Dominators, Order, Tree};
 use crate::flow::{Flow, flow_of};
 use crate::loops::{EdgesBack, Loops, edges_back};
+use crate::numbering::are_numbered;
 use crate::placing::placing_of;
 use crate::shape::Shape;
 use crate::trial::{Against, stands};
@@ -36,7 +37,9 @@ pub struct Shaped {
 
 impl Shaped {
     /// Whether jumps go back to the choice, which stands in a loop then.
-    pub fn repeats(&self) -> bool {
+    pub fn repeats(&self) -> bool
+        ensures { result ≡ not (length self.now.again == 0) }
+    {
         !self.again.is_empty()
     }
 }
@@ -146,10 +149,28 @@ fn shape_found(
         entries,
         again: if repeats { again } else { &[] },
     };
-    if !stands(alloc, against, list.as_slice())? {
+    let shaped = described(alloc, list, against)?;
+    if !stands_for(alloc, body, &shaped)? {
         return Ok(None);
     }
-    Ok(Some(described(alloc, list, against)?))
+    Ok(Some(shaped))
+}
+
+/// Whether a shape stands for a body, with its blocks numbered as the choice has them.
+fn stands_for(alloc: Global, body: &FlatBody, shaped: &Shaped) -> Result<bool, NoMemory>
+    ensures { IfOk result (λ so. IsTrue so → StandsFor body.now shaped.now) }
+{
+    let entries = shaped.entries.as_slice();
+    let again = shaped.again.as_slice();
+    let against = Against {
+        body,
+        entries,
+        again,
+    };
+    if !stands(alloc, against, shaped.list.as_slice())? {
+        return Ok(false);
+    }
+    Ok(are_numbered(entries, shaped.numbers.as_slice(), again))
 }
 
 /// A shape whose choice is jumped back to, as a loop.
@@ -163,11 +184,7 @@ fn in_loop(alloc: Global, list: Items<Shape>, repeats: bool) -> Result<Items<Sha
 }
 
 /// What has to be known of a shape where it is written.
-fn described(alloc: Global, list: Items<Shape>, against: Against<'_>) -> Result<Shaped, NoMemory>
-    ensures list { IfOk result (λ shaped. shaped.list ≡ list) }
-    ensures entries { IfOk result (λ shaped. shaped.entries ≡ against.entry.entries.now) }
-    ensures again { IfOk result (λ shaped. shaped.again ≡ against.entry.again.now) }
-{
+fn described(alloc: Global, list: Items<Shape>, against: Against<'_>) -> Result<Shaped, NoMemory> {
     let mut numbers = vec![in alloc; None; against.body.blocks.len()]?;
     for (place, block) in against.entries.iter().enumerate() {
         put(&mut numbers, *block as usize, Some(word(place)?))?;

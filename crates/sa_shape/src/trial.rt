@@ -5,6 +5,7 @@ ghost use Rattle.std.specs.Prelude.{◌≡◌, IfOk};
 ghost use Rattle.sa_shape.specs.Shapes.{piece, pieces};
 ghost use Rattle.sa_shape.specs.Stands as are;
 
+use crate::numbering::is_numbered;
 use crate::raises::{leaves, raised_of};
 use crate::shape::{Shape, block_behind, first_of};
 use sa_flat::{FlatBody, FlatExit, FlatStep, Raised};
@@ -43,7 +44,33 @@ fn begins_well(against: Against<'_>, list: &[Shape]) -> bool
 {
     match first_of(list) {
         Some(block) => block == 0 && against.entries.len() == 1 && against.again.is_empty(),
-        None => against.again.is_empty() || is_loop(list),
+        None => begin_with_choice(list) && (against.again.is_empty() || is_loop(list)),
+    }
+}
+
+/// Whether a list begins with the choice.
+#[tactic(auto, using(crate::proofs::Trials::tried))]
+#[cycle(choosing)]
+fn begin_with_choice(list: &[Shape]) -> bool
+    ensures { result ≡ are.begin_with_choice (pieces list.now) }
+{
+    match list.split_first() {
+        Some((shape, _)) => begins_with_choice(shape),
+        None => false,
+    }
+}
+
+/// Whether a piece begins with the choice.
+#[tactic(auto, using(crate::proofs::Trials::tried))]
+#[cycle(choosing)]
+fn begins_with_choice(shape: &Shape) -> bool
+    ensures { result ≡ are.begins_with_choice (piece shape.now) }
+{
+    match shape {
+        Shape::Block(_) | Shape::If(_, _) => false,
+        Shape::Part(inside) => begin_with_choice(inside.as_slice()),
+        Shape::Loop(inside) => begin_with_choice(inside.as_slice()),
+        Shape::Choice => true,
     }
 }
 
@@ -204,8 +231,7 @@ fn is_reached(against: Against<'_>, seen: &[u32], behind: Option<u32>, block: u3
 fn is_jumped_to(against: Against<'_>, seen: &[u32], block: u32) -> bool
     ensures { result ≡ are.is_jumped_to against.entry.again.now seen.now block }
 {
-    let again = against.again.get(block as usize).copied().flatten();
-    again.is_some() || is_in(seen, block)
+    is_numbered(against.again, block) || is_in(seen, block)
 }
 
 /// Whether a block stands.

@@ -10,7 +10,7 @@ use Rattle.sa_flat_meaning.specs.Order.{Eval, count}
 use Rattle.sa_flat_meaning.specs.Steps.{step}
 use Rattle.sa_flat_meaning.specs.Exits.{exit}
 use Rattle.sa_shape.specs.Shapes.{Piece, Block, If, Part, Loop, Choice, Pieces, nothing, ◌then◌, first, behind_piece}
-use Rattle.sa_shape.specs.Stands.{begins, is_again}
+use Rattle.sa_shape.specs.Stands.{begins, is_numbered}
 
 -- what a jump to a block does at a place
 abbrev pub Jumps : Type 0
@@ -42,7 +42,7 @@ module _ (p : FlatProgram) (rows : List (List ℕ)) (go : ℕ → ℕ → Eval E
   -- A jump to the first block begins a loop anew, from the same entry; where it begins with the choice, a jump to a block that is
   -- reached again by that does, and the block is the entry then.
   abbrev pub again_in : List (Option ℕ) → Option ℕ → (anew : ℕ → Eval Ending) → (entry : ℕ) → Jumps → Jumps
-  again_in again None anew entry jump block = if is_again again block then anew block else jump block
+  again_in again None anew entry jump block = if is_numbered again block then anew block else jump block
   again_in again (Some head) anew entry jump block = reach (Some head) (anew entry) jump block
 
   -- begun at most as often as the level says

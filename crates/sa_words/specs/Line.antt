@@ -28,7 +28,7 @@ pub data Line : Type 0 where
   Run : (fuel : ℕ) → (room : ℕ) → (stats : Bool) → (contracts : Contracts) → (trace : Trace) → (detail : Detail) → (files : List Text) → Line
   Build : (room : ℕ) → (contracts : Contracts) → (detail : Detail) → (out : Text) → (sites : Option Text) → (files : List Text) → Line
   Check : (contracts : Contracts) → (extent : Extent) → (detail : Detail) → (files : List Text) → Line
-  Exec : (fuel : ℕ) → (stats : Bool) → (detail : Detail) → (file : Text) → Line
+  Exec : (fuel : ℕ) → (pages : Option ℕ) → (stats : Bool) → (detail : Detail) → (file : Text) → Line
   Gen : (classes : ℕ) → Line
   Selftest : (classes : ℕ) → Line
   Listing : (file : Text) → Line
@@ -44,7 +44,7 @@ line_of (command.Run run) = Run run.fuel run.room run.stats run.contracts run.tr
 line_of (command.Build build) =
     Build build.room build.contracts build.detail build.out.now (option_map (λ file. file.now) build.sites) (map (λ file. file.now) build.files.items)
 line_of (command.Check check) = Check check.contracts check.extent check.detail (map (λ file. file.now) check.files.items)
-line_of (command.Exec exec) = Exec exec.fuel exec.stats exec.detail exec.«module».now
+line_of (command.Exec exec) = Exec exec.fuel exec.pages exec.stats exec.detail exec.«module».now
 line_of (command.Gen classes) = Gen classes
 line_of (command.Selftest classes) = Selftest classes
 line_of (command.Listing listing) = Listing listing.«module».now
@@ -59,7 +59,7 @@ abbrev pub detail_of : Option Line → Detail
 detail_of (Some (Run fuel room stats contracts trace detail files)) = detail
 detail_of (Some (Build room contracts detail out sites files)) = detail
 detail_of (Some (Check contracts extent detail files)) = detail
-detail_of (Some (Exec fuel stats detail file)) = detail
+detail_of (Some (Exec fuel pages stats detail file)) = detail
 detail_of _ = Brief
 
 -- the fuel, which has no limit but that of its type, and else that limit
@@ -92,19 +92,32 @@ extent_in rows = if is_given (codes "all") rows then All else Needed
 abbrev pub files_in : List Row → List Text
 files_in rows = unwrap_or (all_of (codes "file") rows) []
 
-abbrev pub run_in : List Row → Option Line
-run_in rows =
-    option_and_then
-    (λ fuel. option_map (λ room. Run fuel room (stats_in rows) (contracts_in rows) (trace_in rows) (detail_in rows) (files_in rows)) (room_in rows))
-    (fuel_in rows)
-
 -- the name is one of these
 abbrev pub is_among : Text → List Text → Bool
 is_among name names = list_any (bytes_eq name) names
 
--- two files that are to be written have one name, or one of them is among those that are read
+-- the name of the input, where it is read as a file
+abbrev pub input : Text
+input = codes "-"
+
+-- a run of these files, none of which is the input, since that is the program's
+abbrev pub run_of : List Row → (files : List Text) → Option Line
+run_of rows files =
+    if is_among input files then None
+    else option_and_then
+    (λ fuel. option_map (λ room. Run fuel room (stats_in rows) (contracts_in rows) (trace_in rows) (detail_in rows) files) (room_in rows))
+    (fuel_in rows)
+
+abbrev pub run_in : List Row → Option Line
+run_in rows = run_of rows (files_in rows)
+
+-- nothing may be written under this name: it is that of the input, or of a file that is read
+abbrev pub is_kept : Text → (files : List Text) → Bool
+is_kept name files = bytes_eq name input || is_among name files
+
+-- two files that are to be written have one name, or one of them may not be written
 abbrev pub do_clash : (out : Text) → (sites : Option Text) → (files : List Text) → Bool
-do_clash out sites files = is_among out files || option_map_or (λ name. bytes_eq name out || is_among name files) sites false
+do_clash out sites files = is_kept out files || option_map_or (λ name. bytes_eq name out || is_kept name files) sites false
 
 -- a build of these files into OUT, with their sites in a file of its own, if there is one
 abbrev pub build_into : List Row → ℕ → (out : Text) → (sites : Option Text) → (files : List Text) → Option Line
@@ -120,8 +133,19 @@ build_in rows =
 abbrev pub check_in : List Row → Line
 check_in rows = Check (contracts_in rows) (extent_in rows) (detail_in rows) (files_in rows)
 
+-- the bound of the memory in pages, if there is one and it is in its range
+abbrev pub pages_in : List Row → Option (Option ℕ)
+pages_in rows = option_map_or (λ text. option_map Some (number_in 0 65536 text)) (first_of (codes "pages") rows) (Some None)
+
+-- the run of the module in this file, which isn't the input, since that is the module's
+abbrev pub exec_of : List Row → (fuel : ℕ) → (pages : Option ℕ) → (file : Text) → Option Line
+exec_of rows fuel pages file = if bytes_eq file input then None else Some (Exec fuel pages (stats_in rows) (detail_in rows) file)
+
 abbrev pub exec_in : List Row → Option Line
-exec_in rows = option_and_then (λ fuel. option_map (λ file. Exec fuel (stats_in rows) (detail_in rows) file) (first_of (codes "module") rows)) (fuel_in rows)
+exec_in rows =
+    option_and_then
+    (λ fuel. option_and_then (λ pages. option_and_then (exec_of rows fuel pages) (first_of (codes "module") rows)) (pages_in rows))
+    (fuel_in rows)
 
 -- how many classes the generated program is to have
 abbrev pub classes_in : List Row → Option ℕ
@@ -130,9 +154,9 @@ classes_in rows = option_and_then (number_in 1 500) (first_of (codes "classes") 
 abbrev pub listing_in : List Row → Option Line
 listing_in rows = option_map Listing (first_of (codes "module") rows)
 
--- the module of this listing into this file, if it is another one
+-- the module of this listing into this file, if it may be written
 abbrev pub assemble_into : (out : Text) → (file : Text) → Option Line
-assemble_into out file = if bytes_eq out file then None else Some (Assemble out file)
+assemble_into out file = if bytes_eq out file || bytes_eq out input then None else Some (Assemble out file)
 
 abbrev pub assemble_in : List Row → Option Line
 assemble_in rows =

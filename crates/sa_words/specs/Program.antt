@@ -3,7 +3,7 @@ use Rattle.std.specs.Prelude.{true, codes, Some}
 use Rattle.clap.specs.Words.{App, Rule, Text, new_app, new_rule, with_rule, with_subcommand}
 use Rattle.clap.specs.declared.builder.action.ArgAction.TheVariants.{Append, SetTrue}
 
--- an option with a value: `--fuel N`, `--sites FILE`
+-- an option with a value: `--fuel N`, `--pages N`, `--sites FILE`
 abbrev pub option : Text → Rule
 option name = record (new_rule name) { long = Some name }
 
@@ -65,7 +65,7 @@ abbrev pub check : App
 check = with_rule (with_rule (with_rule (explaining (new_app (codes "check"))) (flag (codes "contracts"))) (flag (codes "all"))) files
 
 abbrev pub exec : App
-exec = with_rule (explaining (running (new_app (codes "exec")))) module_file
+exec = with_rule (with_rule (explaining (running (new_app (codes "exec")))) (option (codes "pages"))) module_file
 
 abbrev pub gen : App
 gen = with_rule (new_app (codes "gen")) classes

@@ -123,6 +123,8 @@ pub struct Check<'a> {
 pub struct Exec<'a> {
     /// The greatest number of steps.
     pub fuel: u64,
+    /// How many pages of 65,536 bytes its memory has at most, from 0 to 65,536, if this is bounded.
+    pub pages: Option<u32>,
     /// Whether the steps and the module's length are told at the end.
     pub stats: bool,
     pub detail: Detail,

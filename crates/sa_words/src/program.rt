@@ -150,11 +150,13 @@ fn check<'a>(alloc: Global) -> Result<Command<'a>, AllocError>
         .arg(files(alloc))
 }
 
-/// `exec [--fuel N] [--stats] [--explain] MODULE`
+/// `exec [--fuel N] [--stats] [--explain] [--pages N] MODULE`
 fn exec<'a>(alloc: Global) -> Result<Command<'a>, AllocError>
     ensures { IfOk result (λ c. (app_of c ≡ line.exec) × ((out-Command c).has_globals ≡ false)) }
 {
-    explaining(alloc, running(alloc, Command::new(alloc, "exec"))?)?.arg(module_file(alloc))
+    explaining(alloc, running(alloc, Command::new(alloc, "exec"))?)?
+        .arg(option(alloc, "pages"))?
+        .arg(module_file(alloc))
 }
 
 /// `gen N`

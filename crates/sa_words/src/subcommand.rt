@@ -3,7 +3,8 @@
 ghost use Rattle.std.specs.Prelude.{◌≡◌, IfOk, Some, map, option_map};
 ghost use Rattle.clap.specs.Words.{all_of, first_of, found_of, rows_of};
 ghost use Rattle.sa_words.specs.Line.{assemble_in, build_in, check_in, classes_in, contracts_in, detail_in, do_clash, exec_in, extent_in};
-ghost use Rattle.sa_words.specs.Line.{files_in, fuel_in, is_among, is_given, line_of, listing_in, named_line, room_in, run_in, stats_in, trace_in, Gen, Selftest};
+ghost use Rattle.sa_words.specs.Line.{files_in, fuel_in, is_among, is_given, is_kept, line_of, listing_in, named_line, pages_in, room_in};
+ghost use Rattle.sa_words.specs.Line.{run_in, stats_in, trace_in, Gen, Selftest};
 
 use crate::command::{
     Assemble, Build, Check, Command, Contracts, Detail, Exec, Extent, Listing, Run, Trace,
@@ -23,8 +24,14 @@ const LEAST_ROOM: u64 = 64;
 
 const MOST_ROOM: u64 = 1_048_576;
 
+/// How many pages a memory has at most.
+const MOST_PAGES: u64 = 65_536;
+
 /// How many classes a generated program has at most.
 const MOST_CLASSES: u64 = 500;
+
+/// The name of the input, where it is read as a file.
+const INPUT: &str = "-";
 
 /// The value of the argument with this name, or its first one.
 pub(crate) fn value<'a>(matches: &ArgMatches<'a>, name: &str) -> Option<&'a str>
@@ -58,6 +65,19 @@ fn room(matches: &ArgMatches<'_>) -> Option<u32>
         MOST_ROOM,
     )?;
     Some(room as u32)
+}
+
+/// The bound of the memory in pages, if there is one. None where it isn't in its range.
+fn pages(matches: &ArgMatches<'_>) -> Option<Option<u32>>
+    ensures { result ≡ pages_in (rows_of (found_of matches.now)) }
+{
+    match value(matches, "pages") {
+        Some(text) => {
+            let pages = number_in(text, 0, MOST_PAGES)?;
+            Some(Some(pages as u32))
+        }
+        None => Some(None),
+    }
 }
 
 /// Whether the flag of this name is given. `clap` gives it the value `true` then.
@@ -128,10 +148,21 @@ fn files<'a>(alloc: Global, matches: &ArgMatches<'a>) -> Result<Vec<&'a str>, Al
     }
 }
 
+/// Whether the name is one of these.
+fn is_among(name: &str, names: &[&str]) -> bool
+    ensures { result ≡ is_among name.now (map (λ other. other.now) names.now) }
+{
+    names.iter().any(|other| name == *other)
+}
+
 fn run<'a>(alloc: Global, matches: &ArgMatches<'a>) -> Result<Option<Command<'a>>, AllocError>
     ensures { IfOk result (λ command. option_map line_of command ≡ run_in (rows_of (found_of matches.now))) }
 {
     let files = files(alloc, matches)?;
+    // The input is the program's.
+    if is_among(INPUT, files.as_slice()) {
+        return Ok(None);
+    }
     let (Some(fuel), Some(room)) = (fuel(matches), room(matches)) else {
         return Ok(None);
     };
@@ -146,22 +177,22 @@ fn run<'a>(alloc: Global, matches: &ArgMatches<'a>) -> Result<Option<Command<'a>
     })))
 }
 
-/// Whether the name is one of these.
-fn is_among(name: &str, names: &[&str]) -> bool
-    ensures { result ≡ is_among name.now (map (λ other. other.now) names.now) }
+/// Whether nothing may be written under this name: it is that of the input, or of a file that is read.
+fn is_kept(name: &str, files: &[&str]) -> bool
+    ensures { result ≡ is_kept name.now (map (λ file. file.now) files.now) }
 {
-    names.iter().any(|other| name == *other)
+    name == INPUT || is_among(name, files)
 }
 
-/// Whether two files that are to be written have one name, or one of them is among those that are read.
+/// Whether two files that are to be written have one name, or one of them may not be written.
 fn do_clash(out: &str, sites: Option<&str>, files: &[&str]) -> bool
     ensures { result ≡ do_clash out.now (option_map (λ name. name.now) sites.entry) (map (λ file. file.now) files.now) }
 {
-    if is_among(out, files) {
+    if is_kept(out, files) {
         return true;
     }
     match sites {
-        Some(name) => name == out || is_among(name, files),
+        Some(name) => name == out || is_kept(name, files),
         None => false,
     }
 }
@@ -203,9 +234,15 @@ fn exec<'a>(matches: &ArgMatches<'a>) -> Option<Command<'a>>
     ensures { option_map line_of result ≡ exec_in (rows_of (found_of matches.now)) }
 {
     let fuel = fuel(matches)?;
+    let pages = pages(matches)?;
     let module = value(matches, "module")?;
+    // The input is the module's.
+    if module == INPUT {
+        return None;
+    }
     Some(Command::Exec(Exec {
         fuel,
+        pages,
         stats: stats(matches),
         detail: detail(matches),
         module,
@@ -244,7 +281,7 @@ fn assemble<'a>(matches: &ArgMatches<'a>) -> Option<Command<'a>>
 {
     let out = value(matches, "out")?;
     let file = value(matches, "file")?;
-    if out == file {
+    if out == file || out == INPUT {
         return None;
     }
     Some(Command::Assemble(Assemble { out, file }))

@@ -2,10 +2,11 @@
 #![tactic(auto)]
 
 use sa_drive::{Cause, NO_MEMORY, sather};
+use sa_input::InputStore;
 use sa_outside::{FileStore, ReadSource, Sink, WriteSink};
 use std::alloc::Global;
 use std::env::{self, Env};
-use std::io::{self, ErrorKind};
+use std::io::{self, BufReader, ErrorKind};
 use std::process::ExitCode;
 
 fn main(rt: HostRuntime) -> ExitCode {
@@ -15,15 +16,15 @@ fn main(rt: HostRuntime) -> ExitCode {
         Ok(words) => words,
         // Words that aren't text are no command, and neither are no words.
         Err(error) if error.kind() == ErrorKind::InvalidData => Vec::new(alloc),
-        Err(_) => {
-            // As in the top call, the status stands where err fails.
-            let _ = err.put(NO_MEMORY);
-            return ExitCode::from(Cause::NoMemory.status());
-        }
+        Err(_) => return out_of_memory(&mut err),
     };
-    let mut store = FileStore::new(&rt);
+    // A command that reads a file from the input takes it whole. A program takes no byte more than it asks for.
+    let Ok(ahead) = BufReader::new(alloc, rt.stdin()) else {
+        return out_of_memory(&mut err);
+    };
+    let mut store = InputStore::new(alloc, FileStore::new(&rt), ReadSource::new(ahead));
     let mut input = ReadSource::new(rt.stdin());
-    let mut out = WriteSink::new(rt.stdout());
+    let mut out = WriteSink::of_stream(rt.stdout());
     let exit = sather(
         alloc,
         words.as_slice(),
@@ -33,6 +34,12 @@ fn main(rt: HostRuntime) -> ExitCode {
         &mut err,
     );
     ExitCode::from(exit.status)
+}
+
+/// The end where there is no memory to begin with. As in the top call, the status stands where err fails.
+fn out_of_memory(err: &mut impl Sink) -> ExitCode {
+    let _ = err.put(NO_MEMORY);
+    ExitCode::from(Cause::NoMemory.status())
 }
 
 /// The words of the command line without the program's name. The error is `InvalidData` where one isn't UTF-8, and else want of

@@ -4,6 +4,7 @@ use crate::case::{Case, Wanted};
 use anyhow::{Result, ensure};
 use bstr::BStr;
 use sa_drive::{Exit, sather};
+use sa_input::InputStore;
 use sa_outside::{MemSink, MemSource, MemStore};
 use std::alloc::Global;
 
@@ -21,7 +22,9 @@ pub fn difference(alloc: Global, case: Case) -> Result<Option<String>> {
         MemStore::names_differ(files.as_slice()),
         "two files have one name"
     );
-    let mut store = MemStore::new(files, failing.store);
+    // As the program's store, it has the input as the file `-`.
+    let whole = MemSource::new(Vec::from_slice(alloc, input.as_slice())?, Vec::new(alloc));
+    let mut store = InputStore::new(alloc, MemStore::new(files, failing.store), whole);
     let mut input = MemSource::new(input, failing.input);
     let mut out = MemSink::new(alloc, failing.output);
     let mut err = MemSink::new(alloc, failing.lines);

@@ -31,7 +31,12 @@ fn hand_on<O: Sink>(host: &mut Host, out: &mut O) -> Result<(), Halt>
     }
 }
 
-/// `env.put`: holds the low 8 bits of the argument, and hands the output on where 4,096 bytes are held.
+/// Whether the output is handed on behind this byte: where 4,096 bytes are held, and behind each line for a sink that wants lines.
+fn is_due<O: Sink>(byte: u8, host: &Host, out: &O) -> bool {
+    host.is_full() || (byte == b'\n' && out.wants_lines())
+}
+
+/// `env.put`: holds the low 8 bits of the argument, and hands the output on where it is due.
 fn put<O: Sink>(word: u64, host: &mut Host, out: &mut O) -> Result<(), Halt>
     ensures ok { OnOk result (HandsOn (O.output out.old) (O.output out.new) (host.old ++ word % 2 ^ 8 ∷ []) host.new) }
     ensures hands { HasHandedOn result (O.output out.old) (O.output out.new) (host.old ++ word % 2 ^ 8 ∷ []) host.new }
@@ -40,10 +45,11 @@ fn put<O: Sink>(word: u64, host: &mut Host, out: &mut O) -> Result<(), Halt>
     ensures count { O.faults out.old ≤ O.faults out.new }
     ensures output { Grew (O.output out.old) (O.output out.new) }
 {
-    if host.hold((word % (1 << 8)) as u8).is_err() {
+    let byte = (word % (1 << 8)) as u8;
+    if host.hold(byte).is_err() {
         return Err(Halt::NoMemory);
     }
-    if host.is_full() {
+    if is_due(byte, host, out) {
         hand_on(host, out)
     } else {
         Ok(())

@@ -1,3 +1,4 @@
 pub mod Answers
 pub mod Modules
 pub mod Runs
+pub mod Within

@@ -5,7 +5,9 @@
 mod answer;
 mod load;
 mod module_run;
+mod within;
 
 pub use answer::{Answer, answer_of_halt, answer_of_start};
 pub use load::runnable;
 pub use module_run::{Run, handed_on, run_bytes, run_module};
+pub use within::run_within;

@@ -9,7 +9,7 @@ returns-in-Ok-clause-may_tell c =
     inr (record {
       first = c.args.first;
       cause = c.without_module-outcome.ensures.cause;
-      refusals = c.args.further.now;
-      further = subst (λ sources. All (IsFurther sources) c.args.further.now) same c.in-Ok.ensures.further;
-      lines = c.in-Ok.ensures.lines ∙ ap (λ sources. refusal_lines sources c.args.further.now) same;
+      refusals = c.as_slice.result.now;
+      further = subst (λ sources. All (IsFurther sources) c.as_slice.result.now) same c.in-Ok.ensures.further;
+      lines = c.in-Ok.ensures.lines ∙ ap (λ sources. refusal_lines sources c.as_slice.result.now) same;
     })

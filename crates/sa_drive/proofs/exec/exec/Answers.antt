@@ -12,7 +12,7 @@ returns-in-Ok-Whole-clause-does g c =
     let ran = c.run_module-ended.ensures.ran in
     inr (
       subst (IsModuleIn (part g.S.ReadFiles.files g.S.ReadFiles.faults c.args.store.now c.read_file.new.store) c.args.line.now.«module».now) (sym c.outcome.ensures.bytes) (read.0, read.1),
-      shown _ _ IsSame _ c.args.line.now.fuel c.run_module-ended.result ran.0 c.outcome.result ran.1 ran.2 (c.outcome.ensures.bytes ∙ sym c.as_slice.ensures.value) c.outcome.ensures.cause c.outcome.ensures.done c.outcome.ensures.steps,
+      shown _ _ IsSame _ c.args.line.now.pages c.args.line.now.fuel c.run_module-ended.result ran.0 c.outcome.result ran.1 ran.2 (c.outcome.ensures.bytes ∙ sym c.as_slice.ensures.value) c.outcome.ensures.cause c.outcome.ensures.done c.outcome.ensures.steps,
     )
 
 pub returns-in-Ok-Whole-clause-placed : goal.returns-in-Ok-Whole-clause-placed

@@ -1,6 +1,7 @@
 use Rattle.std.proofs.Common.{ℕ, ◌∷◌, [], ◌++◌, ◌≡◌, ◌+◌, is_ok, sym, ap, ◌∙◌, subst, arith}
 use Rattle.std.proofs.ResultArms.{chosen}
 use Rattle.std.proofs.lemmas.List.{take_rest, length-drop}
+use Rattle.sa_lex.specs.Gap.{mark_len}
 use Rattle.sa_lex.specs.Tokens.{Follow, StandsAt, gap_end, end_of}
 use Rattle.sa_lex.proofs.TokenLists.{Follow-push, end_of-push}
 use Rattle.sa_lex.proofs.lexer.lex.Goals as goal
@@ -17,7 +18,7 @@ loop-place-preserved c =
     let gap = rw take_rest at c.gap_len.ensures.gap in
     let within = rw take_rest at c.gap_len.ensures.within in
     record {
-      follow = subst (Follow src 0) (sym pushed) (Follow-push src 0 before token c.loop-place.invariant.follow stands);
-      behind = ap (λ (n : ℕ). token.end + n) gap ∙ ap (gap_end src) (sym (ap (end_of 0) pushed ∙ end_of-push 0 before token));
+      follow = subst (Follow src (mark_len src)) (sym pushed) (Follow-push src (mark_len src) before token c.loop-place.invariant.follow stands);
+      behind = ap (λ (n : ℕ). token.end + n) gap ∙ ap (gap_end src) (sym (ap (end_of (mark_len src)) pushed ∙ end_of-push (mark_len src) before token));
       in_text = omega (arith, within, length-drop token.end src, stands.in_text);
     }

@@ -1,11 +1,12 @@
 use Rattle.std.proofs.Common.{◌≡◌, ◌≤◌, ◌-◌, length}
+use Rattle.sa_lex.specs.Gap.{mark_len}
 use Rattle.sa_lex.specs.Tokens.{gap_end, end_of, Follow}
 use Rattle.sa_lex.proofs.lexer.lex.Given as goal
 
 abbrev pub invariant-loop-place : goal.invariant-loop-place
 invariant-loop-place l = record {
-  follow : Follow l.src 0 l.tokens.items;
-  behind : l.place ≡ gap_end l.src (end_of 0 l.tokens.items);
+  follow : Follow l.src (mark_len l.src) l.tokens.items;
+  behind : l.place ≡ gap_end l.src (end_of (mark_len l.src) l.tokens.items);
   in_text : l.place ≤ length l.src;
 }
 

@@ -1,0 +1,99 @@
+//! What is said of bytes that are no module: where they stop being one.
+
+use sa_explain_scene::{Part, Sentences};
+use std::alloc::AllocError;
+use wa_flaw::{Flaw, Lack, Place, flaw_in};
+
+/// What bytes without a module are told by: what they begin with, or the first place at which they are wrong.
+pub fn malformed(module: &[u8], said: &mut Sentences) -> Result<(), AllocError> {
+    if module.is_empty() {
+        said.say_words("The file has no bytes, or more than 67108864.")?;
+        return for_another(said);
+    }
+    match flaw_in(module) {
+        Some(
+            Flaw {
+                lack: Lack::Magic,
+                ..
+            },
+        ) => {
+            said.say_words(
+                "The file is no module of WebAssembly 1.0: these begin with the bytes 00 61 73 6d 01 00 00 00.",
+            )?;
+            for_another(said)
+        }
+        Some(flaw) => wrong_at(flaw, said),
+        None => {
+            said.say_words(
+                "The file begins as a module of WebAssembly 1.0, and goes on as none without floating point.",
+            )?;
+            for_another(said)
+        }
+    }
+}
+
+/// What to do with another file.
+fn for_another(said: &mut Sentences) -> Result<(), AllocError> {
+    said.say_words(
+        "A source is run by `run`, a listing is made a module by `assemble`, and `exec` takes what `build` has made.",
+    )
+}
+
+/// What is wrong at a place of a module.
+fn wrong_at(flaw: Flaw, said: &mut Sentences) -> Result<(), AllocError> {
+    let at = Part::Number(flaw.at);
+    let hex = Part::Hex(flaw.at);
+    let wrong = Part::Words(flaw.lack.text());
+    match flaw.place {
+        Place::File => said.say(&[
+            Part::Words("At byte "),
+            at,
+            Part::Words(" ("),
+            hex,
+            Part::Words("): "),
+            wrong,
+        ])?,
+        Place::Section(number) => said.say(&[
+            Part::Words("At byte "),
+            at,
+            Part::Words(" ("),
+            hex,
+            Part::Words("), in section "),
+            Part::Number(usize::from(number)),
+            Part::Words(section_name(number)),
+            Part::Words(": "),
+            wrong,
+        ])?,
+        Place::Body(number) => said.say(&[
+            Part::Words("At byte "),
+            at,
+            Part::Words(" ("),
+            hex,
+            Part::Words("), in the body of function "),
+            Part::Number(number as usize),
+            Part::Words(" of the module's own, from 0: "),
+            wrong,
+        ])?,
+    }
+    said.say_words(
+        "`exec` takes modules of WebAssembly 1.0 without floating point: see that the file is whole, and how it was made.",
+    )
+}
+
+/// The name of the section with a number.
+fn section_name(number: u8) -> &'static str {
+    match number {
+        0 => ", a custom one",
+        1 => ", that of types",
+        2 => ", that of imports",
+        3 => ", that of functions",
+        4 => ", that of tables",
+        5 => ", that of memories",
+        6 => ", that of globals",
+        7 => ", that of exports",
+        8 => ", that of the start",
+        9 => ", that of elements",
+        10 => ", that of code",
+        _ => ", that of data",
+    }
+}

@@ -1,0 +1,81 @@
+-- Which functions of a module hold a `br_table`: none of the runtime's, not `main`, and none of a body that has at most 150 blocks and
+-- doesn't go on behind a suspension.
+use Rattle.std.specs.Prelude.{◌≡◌, ◌≤◌, Bool, true, false, ◌||◌, List, [], ◌∷◌, ◌++◌, length, is_some}
+use Rattle.std.specs.List.{FoldsTo}
+use Rattle.sa_flat.specs.declared.body.FlatBlock.{FlatBlock}
+use Rattle.sa_flat.specs.declared.body.FlatBody.{FlatBody}
+use Rattle.sa_flat.specs.declared.step.FlatExit.{FlatExit}
+use Rattle.sa_flat.specs.declared.step.FlatExit.TheVariants.{Suspend}
+use Rattle.wa_syntax.specs.declared.module.Func.{Func}
+use Rattle.wa_syntax.specs.Instructions.{Instruction, Block, Loop, If, BrTable, Sequence, nothing, ◌then◌, sequence}
+
+-- ---- functions
+
+-- an instruction is a `br_table`, or has one inside it; and one of some instructions is or has
+abbrev mutual
+  pub is_table : Instruction → Bool
+  is_table (BrTable labels default) = true
+  is_table (Block result inside) = holds_table inside
+  is_table (Loop result inside) = holds_table inside
+  is_table (If result first other) = holds_table first || holds_table other
+  is_table _ = false
+
+  pub holds_table : Sequence → Bool
+  holds_table nothing = false
+  holds_table (i then rest) = is_table i || holds_table rest
+
+abbrev pub has_table : Func → Bool
+has_table func = holds_table (sequence func.body)
+
+abbrev pub HoldsNoTable : Func → Type 0
+HoldsNoTable func = has_table func ≡ false
+
+-- one of some functions has
+abbrev pub have_table : List Func → Bool
+have_table [] = false
+have_table (func ∷ rest) = has_table func || have_table rest
+
+-- ---- bodies
+
+-- the body goes on in a block behind this exit once it is resumed
+abbrev pub is_resumed : FlatExit → Bool
+is_resumed (Suspend value resume) = is_some resume
+is_resumed _ = false
+
+-- it does behind one of some blocks
+abbrev pub are_resumed : List FlatBlock → Bool
+are_resumed [] = false
+are_resumed (block ∷ rest) = is_resumed block.exit || are_resumed rest
+
+-- the body of a routine, or of an iter that never yields
+abbrev pub IsPlain : FlatBody → Type 0
+IsPlain body = are_resumed body.blocks ≡ false
+
+-- The shape of so few blocks nests at most 300 deep, as deep as shapes do.
+abbrev pub HasFewBlocks : FlatBody → Type 0
+HasFewBlocks body = length body.blocks ≤ 150
+
+-- the function of a body
+abbrev pub IsFunctionOf : FlatBody → Func → Type 0
+IsFunctionOf body func = IsPlain body → HasFewBlocks body → HoldsNoTable func
+
+-- ---- modules
+
+-- one more function, which is as it should be
+pub record IsAdded (IsRight : Func → Type 0) (before after : List Func) : Type 0 where
+  pub func : Func
+  pub is_right : IsRight func
+  pub all : after ≡ before ++ func ∷ []
+
+-- a body's function is added, or none where the body isn't reached
+pub data IsMade (before : List Func) (body : FlatBody) (after : List Func) : Type 0 where
+  made : IsAdded (IsFunctionOf body) before after → IsMade before body after
+  left_out : after ≡ before → IsMade before body after
+
+-- the functions of a module: some of the runtime, at most one for each body, in the order of the bodies, and `main`
+pub record AreFunctionsOf (bodies : List FlatBody) (funcs : List Func) : Type 0 where
+  pub runtime : List Func
+  pub before_main : List Func
+  pub runtime_holds_none : have_table runtime ≡ false
+  pub of_bodies : FoldsTo IsMade runtime bodies before_main
+  pub main : IsAdded HoldsNoTable before_main funcs

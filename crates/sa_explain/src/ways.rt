@@ -1,0 +1,98 @@
+//! The lines of the program's own from which a place of the prelude can be come to.
+
+use sa_explain_calls::Line;
+use sa_explain_scene::{Part, Said, Scene, Table};
+use std::alloc::AllocError;
+
+/// How many lines are told.
+const MOST_LINES: usize = 5;
+
+/// Tells which line led to the place, or one of which.
+pub(crate) fn tell_ways(
+    scene: Scene<'_>,
+    lines: &[Line],
+    said: &mut Said,
+) -> Result<(), AllocError> {
+    if lines.is_empty() {
+        return Ok(());
+    }
+    let told = lines.get(..MOST_LINES).unwrap_or(lines);
+    let mut parts = Vec::new(scene.alloc);
+    if lines.len() == 1 {
+        parts.push(Part::Words("The program came here from "))?;
+        put_lines(&mut parts, scene.table, told)?;
+        parts.push(Part::Words(", the only line that leads here."))?;
+    } else if lines.len() <= MOST_LINES {
+        parts.push(Part::Words("The program came here from one of these: "))?;
+        put_lines(&mut parts, scene.table, told)?;
+        parts.push(Part::Words("."))?;
+    } else {
+        parts.push(Part::Words("The program came here from one of "))?;
+        parts.push(Part::Number(lines.len()))?;
+        parts.push(Part::Words(" lines, of which the first are "))?;
+        put_lines(&mut parts, scene.table, told)?;
+        parts.push(Part::Words("."))?;
+    }
+    said.say(parts.as_slice())
+}
+
+/// Adds lines, those of one file together: `line 6 of a.sa, and lines 2 and 9 of b.sa`.
+fn put_lines<'a>(
+    parts: &mut Vec<Part<'a>>,
+    table: Table<'a>,
+    lines: &[Line],
+) -> Result<(), AllocError> {
+    for at in 0..lines.len() {
+        if let Some(line) = lines.get(at) {
+            put_line(parts, table, lines, at, *line)?;
+        }
+    }
+    Ok(())
+}
+
+/// Adds the line at a place of the list.
+fn put_line<'a>(
+    parts: &mut Vec<Part<'a>>,
+    table: Table<'a>,
+    lines: &[Line],
+    at: usize,
+    line: Line,
+) -> Result<(), AllocError> {
+    let begins = at == 0 || !is_in_file(lines, at.saturating_sub(1), line.file);
+    let ends = !is_in_file(lines, at.saturating_add(1), line.file);
+    parts.push(Part::Words(words_between(lines, at, line.file, begins, ends)))?;
+    if begins {
+        parts.push(Part::Words(if ends { "line " } else { "lines " }))?;
+    }
+    parts.push(Part::Number(line.number))?;
+    if ends {
+        parts.push(Part::Words(" of "))?;
+        parts.push(Part::File(table.file_at(line.file)))?;
+    }
+    Ok(())
+}
+
+/// What stands before a line: a comma or `and`, by whether it begins or ends those of its file.
+fn words_between(lines: &[Line], at: usize, file: u32, begins: bool, ends: bool) -> &'static str {
+    if at == 0 {
+        ""
+    } else if begins {
+        if lines.iter().skip(at).all(|line| line.file == file) {
+            ", and "
+        } else {
+            ", "
+        }
+    } else if ends {
+        " and "
+    } else {
+        ", "
+    }
+}
+
+/// Whether the line at a place of the list is in a file.
+fn is_in_file(lines: &[Line], at: usize, file: u32) -> bool {
+    match lines.get(at) {
+        Some(line) => line.file == file,
+        None => false,
+    }
+}

@@ -1,0 +1,128 @@
+//! Which features and signatures lead to a place of the prelude, by calls in the prelude alone.
+
+use crate::reached::{Call, Reached};
+use crate::walk::Seen;
+use sa_core::{Core, SigCore, Target};
+use sa_graph::{Graph, word};
+use sa_tree::NoMemory;
+use std::alloc::Global;
+
+/// The number of the prelude among the texts of a program.
+pub(crate) const PRELUDE: u32 = 0;
+
+/// The features and the signatures of a program, as nodes of a graph: first the features, then the signatures, and then the place that
+/// is led to.
+#[derive(Clone, Copy)]
+struct Nodes {
+    features: usize,
+    signatures: usize,
+}
+
+impl Nodes {
+    fn of(core: &Core) -> Nodes {
+        Nodes {
+            features: core.features.len(),
+            signatures: core.sigs.len(),
+        }
+    }
+
+    fn place(self) -> usize {
+        self.features.saturating_add(self.signatures)
+    }
+
+    fn reached(self, to: Reached) -> usize {
+        match to {
+            Reached::Feature(number) => number as usize,
+            Reached::Signature(number) => self.features.saturating_add(number as usize),
+        }
+    }
+}
+
+/// Edges by their starts and their ends.
+#[derive(Drop)]
+struct Edges {
+    starts: Vec<u32>,
+    ends: Vec<u32>,
+}
+
+impl Edges {
+    fn add(&mut self, start: usize, end: usize) -> Result<(), NoMemory> {
+        self.starts.push(word(start)?)?;
+        self.ends.push(word(end)?)?;
+        Ok(())
+    }
+}
+
+/// What leads to a place.
+#[derive(Drop)]
+pub(crate) struct Leading {
+    nodes: Nodes,
+    marks: Vec<bool>,
+}
+
+impl Leading {
+    /// What leads to the place that was looked for in a program: the features of the prelude in which it is, and those features of
+    /// the prelude and those signatures that lead to one of them.
+    pub(crate) fn to_place(
+        alloc: Global,
+        core: &Core,
+        seen: &Seen<'_>,
+    ) -> Result<Leading, NoMemory> {
+        let nodes = Nodes::of(core);
+        let mut edges = Edges {
+            starts: Vec::new(alloc),
+            ends: Vec::new(alloc),
+        };
+        add_calls(&mut edges, nodes, core, seen.calls.as_slice())?;
+        add_signatures(&mut edges, nodes, core.sigs.as_slice())?;
+        for holder in seen.holders.iter() {
+            edges.add(*holder as usize, nodes.place())?;
+        }
+        let Edges { starts, ends } = edges;
+        let graph = Graph::new(alloc, nodes.place().saturating_add(1), starts, ends)?;
+        let marks = graph.reaching(alloc, word(nodes.place())?)?;
+        Ok(Leading { nodes, marks })
+    }
+
+    /// Whether what is called leads there.
+    pub(crate) fn holds(&self, to: Reached) -> bool {
+        matches!(self.marks.get(self.nodes.reached(to)), Some(true))
+    }
+}
+
+/// Adds an edge for each call in a feature of the prelude.
+fn add_calls(edges: &mut Edges, nodes: Nodes, core: &Core, calls: &[Call]) -> Result<(), NoMemory> {
+    for call in calls {
+        if let Some(feature) = call.feature
+            && is_of_prelude(core, feature)
+        {
+            edges.add(feature as usize, nodes.reached(call.to))?;
+        }
+    }
+    Ok(())
+}
+
+/// Whether the text of a feature stands in the prelude.
+fn is_of_prelude(core: &Core, feature: u32) -> bool {
+    match core.features.get(feature as usize) {
+        Some(feature) => feature.pos.file == PRELUDE,
+        None => false,
+    }
+}
+
+/// Adds an edge from each signature to each of the features that implement it.
+fn add_signatures(edges: &mut Edges, nodes: Nodes, sigs: &[SigCore]) -> Result<(), NoMemory> {
+    for (number, sig) in sigs.iter().enumerate() {
+        add_signature(edges, nodes.features.saturating_add(number), sig)?;
+    }
+    Ok(())
+}
+
+fn add_signature(edges: &mut Edges, node: usize, sig: &SigCore) -> Result<(), NoMemory> {
+    for implementation in sig.impls.as_slice() {
+        if let Target::Feature(feature) = implementation.target {
+            edges.add(node, feature as usize)?;
+        }
+    }
+    Ok(())
+}

@@ -1,0 +1,117 @@
+//! The static type of what is raised at a place.
+
+use crate::walk::{Body, seen_in};
+use sa_core::{CalledCore, Core, ExprCore, Target};
+use sa_prelude::BuiltinFeature;
+use sa_tree::{NoMemory, Pos, Ty};
+use std::alloc::Global;
+
+/// The static type of what is raised at a place; nothing where it isn't known, or not the same in each instance of the class.
+///
+/// # Errors
+///
+/// `NoMemory` where memory runs out.
+pub fn raised_type(alloc: Global, core: &Core, place: Pos) -> Result<Option<&Ty>, NoMemory> {
+    let seen = seen_in(alloc, core, place)?;
+    Ok(the_same(seen.raised.as_slice()))
+}
+
+/// The type that each of a list is.
+fn the_same<'a>(types: &[Option<&'a Ty>]) -> Option<&'a Ty> {
+    let first: &'a Ty = (*types.first()?)?;
+    for ty in types {
+        let other: &'a Ty = (*ty)?;
+        if *other != *first {
+            return None;
+        }
+    }
+    Some(first)
+}
+
+/// The static type of an expression in a body.
+pub(crate) fn type_of<'a>(body: Body<'a>, expr: &'a ExprCore) -> Option<&'a Ty> {
+    match expr {
+        ExprCore::Int(_) => type_named(body.core, b"INT"),
+        ExprCore::Bool(_) | ExprCore::IsVoid(_) | ExprCore::And(_, _) | ExprCore::Or(_, _) => {
+            type_named(body.core, b"BOOL")
+        }
+        ExprCore::Char(_) => type_named(body.core, b"CHAR"),
+        ExprCore::Text(_) => type_named(body.core, b"STR"),
+        ExprCore::VoidOf(ty)
+        | ExprCore::New(ty, _)
+        | ExprCore::NewArray(ty, _, _)
+        | ExprCore::Items(ty, _, _)
+        | ExprCore::Widen(ty, _, _)
+        | ExprCore::Bind(_, _, _, ty, _) => type_at(body.core, *ty),
+        ExprCore::Me => type_at(body.core, body.feature?.class),
+        ExprCore::Var(number) => type_at(body.core, *body.feature?.vars.get(*number as usize)?),
+        ExprCore::Call(called, _, _, _) => given_by(body.core, *called),
+        ExprCore::IterCall(site, _, _, _) => given_by(body.core, body.site(*site)?.called),
+        ExprCore::Swapped(Target::Feature(number), _, _, _) => given_at(body.core, *number),
+        ExprCore::Swapped(_, _, _, _) | ExprCore::Exception => None,
+    }
+}
+
+/// The type with a number.
+fn type_at(core: &Core, number: u32) -> Option<&Ty> {
+    Some(&core.types.get(number as usize)?.ty)
+}
+
+/// The type that is a class of this name without parameters.
+fn type_named<'a>(core: &'a Core, name: &[u8]) -> Option<&'a Ty> {
+    core.types
+        .as_slice()
+        .iter()
+        .map(|info| &info.ty)
+        .find(|ty| is_named(ty, name))
+}
+
+fn is_named(ty: &Ty, name: &[u8]) -> bool {
+    match ty {
+        Ty::Named(there, params, _) => there.as_slice() == name && params.is_empty(),
+        _ => false,
+    }
+}
+
+/// The type of what a call gives.
+fn given_by(core: &Core, called: CalledCore) -> Option<&Ty> {
+    match called {
+        CalledCore::Static(target, of) => given_of(core, target, of),
+        CalledCore::Dispatch(number) => core.sigs.get(number as usize)?.sig.result.as_ref(),
+        CalledCore::Bound => None,
+    }
+}
+
+/// The type of what a feature of a type gives.
+fn given_of(core: &Core, target: Target, of: u32) -> Option<&Ty> {
+    match target {
+        Target::Feature(number) => given_at(core, number),
+        Target::Builtin(feature) => given_built_in(core, feature, of),
+        Target::Get(place) => {
+            let info = core.types.get(of as usize)?;
+            type_at(core, *info.attrs.get(place as usize)?)
+        }
+        Target::GetShared(number) => type_at(core, core.shareds.get(number as usize)?.ty),
+        Target::Set(_) | Target::SetShared(_) => None,
+    }
+}
+
+/// The type of what the feature with a number gives.
+fn given_at(core: &Core, number: u32) -> Option<&Ty> {
+    type_at(core, core.features.get(number as usize)?.result?)
+}
+
+/// The type of what a built-in feature of a type gives, where it isn't BOOL or INT, which are seldom raised.
+fn given_built_in(core: &Core, feature: BuiltinFeature, of: u32) -> Option<&Ty> {
+    match feature {
+        BuiltinFeature::IntStr
+        | BuiltinFeature::CharStr
+        | BuiltinFeature::StrCat
+        | BuiltinFeature::StrSubstring
+        | BuiltinFeature::StrOf => type_named(core, b"STR"),
+        BuiltinFeature::IntChar | BuiltinFeature::StrAget => type_named(core, b"CHAR"),
+        BuiltinFeature::ArefAget => type_at(core, core.types.get(of as usize)?.elem?),
+        BuiltinFeature::ArrayCreate => type_at(core, of),
+        _ => None,
+    }
+}
