@@ -79,5 +79,7 @@ fn stopped(code: u32, said: &mut Sentences) -> Result<(), AllocError> {
             "The module ended itself by a call of `env.stop` with this number.",
         )?,
     }
-    said.say_words("To see the line of a fault run the source.")
+    said.say_words(
+        "To see the line of a fault run the source, or look its site up in the file that `build --sites` wrote.",
+    )
 }

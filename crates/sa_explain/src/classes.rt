@@ -1,7 +1,8 @@
 //! Classes and their headers: E08, E10, E12, E13, E19, E24; and their features: E11, E16, E20, E22.
 
 use sa_explain_scene::{
-    Part, Quality, Said, Scene, class_near, count_in, feature_in, feature_near, plain_name,
+    Part, Quality, Said, Scene, class_near, count_in, feature_in, feature_near, library_file,
+    plain_name,
 };
 use sa_lex::{Sign, TokenKind};
 use sa_tree::{Class, Feature, Kind, NoMemory, Part as FeaturePart, Rule, Ty};
@@ -138,6 +139,15 @@ fn unknown_class<'a>(scene: Scene<'a>, name: &'a [u8], said: &mut Said) -> Resul
     if let Some(remedy) = known_elsewhere(name) {
         return said.say_words(remedy);
     }
+    if let Some(file) = library_file(name) {
+        return said.say(&[
+            Part::Words("The library has it: write `sather lib "),
+            Part::Words(file),
+            Part::Words(" > "),
+            Part::Words(file),
+            Part::Words(".sa`, and name this file in the command too."),
+        ]);
+    }
     match class_near(scene, name)? {
         Some(near) => said.say(&[
             Part::Words("Did you mean "),
@@ -151,16 +161,22 @@ fn unknown_class<'a>(scene: Scene<'a>, name: &'a [u8], said: &mut Said) -> Resul
 /// What stands here for a class of another language.
 fn known_elsewhere(name: &[u8]) -> Option<&'static str> {
     Some(match name {
-        b"STRING" | b"TEXT" => "A text is a STR.",
+        b"STRING" => "A text is a STR.",
         b"FLT" | b"FLTD" | b"FLTX" | b"FLOAT" | b"DOUBLE" | b"REAL" => {
-            "There are whole numbers alone: count the parts, as tenths in an INT, and put the point in where it is printed."
+            "There are whole numbers alone: count the parts, as tenths in an INT, or take FIXED of the library, `sather lib fixed > fixed.sa`."
         }
-        b"INTEGER" | b"LONG" | b"SHORT" | b"NUMBER" | b"INTI" =>
+        b"INTEGER" | b"LONG" | b"SHORT" | b"NUMBER" =>
             "A whole number is an INT, up to 2147483647.",
         b"BOOLEAN" => "The class of `true` and `false` is BOOL.",
         b"CHARACTER" | b"BYTE" => "A byte is a CHAR.",
-        b"LIST" | b"VECTOR" => "A list that grows is an FLIST, as `FLIST{INT}`.",
+        b"VECTOR" => "A list that grows is an FLIST, as `FLIST{INT}`.",
         b"OBJECT" | b"ANY" => "The class above all others is $OB.",
+        b"MAP" | b"SET" =>
+            "The library has FMAP and FSET: write `sather lib fmap > fmap.sa`, and name this file in the command too.",
+        b"FILE" =>
+            "A program reads its input, as by `#IN.get_str`, and writes its output; it opens no files.",
+        b"ERR" => "All output is that of `#OUT`.",
+        b"UNIX" => "A program ends where `main` does: write `main:INT is`, and return the status.",
         b"VOID" => "A routine without a result has no type behind its arguments.",
         _ => return None,
     })

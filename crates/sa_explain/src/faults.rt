@@ -77,11 +77,12 @@ fn of_program(
 ) -> Result<(), NoMemory> {
     match kind {
         FaultKind::Void => {
-            if let Some(name) = void_variable(scene.tokens, scene.at) {
-                said.say(&[
+            match void_variable(scene.tokens, scene.at) {
+                Some(name) => said.say(&[
                     Part::Code(scene.tokens.bytes(name)),
                     Part::Words(" is void here."),
-                ])?;
+                ])?,
+                None => in_create(scene, said)?,
             }
         }
         FaultKind::Uncaught => match text_raised(scene.tokens, scene.at) {
@@ -95,6 +96,21 @@ fn of_program(
         _ => {}
     }
     Ok(())
+}
+
+/// An attribute of self that is assigned in `create`, where there is no object yet.
+fn in_create(scene: Scene<'_>, said: &mut Said) -> Result<(), AllocError> {
+    let tokens = scene.tokens;
+    let target = scene.at.saturating_sub(1);
+    let is_own = tokens.is_sign(scene.at, Sign::Assign)
+        && tokens.is_lower(target)
+        && !tokens.is_sign_back(target, 1, Sign::Dot);
+    if !is_own || scene.feature_name() != Some(b"create".as_slice()) {
+        return Ok(());
+    }
+    said.say_words(
+        "`#C` calls `create` before there is an object: write `r ::= new;` there, then `r.x := ..;`, and return `r`.",
+    )
 }
 
 /// The name before the `.` of a call, or of an assignment, at a token, where nothing stands before it.

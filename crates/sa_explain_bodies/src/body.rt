@@ -3,6 +3,7 @@
 use crate::calls::call_without_fit;
 use crate::iters::about_iter;
 use crate::names::{about_name, unknown_name};
+use crate::operators::comparison_with_void;
 use crate::typing::wrong_type;
 use sa_explain_scene::{Said, Scene};
 use sa_tree::{NoMemory, Rule};
@@ -20,6 +21,7 @@ pub fn about_body(scene: Scene<'_>, rule: Rule, said: &mut Said) -> Result<(), N
         }
         Rule::NoFeatureFits => call_without_fit(scene, said),
         Rule::WrongType => wrong_type(scene, said),
+        Rule::NoTypeFromContext => Ok(comparison_with_void(scene, said)?),
         Rule::IterOutsideLoop
         | Rule::IterInSelfOrOnce
         | Rule::OutOfPlace

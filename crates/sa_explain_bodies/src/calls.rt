@@ -7,7 +7,7 @@ use sa_explain_scene::{
     is_opening, plain_name,
 };
 use sa_lex::{Sign, TokenKind, Word};
-use sa_tree::{Class, Feature, Kind, NoMemory, Part as FeaturePart};
+use sa_tree::{Class, Feature, Kind, Mode, NoMemory, Part as FeaturePart};
 use std::alloc::AllocError;
 
 /// Says why the call at the place has no feature that fits.
@@ -59,7 +59,7 @@ fn stands_alone(tokens: Tokens<'_>, at: usize) -> bool {
 }
 
 /// Whether a statement begins behind a token, and no expression goes on.
-fn begins_list(kind: Option<&TokenKind>) -> bool {
+pub(crate) fn begins_list(kind: Option<&TokenKind>) -> bool {
     matches!(
         kind,
         Some(
@@ -265,7 +265,61 @@ fn feature_without_fit(scene: Scene<'_>, said: &mut Said) -> Result<(), AllocErr
     if scene.table.count(name, Quality::Takes(given)) == 0 {
         return argument_count(scene, given, said);
     }
+    if let Some((_, feature)) = only_feature(scene, name)
+        && marked_behind(scene.tokens, scene.at) != marked_formals(feature)
+    {
+        return argument_marks(scene, marked_formals(feature), said);
+    }
     argument_type(scene, said)
+}
+
+/// How many arguments of a feature are copied back.
+fn marked_formals(feature: &Feature) -> usize {
+    feature
+        .formals
+        .as_slice()
+        .iter()
+        .filter(|formal| matches!(formal.mode, Mode::Out | Mode::Inout))
+        .count()
+}
+
+/// How many arguments that stand behind a name are marked by `out` or `inout`.
+fn marked_behind(tokens: Tokens<'_>, name: usize) -> usize {
+    let open = name.saturating_add(1);
+    let mut depth = 0usize;
+    let mut count = 0usize;
+    for at in open..tokens.list.len() {
+        let kind = tokens.kind(at);
+        if is_opening(kind) {
+            depth = depth.saturating_add(1);
+        } else if is_closing(kind) {
+            depth = depth.saturating_sub(1);
+        } else if depth == 1 && (tokens.is_word(at, Word::Out) || tokens.is_word(at, Word::Inout)) {
+            count = count.saturating_add(1);
+        }
+        if depth == 0 {
+            return count;
+        }
+    }
+    count
+}
+
+/// Other marks of arguments than the header has.
+fn argument_marks(scene: Scene<'_>, wanted: usize, said: &mut Said) -> Result<(), AllocError> {
+    if wanted == 0 {
+        said.say(&[
+            Part::Code(scene.name()),
+            Part::Words(" copies no argument back, and this call marks one by `out` or `inout`."),
+        ])?;
+        return said.say_words("Take the word away, or write it in the header too.");
+    }
+    said.say(&[
+        Part::Code(scene.name()),
+        Part::Words(
+            " copies arguments back, which its header and each call mark by the same words.",
+        ),
+    ])?;
+    said.say_words("Write `out x` or `inout x` in the call, as the header has it.")
 }
 
 /// `while!`, `until!` and `break!`

@@ -56,6 +56,9 @@ fn out_of_place(scene: Scene<'_>, said: &mut Said) -> Result<(), AllocError> {
     if !matches!(scene.tokens.kind(scene.feature), Some(TokenKind::Lower)) {
         return Ok(());
     }
+    if name == b"main".as_slice() && is_in_main_class(scene) {
+        return in_main(scene, said);
+    }
     said.say(&[
         Part::Code(scene.name()),
         Part::Words(" belongs to iters, whose names end in "),
@@ -69,6 +72,27 @@ fn out_of_place(scene: Scene<'_>, said: &mut Said) -> Result<(), AllocError> {
         Part::Plain(name),
         Part::Words("!`, here and where it is called."),
     ])
+}
+
+/// Whether the place is in the class MAIN.
+fn is_in_main_class(scene: Scene<'_>) -> bool {
+    match scene.table.class_at(scene.pos) {
+        Some(class) => class.name.name.as_slice() == b"MAIN".as_slice(),
+        None => false,
+    }
+}
+
+/// `yield` and `quit` in the routine at which a program begins.
+fn in_main(scene: Scene<'_>, said: &mut Said) -> Result<(), AllocError> {
+    said.say(&[
+        Part::Code(scene.name()),
+        Part::Words(" belongs to iters, and `main` is the routine at which a program begins."),
+    ])?;
+    said.say_words(if scene.tokens.is_word(scene.at, Word::Quit) {
+        "To leave a loop write `break!`, and to leave `main` write `return`."
+    } else {
+        "Write an iter, as `numbers!:INT is .. end;`, and call it in a loop of `main`."
+    })
 }
 
 fn in_protect(scene: Scene<'_>, said: &mut Said) -> Result<(), AllocError> {

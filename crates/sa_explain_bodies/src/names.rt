@@ -1,11 +1,14 @@
 //! Names: those that nothing has (E30), those that are private (E34), the variable of a typecase (E42), names that are declared twice (E43),
 //! and what a bind leaves open (E45).
 
+use crate::calls::begins_list;
 use crate::operators::unknown_operator;
 use crate::values::{
     Declared, class_named_at, declared_before, declares, is_in_force, receiver_before,
 };
-use sa_explain_scene::{Part, Quality, Said, Scene, count_in, feature_near};
+use sa_explain_scene::{
+    Helper, Part, Quality, Said, Scene, count_in, feature_near, library_helper,
+};
 use sa_lex::{Sign, TokenKind, Word};
 use sa_tree::{NoMemory, Rule};
 use std::alloc::AllocError;
@@ -123,8 +126,28 @@ fn unknown_feature(scene: Scene<'_>, said: &mut Said) -> Result<(), AllocError> 
                 " is known here: no variable that is declared above, and no feature of the class.",
             ),
         ])?;
+        if compares_for_value(scene) {
+            return declared_so(scene.name(), said);
+        }
     }
     what_is_meant(scene, said)
+}
+
+/// Whether a statement begins with the name, and `=` follows.
+fn compares_for_value(scene: Scene<'_>) -> bool {
+    begins_list(scene.tokens.kind_back(scene.at, 1))
+        && scene
+            .tokens
+            .is_sign(scene.at.saturating_add(1), Sign::Equal)
+}
+
+/// How a variable gets its value where it is declared.
+fn declared_so(name: &[u8], said: &mut Said) -> Result<(), AllocError> {
+    said.say(&[
+        Part::Words("`=` compares two values: to declare a variable write `"),
+        Part::Plain(name),
+        Part::Words(" ::= ..`."),
+    ])
 }
 
 /// Whether `[` follows the name or its arguments: then the index may be what isn't there.
@@ -269,10 +292,38 @@ fn what_is_meant(scene: Scene<'_>, said: &mut Said) -> Result<(), AllocError> {
     if let Some(remedy) = known_elsewhere(name) {
         return said.say_words(remedy);
     }
+    if let Some(helper) = library_helper(name)
+        && may_be(receiver_before(scene, scene.at.saturating_sub(1)), helper)
+    {
+        return the_library_has(helper, name, said);
+    }
     if let Some(near) = feature_near(scene, name)? {
         return did_you_mean(near, said);
     }
     said.say_words("See how the name is written where it is declared.")
+}
+
+/// Whether a routine of the library takes what is called on, as far as its class is known.
+fn may_be(receiver: Option<&[u8]>, helper: Helper) -> bool {
+    match receiver {
+        Some(class) => class == helper.of.as_bytes(),
+        None => true,
+    }
+}
+
+/// Says which class of the library has a routine or an iter of this name, and in which file it is.
+fn the_library_has<'a>(helper: Helper, name: &'a [u8], said: &mut Said) -> Result<(), AllocError> {
+    said.say(&[
+        Part::Words("The library has it as `"),
+        Part::Words(helper.ty),
+        Part::Words("::"),
+        Part::Plain(name),
+        Part::Words("`, whose first argument is of type "),
+        Part::Words(helper.of),
+        Part::Words(": `sather lib "),
+        Part::Words(helper.file),
+        Part::Words("` prints the file."),
+    ])
 }
 
 /// Says that there is an iter of this name, or a routine, and whether there is.
@@ -316,6 +367,13 @@ fn known_elsewhere(name: &[u8]) -> Option<&'static str> {
         b"this" => "The object itself is `self` here.",
         b"not" => "\"Not\" is `~` here.",
         b"length" | b"len" | b"count" => "How many there are is `size` here.",
+        b"is_empty" => "Whether it is empty is asked by `x.size = 0`.",
+        b"flt" | b"fltd" =>
+            "There are whole numbers alone; FIXED of the library is made of one by `#FIXED(i)`.",
+        b"upper" | b"lower" =>
+            "The library has it in CHARS for a CHAR and in TEXT for a STR, as `TEXT::upper(s)`: `sather lib text` prints the file.",
+        b"square" => "A square is `x * x`.",
+        b"push" => "What grows by `push` is an FLIST, as `FLIST{INT}`.",
         b"append" | b"add" => "To put something at the end of an FLIST is `push` here.",
         b"break" => "To leave a loop is `break!` here.",
         b"continue" => "There is no `continue`: put the rest of the loop into an `if`.",
@@ -354,9 +412,17 @@ fn private_feature(scene: Scene<'_>, said: &mut Said) -> Result<(), AllocError> 
         Part::Code(name),
         Part::Words(" is private: the code of its own class alone sees it."),
     ])?;
-    said.say_words(
-        "Call it inside its class, or write `readonly` in place of `private`, which lets others read it.",
-    )
+    said.say_words(if is_held(scene, name) {
+        "Call it inside its class, or write `readonly` in place of `private`, which lets others read it."
+    } else {
+        "Call it inside its class, or take the word `private` away there."
+    })
+}
+
+/// Whether each private feature of this name is an attribute or a shared, which may be `readonly`.
+fn is_held(scene: Scene<'_>, name: &[u8]) -> bool {
+    scene.table.count(name, Quality::Private) > 0
+        && scene.table.count(name, Quality::PrivateCode) == 0
 }
 
 /// A variable that is declared where one of its name is known.

@@ -1,7 +1,8 @@
 //! Operators whose operands lack the routine that they call (E30), or have none that fits (E31).
 
+use crate::calls::begins_list;
 use crate::values::{operand_before, value_at};
-use sa_explain_scene::{Part, Said, Scene, Tokens};
+use sa_explain_scene::{Part, Said, Scene, Tokens, is_closing, is_opening};
 use sa_lex::{Sign, TokenKind, Word};
 use std::alloc::AllocError;
 
@@ -42,6 +43,12 @@ pub(crate) fn unknown_operator(
     sign: Sign,
     said: &mut Said,
 ) -> Result<(), AllocError> {
+    if takes_output(scene, sign) {
+        return behind_output(scene, said);
+    }
+    if compares_void(scene) {
+        return about_void(scene, sign, said);
+    }
     if let Some(sentence) = called_in_turn(sign) {
         said.say_words(sentence)?;
         return said.say_words(equality_or(sign));
@@ -54,6 +61,106 @@ pub(crate) fn unknown_operator(
     };
     lacks(scene, name.as_bytes(), said)?;
     said.say_words(equality_or(sign))
+}
+
+/// An operator whose left operand is all that the statement has from its `#OUT` on.
+fn behind_output(scene: Scene<'_>, said: &mut Said) -> Result<(), AllocError> {
+    said.say(&[
+        Part::Code(scene.name()),
+        Part::Words(" has all that stands before it, from `#OUT` on, on its left."),
+    ])?;
+    said.say_words("Put what is computed or compared in parentheses, as `#OUT + (a - b)`.")
+}
+
+/// Says how `void` is asked for, where `=` or `/=` has no type for it.
+pub(crate) fn comparison_with_void(scene: Scene<'_>, said: &mut Said) -> Result<(), AllocError> {
+    match scene.tokens.kind(scene.at) {
+        Some(TokenKind::Sign(sign)) if compares_void(scene) => about_void(scene, *sign, said),
+        _ => Ok(()),
+    }
+}
+
+/// Whether `=` or `/=` stands at the place, and `void` alone is one of its operands.
+fn compares_void(scene: Scene<'_>) -> bool {
+    let tokens = scene.tokens;
+    let next = scene.at.saturating_add(1);
+    let is_comparison = tokens.is_sign(scene.at, Sign::Equal)
+        || tokens.is_sign(scene.at, Sign::NotEqual);
+    let is_right = tokens.is_word(next, Word::Void)
+        && !tokens.is_sign(next.saturating_add(1), Sign::LeftParen);
+    is_comparison && (is_right || tokens.is_word_back(scene.at, 1, Word::Void))
+}
+
+/// `x = void`
+fn about_void(scene: Scene<'_>, sign: Sign, said: &mut Said) -> Result<(), AllocError> {
+    said.say(&[
+        Part::Code(scene.name()),
+        Part::Words(
+            " compares two values, and `void` is none: whether `x` is void is asked by `void(x)`.",
+        ),
+    ])?;
+    said.say_words(if sign == Sign::NotEqual {
+        "Write `~void(x)`."
+    } else {
+        "Write `void(x)`."
+    })
+}
+
+/// Whether the left operand of a sign is what the statement has from its `#OUT` on.
+fn takes_output(scene: Scene<'_>, sign: Sign) -> bool {
+    let is_loose = matches!(
+        sign,
+        Sign::Minus
+            | Sign::Equal
+            | Sign::NotEqual
+            | Sign::Less
+            | Sign::LessEqual
+            | Sign::Greater
+            | Sign::GreaterEqual
+    );
+    is_loose && !is_prefix(scene.tokens, scene.at) && follows_output(scene.tokens, scene.at)
+}
+
+/// Whether the statement of a token begins by `#OUT`, and no bracket is open at the token.
+fn follows_output(tokens: Tokens<'_>, at: usize) -> bool {
+    let mut depth = 0usize;
+    for back in 0..at {
+        let place = at - 1 - back;
+        let kind = tokens.kind(place);
+        if is_closing(kind) {
+            depth = depth.saturating_add(1);
+        } else if is_opening(kind) {
+            if depth == 0 {
+                return false;
+            }
+            depth -= 1;
+        } else if depth == 0 && begins_list(kind) {
+            let first = place.saturating_add(1);
+            return tokens.is_sign(first, Sign::Hash)
+                && tokens.spells(first.saturating_add(1), "OUT");
+        } else if depth == 0 && parts_operands(kind) {
+            return false;
+        }
+    }
+    false
+}
+
+/// Whether what stands behind the token is an operand of its own in a sum or a comparison.
+fn parts_operands(kind: Option<&TokenKind>) -> bool {
+    matches!(
+        kind,
+        Some(
+            TokenKind::Sign(
+                Sign::Equal
+                    | Sign::NotEqual
+                    | Sign::Less
+                    | Sign::LessEqual
+                    | Sign::Greater
+                    | Sign::GreaterEqual
+                    | Sign::Bar
+            ) | TokenKind::Word(Word::And | Word::Or)
+        )
+    )
 }
 
 /// What to do where an operator has no routine.
@@ -114,6 +221,9 @@ pub(crate) fn operator_without_fit(
     sign: Sign,
     said: &mut Said,
 ) -> Result<(), AllocError> {
+    if takes_output(scene, sign) {
+        return behind_output(scene, said);
+    }
     if is_prefix(scene.tokens, scene.at) {
         return Ok(());
     }

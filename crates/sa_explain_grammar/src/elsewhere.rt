@@ -112,6 +112,7 @@ fn statement_here(word: &[u8]) -> Option<&'static str> {
         b"print" | b"println" | b"printf" | b"puts" => "Write `#OUT + x;`.",
         b"elseif" | b"elif" | b"elsewhen" => "Write `elsif`.",
         b"otherwise" | b"default" => "Write `else`.",
+        b"begin" => "Take it away: `is`, `then` and `loop` begin what an `end` closes.",
         b"not" => "Write `~` for \"not\".",
         b"import" | b"using" => "Name the files of a program one after the other in the command.",
         _ => return None,

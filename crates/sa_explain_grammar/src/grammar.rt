@@ -2,6 +2,7 @@
 
 use crate::around::open_around;
 use crate::elsewhere::{doubled, foreign};
+use crate::slips::slip;
 use sa_explain_scene::{Part, Said, Scene, Span, opened_before};
 use sa_lex::{Sign, TokenKind, Word};
 use sa_tree::NoMemory;
@@ -17,6 +18,9 @@ pub fn unexpected(scene: Scene<'_>, said: &mut Said) -> Result<(), NoMemory> {
     near_by(scene, said)?;
     if said.is_silent() {
         foreign(scene, said)?;
+    }
+    if said.is_silent() {
+        slip(scene, said)?;
     }
     if said.is_silent() {
         open_around(scene, &opened, said)?;

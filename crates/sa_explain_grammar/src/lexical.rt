@@ -16,12 +16,29 @@ pub fn about_bytes(text: &[u8], refusal: Refusal, said: &mut Said) -> Result<(),
     let at = refusal.pos.at as usize;
     let behind = if at <= text.len() { &text[at..] } else { text };
     match refusal.rule {
+        Rule::BadByte if is_behind_type(text, at) => sign(
+            said,
+            1,
+            "A `!` stands directly behind the name of an iter, and behind no type.",
+            "Write `once` before the arguments that are evaluated once, and nothing at the others.",
+        ),
         Rule::BadByte => about_byte(behind, said),
         Rule::LiteralNotEnded => about_literal(behind, said),
         Rule::NumberTooLarge | Rule::NumberForm => about_number(behind, said),
         Rule::UnknownEscape => about_escape(behind, said),
         _ => Ok(()),
     }
+}
+
+/// Whether a `!` stands at a place of a text, directly behind what may be a type.
+fn is_behind_type(text: &[u8], at: usize) -> bool {
+    let before = match at.checked_sub(1) {
+        Some(before) => text.get(before),
+        None => None,
+    };
+    text.get(at) == Some(&b'!')
+        && text.get(at.saturating_add(1)) != Some(&b'=')
+        && matches!(before, Some(byte) if byte.is_ascii_uppercase() || *byte == b'}')
 }
 
 /// Signs of other languages and of word processors.
@@ -181,7 +198,7 @@ fn about_number(behind: &[u8], said: &mut Said) -> Result<(), AllocError> {
             Part::Words(" has a fraction, and there are whole numbers alone: no FLT."),
         ])?;
         return said.say_words(
-            "Count the parts, as tenths in an INT, and put the point in where it is printed.",
+            "Count the parts, as tenths in an INT, or take FIXED of the library: `sather lib fixed > fixed.sa`.",
         );
     }
     Ok(())
@@ -195,12 +212,14 @@ fn number_len(bytes: &[u8]) -> usize {
         .count()
 }
 
-/// Whether a point stands among digits, and the number is a decimal one.
+/// Whether a point stands behind the digits at the front, and a digit behind it.
 fn has_fraction(spelled: &[u8]) -> bool {
-    spelled.contains(&b'.')
-        && spelled
-            .iter()
-            .all(|byte| byte.is_ascii_digit() || *byte == b'.')
+    let digits = spelled
+        .iter()
+        .take_while(|byte| byte.is_ascii_digit() || **byte == b'_')
+        .count();
+    let behind = spelled.get(digits.saturating_add(1));
+    spelled.get(digits) == Some(&b'.') && matches!(behind, Some(byte) if byte.is_ascii_digit())
 }
 
 fn about_escape(behind: &[u8], said: &mut Said) -> Result<(), AllocError> {

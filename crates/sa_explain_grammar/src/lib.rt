@@ -5,6 +5,7 @@ mod around;
 mod elsewhere;
 mod grammar;
 mod lexical;
+mod slips;
 
 pub use grammar::unexpected;
 pub use lexical::about_bytes;

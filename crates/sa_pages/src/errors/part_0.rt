@@ -107,8 +107,9 @@ modules that are made use integers alone.
        end;
     end;
 
-gives `f.sa:3: E04: number form not taken`. Count the parts, and put the point
-in when it is printed:
+gives `f.sa:3: E04: number form not taken`. FIXED of the library has four
+digits behind the point. Or count the parts, and put the point in when it is
+printed:
 
     class MAIN is
        main is

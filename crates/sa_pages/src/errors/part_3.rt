@@ -148,7 +148,8 @@ const E30: &str = r#"E30: unknown name
 
 Nothing has this name: no variable that is declared further up in this list of
 statements or around it, and no feature of the class on which it is called.
-Often it is mistyped:
+What CHAR, STR, INT and ARRAY lack is in classes of the library, as
+`TEXT::upper(s)`; `sather lib` lists them. Often it is mistyped:
 
     class MAIN is
        main is
