@@ -1,8 +1,8 @@
 //! Classes and their headers: E08, E10, E12, E13, E19, E24; and their features: E11, E16, E20, E22.
 
+use crate::library::library_file;
 use sa_explain_scene::{
-    Part, Quality, Said, Scene, class_near, count_in, feature_in, feature_near, library_file,
-    plain_name,
+    Part, Quality, Said, Scene, class_near, count_in, feature_in, feature_near, plain_name,
 };
 use sa_lex::{Sign, TokenKind};
 use sa_tree::{Class, Feature, Kind, NoMemory, Part as FeaturePart, Rule, Ty};

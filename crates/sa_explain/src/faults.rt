@@ -105,7 +105,8 @@ fn in_create(scene: Scene<'_>, said: &mut Said) -> Result<(), AllocError> {
     let is_own = tokens.is_sign(scene.at, Sign::Assign)
         && tokens.is_lower(target)
         && !tokens.is_sign_back(target, 1, Sign::Dot);
-    if !is_own || scene.feature_name() != Some(b"create".as_slice()) {
+    let is_create = matches!(scene.feature_name(), Some(name) if name == b"create".as_slice());
+    if !is_own || !is_create {
         return Ok(());
     }
     said.say_words(

@@ -6,6 +6,7 @@ mod classes;
 mod explain;
 mod faults;
 mod general;
+mod library;
 mod ways;
 
 pub use explain::{explain_fault, explain_refusals};

@@ -4,6 +4,7 @@
 mod body;
 mod calls;
 mod iters;
+mod library;
 mod names;
 mod operators;
 mod typing;

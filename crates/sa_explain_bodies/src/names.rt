@@ -2,15 +2,14 @@
 //! and what a bind leaves open (E45).
 
 use crate::calls::begins_list;
+use crate::library::{Helper, library_helper};
 use crate::operators::unknown_operator;
 use crate::values::{
     Declared, class_named_at, declared_before, declares, is_in_force, receiver_before,
 };
-use sa_explain_scene::{
-    Helper, Part, Quality, Said, Scene, count_in, feature_near, library_helper,
-};
+use sa_explain_scene::{Part, Quality, Said, Scene, count_in, feature_near};
 use sa_lex::{Sign, TokenKind, Word};
-use sa_tree::{NoMemory, Rule};
+use sa_tree::{Access, Class, NoMemory, Part as FeaturePart, Rule};
 use std::alloc::AllocError;
 
 /// Says what has no feature of the name at the place, and which name is near.
@@ -422,7 +421,20 @@ fn private_feature(scene: Scene<'_>, said: &mut Said) -> Result<(), AllocError> 
 /// Whether each private feature of this name is an attribute or a shared, which may be `readonly`.
 fn is_held(scene: Scene<'_>, name: &[u8]) -> bool {
     scene.table.count(name, Quality::Private) > 0
-        && scene.table.count(name, Quality::PrivateCode) == 0
+        && !scene
+            .table
+            .classes
+            .iter()
+            .any(|class| hides_code(class, name))
+}
+
+/// Whether a class has a private feature of this name that can't be written.
+fn hides_code(class: &Class, name: &[u8]) -> bool {
+    class.features.as_slice().iter().any(|feature| {
+        feature.name.name.as_slice() == name
+            && feature.access == Access::Private
+            && !matches!(feature.part, FeaturePart::Attr | FeaturePart::Shared(_))
+    })
 }
 
 /// A variable that is declared where one of its name is known.

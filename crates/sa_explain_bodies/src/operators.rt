@@ -133,7 +133,7 @@ fn follows_output(tokens: Tokens<'_>, at: usize) -> bool {
             if depth == 0 {
                 return false;
             }
-            depth -= 1;
+            depth = depth.saturating_sub(1);
         } else if depth == 0 && begins_list(kind) {
             let first = place.saturating_add(1);
             return tokens.is_sign(first, Sign::Hash)

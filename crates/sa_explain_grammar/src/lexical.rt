@@ -36,8 +36,9 @@ fn is_behind_type(text: &[u8], at: usize) -> bool {
         Some(before) => text.get(before),
         None => None,
     };
+    let behind = text.get(at.saturating_add(1));
     text.get(at) == Some(&b'!')
-        && text.get(at.saturating_add(1)) != Some(&b'=')
+        && !matches!(behind, Some(byte) if *byte == b'=')
         && matches!(before, Some(byte) if byte.is_ascii_uppercase() || *byte == b'}')
 }
 

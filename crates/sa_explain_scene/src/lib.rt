@@ -2,7 +2,6 @@
 //! the program, names near by; sentences, and the line with the place marked.
 #![tactic(auto)]
 
-mod library;
 mod line;
 mod near;
 mod opened;
@@ -11,7 +10,6 @@ mod scene;
 mod table;
 mod tokens;
 
-pub use library::{Helper, library_file, library_helper};
 pub use line::put_marked;
 pub use near::{class_near, feature_near};
 pub use opened::{Closed, Open, Opened, last_else_if, opened_before};

@@ -16,8 +16,6 @@ pub enum Quality {
     ReadOnly,
     /// Its class alone sees it.
     Private,
-    /// Its class alone sees it, and it can't be written.
-    PrivateCode,
 }
 
 /// The classes of a program, the prelude's first, and its texts. Where the texts have no grammar there are no classes.
@@ -176,7 +174,6 @@ fn is_of(feature: &Feature, quality: Quality) -> bool {
         }
         Quality::ReadOnly => feature.access == Access::ReadOnly,
         Quality::Private => feature.access == Access::Private,
-        Quality::PrivateCode => feature.access == Access::Private && !is_written(feature),
     }
 }
 

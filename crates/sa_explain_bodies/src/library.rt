@@ -1,28 +1,8 @@
-//! What of lib/ there is for a name that the program lacks.
-
-/// The file of lib/ that has a class of this name, without its `.sa`.
-pub fn library_file(class: &[u8]) -> Option<&'static str> {
-    Some(match class {
-        b"ARRAY2" => "array2",
-        b"FIXED" => "fixed",
-        b"FMAP" | b"FSET" | b"HASHES" | b"$HASH" => "fmap",
-        b"FSTR" => "fstr",
-        b"IN_LINES" => "in_lines",
-        b"INTI" => "inti",
-        b"INTS" | b"BITS" => "ints",
-        b"LIST" | b"EQUAL" => "list",
-        b"STACK" | b"QUEUE" | b"PRIORITY_QUEUE" => "queue",
-        b"RND" => "rnd",
-        b"SORT" | b"SORT_BY" | b"$IS_LT" => "sort",
-        b"CHARS" | b"TEXT" => "text",
-        b"TUP" | b"TUP3" => "tup",
-        _ => return None,
-    })
-}
+//! What of lib/ there is for a routine or an iter that a class of the prelude lacks.
 
 /// What of lib/ takes a value of a class of the prelude as its first argument.
 #[derive(Clone, Copy)]
-pub struct Helper {
+pub(crate) struct Helper {
     /// The type whose routines and iters these are, as it stands before `::`.
     pub ty: &'static str,
     /// Its file, without the `.sa`.
@@ -32,7 +12,7 @@ pub struct Helper {
 }
 
 /// The class of lib/ that has a routine or an iter of this name for the values of a class of the prelude, which lacks it.
-pub fn library_helper(feature: &[u8]) -> Option<Helper> {
+pub(crate) fn library_helper(feature: &[u8]) -> Option<Helper> {
     match feature {
         b"is_alpha"
         | b"is_digit"
