@@ -4,7 +4,7 @@
 mod body;
 mod calls;
 mod iters;
-mod library;
+mod meant;
 mod names;
 mod operators;
 mod typing;

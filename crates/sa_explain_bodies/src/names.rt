@@ -2,7 +2,7 @@
 //! and what a bind leaves open (E45).
 
 use crate::calls::begins_list;
-use crate::library::{Helper, library_helper};
+use crate::meant::{Helper, known_elsewhere, library_helper};
 use crate::operators::unknown_operator;
 use crate::values::{
     Declared, class_named_at, declared_before, declares, is_in_force, receiver_before,
@@ -354,35 +354,6 @@ fn there_is_iter(name: &[u8], said: &mut Said) -> Result<(), AllocError> {
         Part::Code(name),
         Part::Words(", in a loop."),
     ])
-}
-
-/// What to write for a name of another language.
-fn known_elsewhere(name: &[u8]) -> Option<&'static str> {
-    Some(match name {
-        b"print" | b"println" | b"printf" | b"puts" | b"write" | b"writeln" | b"echo" => {
-            "To print a value write `#OUT + x`."
-        }
-        b"null" | b"nil" | b"none" => "No object is `void` here, and `void(x)` asks for it.",
-        b"this" => "The object itself is `self` here.",
-        b"not" => "\"Not\" is `~` here.",
-        b"length" | b"len" | b"count" => "How many there are is `size` here.",
-        b"is_empty" => "Whether it is empty is asked by `x.size = 0`.",
-        b"flt" | b"fltd" =>
-            "There are whole numbers alone; FIXED of the library is made of one by `#FIXED(i)`.",
-        b"upper" | b"lower" =>
-            "The library has it in CHARS for a CHAR and in TEXT for a STR, as `TEXT::upper(s)`: `sather lib text` prints the file.",
-        b"square" => "A square is `x * x`.",
-        b"push" => "What grows by `push` is an FLIST, as `FLIST{INT}`.",
-        b"append" | b"add" => "To put something at the end of an FLIST is `push` here.",
-        b"break" => "To leave a loop is `break!` here.",
-        b"continue" => "There is no `continue`: put the rest of the loop into an `if`.",
-        b"while" => "To go on while something holds is `while!(..)`, inside a loop.",
-        b"until" => "To go on until something holds is `until!(..)`, inside a loop.",
-        b"super" | b"base" =>
-            "An included feature gets another name, as `include C f->old_f`, and is called by that.",
-        b"to_string" | b"toString" => "The text of a value is `str` here.",
-        _ => return None,
-    })
 }
 
 /// Says what is known of a name beside its rule.
