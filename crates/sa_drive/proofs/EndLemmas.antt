@@ -8,7 +8,7 @@ use Rattle.sa_tree.specs.declared.pos.Sources.{Sources}
 use Rattle.sa_read.specs.Front.{IsTakenUpTo}
 use Rattle.sa_read.specs.Program.{IsReadAs}
 use Rattle.sa_read.specs.declared.program.Program.{Program}
-use Rattle.sa_statement.specs.Runnable.{SpellsRunnable}
+use Rattle.sa_statement.specs.Runnable.{HasRoom, SpellsRunnable}
 use Rattle.wa_syntax.specs.Binary.{SpellsModule}
 use Rattle.sa_words.specs.Line.{Check}
 use Rattle.sa_words.specs.declared.command.Contracts.{Contracts}
@@ -76,14 +76,23 @@ pub taken_of : {X : Type 0} (files : Option Files) (failed : Type 0) (names : Li
 taken_of files failed names made value sources told is match same =
     rw same (of_ok (IsTakenProgram files names sources) (ComesOfFiles files failed names sources) made value is match)
 
--- the bytes of a module that was tried spell one that can be run
-pub spells_of : (made : Result Built Cause) (built : Built) (bytes : List ℕ) → made ≡ Ok built → IfOk made IsTried → bytes ≡ built.bytes.items → SpellsRunnable bytes
-spells_of made built bytes is tried same =
-    let it : IsTried built = subst (λ (made : Result Built Cause). IfOk made IsTried) is tried in
+-- what is said of a module that is made, where it is
+pub made_is : (made : Result Built Cause) (built : Built) (Is : Built → Type 0) → made ≡ Ok built → IfOk made Is → Is built
+made_is made built Is is each = subst (λ (made : Result Built Cause). IfOk made Is) is each
+
+-- the module that is made has this room
+pub room_of : (made : Result Built Cause) (built : Built) (room : ℕ) → made ≡ Ok built → IfOk made (λ built. HasRoom room built.«module») → HasRoom room built.«module»
+room_of made built room is each = made_is made built (λ built. HasRoom room built.«module») is each
+
+-- the bytes of a module that was tried spell one that can be run and has this room
+pub spells_of : (made : Result Built Cause) (built : Built) (bytes : List ℕ) (room : ℕ) → made ≡ Ok built → IfOk made IsTried → IfOk made (λ built. HasRoom room built.«module») → bytes ≡ built.bytes.items → SpellsRunnable room bytes
+spells_of made built bytes room is tried roomy same =
+    let it : IsTried built = made_is made built IsTried is tried in
     record {
       «module» = built.«module»;
       spelled = subst (λ (told : List ℕ). SpellsModule told built.«module») (sym same) it.spelled;
       runnable = it.runnable;
+      roomy = room_of made built room is roomy;
     }
 
 -- the files give no module, and this outcome says why

@@ -13,6 +13,7 @@ use Rattle.wa_run.specs.declared.answer.Answer.{Answer}
 use Rattle.wa_run.specs.declared.answer.Answer.TheVariants as answer
 use Rattle.wa_run.specs.declared.module_run.Run.{Run}
 use Rattle.wa_run.proofs.Spelled.{run-spelled}
+use Rattle.sa_statement.specs.Runnable.{HasRoom}
 use Rattle.sa_words.specs.Line.{Line}
 use Rattle.std.specs.Prelude.{Option, None}
 use Rattle.sa_drive.specs.Answer.{DoesNothing, Obeys, empty_input, own_sink}
@@ -31,8 +32,8 @@ abbrev pub sure : {T : Type 0} → T → T → Part T
 sure old new = record { before = Some old; after = Some new; faults_before = 0; faults_after = 0 }
 
 -- the texts of the outcome are these
-pub ran_of : (input : Part Input) (out : Part (List ℕ)) (fuel : ℕ) (sources : Sources) (outcome : Outcome) → outcome.sources ≡ sources → RanBuilt input out fuel (IsOfModule sources) outcome → RanBuilt input out fuel (IsOfModule outcome.sources) outcome
-ran_of input out fuel sources outcome same ran = subst (λ told. RanBuilt input out fuel (IsOfModule told) outcome) (sym same) ran
+pub ran_of : (input : Part Input) (out : Part (List ℕ)) (room fuel : ℕ) (sources : Sources) (outcome : Outcome) → outcome.sources ≡ sources → RanBuilt input out room fuel (IsOfModule sources) outcome → RanBuilt input out room fuel (IsOfModule outcome.sources) outcome
+ran_of input out room fuel sources outcome same ran = subst (λ told. RanBuilt input out room fuel (IsOfModule told) outcome) (sym same) ran
 
 -- what ended so shows of the run
 shows_of : (IsCause : Cause → Cause → Type 0) (fuel : ℕ) (ended : Ended) (run : Run) (outcome : Outcome) → ended ≡ ended_of fuel run → IsCause ended.cause outcome.cause → outcome.done ≡ ended.done → ((steps : ℕ) → outcome.steps ≡ Some steps → steps ≡ ended.steps) → Shows fuel IsCause outcome run
@@ -75,13 +76,14 @@ run_spelled input out bytes m fuel run spelled valid ran = record {
 }
 
 -- the outcome of a module that was tried, and ended so, is that of the run
-pub shown_built : (input : Part Input) (out : Part (List ℕ)) (IsCause : Cause → Cause → Type 0) (built : Built) (fuel : ℕ) (ended : Ended) (run : Run) (outcome : Outcome) → IsTried built → ended ≡ ended_of fuel run → IsRunOfModule input out built.«module» fuel run → outcome.«module».items ≡ built.bytes.items → IsCause ended.cause outcome.cause → outcome.done ≡ ended.done → ((steps : ℕ) → outcome.steps ≡ Some steps → steps ≡ ended.steps) → RanBuilt input out fuel IsCause outcome
-shown_built input out IsCause built fuel ended run outcome tried is ran same cause done steps =
+pub shown_built : (input : Part Input) (out : Part (List ℕ)) (IsCause : Cause → Cause → Type 0) (built : Built) (fuel : ℕ) (ended : Ended) (run : Run) (outcome : Outcome) → IsTried built → ended ≡ ended_of fuel run → IsRunOfModule input out built.«module» fuel run → outcome.«module».items ≡ built.bytes.items → IsCause ended.cause outcome.cause → outcome.done ≡ ended.done → ((steps : ℕ) → outcome.steps ≡ Some steps → steps ≡ ended.steps) → (room : ℕ) → HasRoom room built.«module» → RanBuilt input out room fuel IsCause outcome
+shown_built input out IsCause built fuel ended run outcome tried is ran same cause done steps room roomy =
     let spelled : SpellsModule outcome.«module».items built.«module» = rw same tried.spelled in
     record {
       built = built.«module»;
       spelled = spelled;
       runnable = tried.runnable;
+      roomy = roomy;
       run = run;
       of_module = ran;
       of_bytes = run_spelled input out outcome.«module».items built.«module» fuel run spelled tried.runnable.valid ran;
@@ -89,8 +91,8 @@ shown_built input out IsCause built fuel ended run outcome tried is ran same cau
     }
 
 -- the outcome of a traced module that was tried is that of its run
-pub traced : (input : Part Input) (out err : Part (List ℕ)) (IsCause : Cause → Cause → Type 0) (built : Built) (sources : Sources) (sites : List Pos) (fuel : ℕ) (run : Run) (framed : List ℕ) (outcome : Outcome) → IsTried built → IsRunOfModule input (framed_output out framed) built.«module» fuel run → AreTold sites sources framed (sinks_of out err outcome.listening) run.answer → outcome.sources ≡ sources → outcome.«module».items ≡ built.bytes.items → IsCause (cause_of fuel run.answer) outcome.cause → outcome.done ≡ done_of run.answer → ((steps : ℕ) → outcome.steps ≡ Some steps → steps ≡ run.steps) → RanTraced input out err fuel IsCause outcome
-traced input out err IsCause built sources sites fuel run framed outcome tried ran told same_sources same cause done steps =
+pub traced : (input : Part Input) (out err : Part (List ℕ)) (IsCause : Cause → Cause → Type 0) (built : Built) (sources : Sources) (sites : List Pos) (fuel : ℕ) (run : Run) (framed : List ℕ) (outcome : Outcome) → IsTried built → IsRunOfModule input (framed_output out framed) built.«module» fuel run → AreTold sites sources framed (sinks_of out err outcome.listening) run.answer → outcome.sources ≡ sources → outcome.«module».items ≡ built.bytes.items → IsCause (cause_of fuel run.answer) outcome.cause → outcome.done ≡ done_of run.answer → ((steps : ℕ) → outcome.steps ≡ Some steps → steps ≡ run.steps) → (room : ℕ) → HasRoom room built.«module» → RanTraced input out err room fuel IsCause outcome
+traced input out err IsCause built sources sites fuel run framed outcome tried ran told same_sources same cause done steps room roomy =
     let spelled : SpellsModule outcome.«module».items built.«module» = rw same tried.spelled in
     record {
       framed = framed;
@@ -98,6 +100,7 @@ traced input out err IsCause built sources sites fuel run framed outcome tried r
         built = built.«module»;
         spelled = spelled;
         runnable = tried.runnable;
+        roomy = roomy;
         run = run;
         of_module = ran;
         of_bytes = run_spelled input (framed_output out framed) outcome.«module».items built.«module» fuel run spelled tried.runnable.valid ran;
@@ -108,15 +111,15 @@ traced input out err IsCause built sources sites fuel run framed outcome tried r
     }
 
 -- the texts of the outcome are these
-pub traced_of : (input : Part Input) (out err : Part (List ℕ)) (fuel : ℕ) (sources : Sources) (outcome : Outcome) → outcome.sources ≡ sources → RanTraced input out err fuel (IsOfModule sources) outcome → RanTraced input out err fuel (IsOfModule outcome.sources) outcome
-traced_of input out err fuel sources outcome same ran = subst (λ told. RanTraced input out err fuel (IsOfModule told) outcome) (sym same) ran
+pub traced_of : (input : Part Input) (out err : Part (List ℕ)) (room fuel : ℕ) (sources : Sources) (outcome : Outcome) → outcome.sources ≡ sources → RanTraced input out err room fuel (IsOfModule sources) outcome → RanTraced input out err room fuel (IsOfModule outcome.sources) outcome
+traced_of input out err room fuel sources outcome same ran = subst (λ told. RanTraced input out err room fuel (IsOfModule told) outcome) (sym same) ran
 
 -- a run with an input of no bytes and a sink of its own, of the texts of a report
-pub apart : (sources told : Sources) (fuel : ℕ) (given left : Input) (had output : List ℕ) (outcome : Outcome) → told ≡ sources → given ≡ record { left = []; ends = 0 } → had ≡ [] → RanBuilt (sure given left) (sure had output) fuel (IsOfModule sources) outcome → RanBuilt (empty_input left) (own_sink output) fuel (IsOfModule told) outcome
-apart sources told fuel given left had output outcome same empty none ran =
-    subst (λ texts. RanBuilt (empty_input left) (own_sink output) fuel (IsOfModule texts) outcome) (sym same)
-    (subst (λ input. RanBuilt (sure input left) (own_sink output) fuel (IsOfModule sources) outcome) empty
-    (subst (λ taken. RanBuilt (sure given left) (sure taken output) fuel (IsOfModule sources) outcome) none ran))
+pub apart : (sources told : Sources) (room fuel : ℕ) (given left : Input) (had output : List ℕ) (outcome : Outcome) → told ≡ sources → given ≡ record { left = []; ends = 0 } → had ≡ [] → RanBuilt (sure given left) (sure had output) room fuel (IsOfModule sources) outcome → RanBuilt (empty_input left) (own_sink output) room fuel (IsOfModule told) outcome
+apart sources told room fuel given left had output outcome same empty none ran =
+    subst (λ texts. RanBuilt (empty_input left) (own_sink output) room fuel (IsOfModule texts) outcome) (sym same)
+    (subst (λ input. RanBuilt (sure input left) (own_sink output) room fuel (IsOfModule sources) outcome) empty
+    (subst (λ taken. RanBuilt (sure given left) (sure taken output) room fuel (IsOfModule sources) outcome) none ran))
 
 -- where memory runs out before the words are read nothing is done, whatever they are
 pub idle : (outside : Outside) (line : Option Line) (outcome : Outcome) → DoesNothing outside outcome cause.NoMemory → Obeys outside line outcome

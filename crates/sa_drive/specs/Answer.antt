@@ -36,29 +36,29 @@ pub record GivesNone (store : Part Files) (names : List (List ℕ)) (outcome : O
   pub files : IsKept store
 
 -- the module of the program in these files can be run, and was, or there is none
-abbrev pub IsRun : Part Files → Part Input → Part (List ℕ) → ℕ → List (List ℕ) → Outcome → Type 0
-IsRun store input out fuel names outcome =
+abbrev pub IsRun : Part Files → Part Input → Part (List ℕ) → (room fuel : ℕ) → List (List ℕ) → Outcome → Type 0
+IsRun store input out room fuel names outcome =
     (GivesNone store names outcome × IsKept input × IsKept out)
-    ⊎ (IsTakenProgram store.before names outcome.sources × RanBuilt input out fuel (IsOfModule outcome.sources) outcome)
+    ⊎ (IsTakenProgram store.before names outcome.sources × RanBuilt input out room fuel (IsOfModule outcome.sources) outcome)
 
 -- err has taken nothing, and takes the lines of the end
 abbrev pub IsSilent : (err : Part (List ℕ)) → Outcome → Type 0
 IsSilent err outcome = IsUntouched err × (outcome.listening ≡ listening.Yes)
 
 -- the traced module of the program in these files can be run, and was, or there is none
-abbrev pub IsTraced : Outside → ℕ → List (List ℕ) → Outcome → Type 0
-IsTraced outside fuel names outcome =
+abbrev pub IsTraced : Outside → (room fuel : ℕ) → List (List ℕ) → Outcome → Type 0
+IsTraced outside room fuel names outcome =
     (GivesNone outside.store names outcome × IsKept outside.input × IsKept outside.out × IsSilent outside.err outcome)
     ⊎ (IsTakenProgram outside.store.before names outcome.sources
-    × RanTraced outside.input outside.out outside.err fuel (IsOfModule outcome.sources) outcome)
+    × RanTraced outside.input outside.out outside.err room fuel (IsOfModule outcome.sources) outcome)
 
 -- the module of the program in these files can be run, and was written under this name, and then its sites, where they have a file,
 -- as positions in the texts; or there is none, and nothing is written
-abbrev pub IsBuilt : Part Files → List ℕ → (sites : Option (List ℕ)) → List (List ℕ) → Outcome → Type 0
-IsBuilt store name sites names outcome =
+abbrev pub IsBuilt : Part Files → (room : ℕ) → List ℕ → (sites : Option (List ℕ)) → List (List ℕ) → Outcome → Type 0
+IsBuilt store room name sites names outcome =
     GivesNone store names outcome
     ⊎ (IsTakenProgram store.before names outcome.sources
-    × SpellsRunnable outcome.«module».items
+    × SpellsRunnable room outcome.«module».items
     × WritesModule store name outcome.«module».items sites outcome.sources outcome.cause)
 
 -- out took that the program in these files is accepted, or it isn't, and further refusals are told, if all are asked for
@@ -149,13 +149,17 @@ pub record TellsRun (out : Part (List ℕ)) (classes : ℕ) (ran : Outcome) (out
   pub ended : ran.cause ≡ cause.Done → IsPrinted out (selftest_line classes (length output) ran.done) outcome.cause
   pub other : ran.cause ≢ cause.Done → (outcome.cause ≡ ran.cause) × IsKept out
 
+-- the room in KiB of a program for which none is given: 64 MiB
+abbrev pub default_room : ℕ
+default_room = 65536
+
 -- the generated program was run with the greatest fuel, apart from the input and out of the call, and reported
 pub record IsRunApart (out : Part (List ℕ)) (classes : ℕ) (outcome : Outcome) : Type 0 where
   pub taken : IsTakenGenerated classes outcome.sources
   pub ran : Outcome
   pub left : Input
   pub output : List ℕ
-  pub runs : RanBuilt (empty_input left) (own_sink output) (2 ^ 64 - 1) (IsOfModule ran.sources) ran
+  pub runs : RanBuilt (empty_input left) (own_sink output) default_room (2 ^ 64 - 1) (IsOfModule ran.sources) ran
   pub tells : TellsRun out classes ran output outcome
 
 -- the generated program was run, or it has no module
@@ -167,10 +171,10 @@ IsTested out classes outcome =
 -- the command was done, and this came of it
 abbrev pub Does : Outside → Line → Outcome → Type 0
 Does outside (Run fuel room stats contracts tracing.Silent detail names) outcome =
-    IsRun outside.store outside.input outside.out fuel names outcome × IsSilent outside.err outcome
-Does outside (Run fuel room stats contracts tracing.Told detail names) outcome = IsTraced outside fuel names outcome
+    IsRun outside.store outside.input outside.out room fuel names outcome × IsSilent outside.err outcome
+Does outside (Run fuel room stats contracts tracing.Told detail names) outcome = IsTraced outside room fuel names outcome
 Does outside (Build room contracts detail out sites names) outcome =
-    IsBuilt outside.store out sites names outcome × IsSilent outside.err outcome
+    IsBuilt outside.store room out sites names outcome × IsSilent outside.err outcome
 Does outside (Check contracts extent detail names) outcome =
     IsChecked outside.store outside.out extent names outcome × IsSilent outside.err outcome
 Does outside (Exec fuel pages stats detail file) outcome =

@@ -1,7 +1,7 @@
 -- What a command shows of the run of a module.
 use Rattle.std.specs.Prelude.{◌≡◌, ◌≤◌, ℕ, ◌%◌, ◌^◌, List, [], Option, None, Some}
 use Rattle.sa_outside.specs.Input.{Input}
-use Rattle.sa_statement.specs.Runnable.{IsRunnable}
+use Rattle.sa_statement.specs.Runnable.{HasRoom, IsRunnable}
 use Rattle.sa_trace.specs.Handing.{sink}
 use Rattle.sa_trace.specs.declared.sinks.Listening.{Listening}
 use Rattle.sa_trace_run.specs.Traced.{AreTold, Sinks, sinks}
@@ -70,12 +70,14 @@ abbrev pub Ran : Part Input → Part (List ℕ) → (pages : Option ℕ) → (fu
 Ran input out pages fuel IsCause outcome =
     (run : Run) × IsRunBounded input out pages outcome.«module».items fuel run × Shows fuel IsCause outcome run
 
--- the bytes of the outcome spell a module that can be run, it was run with this fuel, and the outcome is that of the run
-pub record RanBuilt (input : Part Input) (out : Part (List ℕ)) (fuel : ℕ)
+-- the bytes of the outcome spell a module that can be run and has this room, in KiB; it was run with this fuel, and the outcome is that
+-- of the run
+pub record RanBuilt (input : Part Input) (out : Part (List ℕ)) (room fuel : ℕ)
     (IsCause : (of_module : Cause) → (told : Cause) → Type 0) (outcome : Outcome) : Type 0 where
   pub built : Module
   pub spelled : SpellsModule outcome.«module».items built
   pub runnable : IsRunnable built
+  pub roomy : HasRoom room built
   pub run : Run
   pub of_module : IsRunOfModule input out built fuel run
   pub of_bytes : IsRunOf input out outcome.«module».items fuel run
@@ -94,9 +96,9 @@ sinks_of out err listening =
 
 -- the module of the outcome, a traced one, was run so: the bytes of its output are frames, where the sites of the program have these
 -- positions, and out and err took what the frames say
-pub record RanTraced (input : Part Input) (out err : Part (List ℕ)) (fuel : ℕ)
+pub record RanTraced (input : Part Input) (out err : Part (List ℕ)) (room fuel : ℕ)
     (IsCause : (of_module : Cause) → (told : Cause) → Type 0) (outcome : Outcome) : Type 0 where
   pub framed : List ℕ
-  pub ran : RanBuilt input (framed_output out framed) fuel IsCause outcome
+  pub ran : RanBuilt input (framed_output out framed) room fuel IsCause outcome
   pub sites : List Pos
   pub told : AreTold sites outcome.sources framed (sinks_of out err outcome.listening) ran.run.answer

@@ -20,7 +20,7 @@ use std::alloc::Global;
 
 /// Compiles the program and writes its module, and then the positions of its faults, where they have a file.
 pub fn build<'a, S: WriteFiles>(alloc: Global, line: &Build<'a>, store: &mut S) -> Outcome<'a>
-    ensures does { IsBuilt (part S.files S.faults store.old store.new) line.now.out.now
+    ensures does { IsBuilt (part S.files S.faults store.old store.new) line.now.room line.now.out.now
         (option_map (λ file. file.now) line.now.sites) (map (λ file. file.now) line.now.files.items) result }
     ensures placed { IsPlaced result.sources result.cause }
     ensures steps { result.steps ≡ None }

@@ -1,7 +1,8 @@
 //! The module of a typed program, which is tried before it is given: it is valid, it is linked, and its segments fit.
 
-ghost use Rattle.std.specs.Prelude.{◌<◌, length, IfOk};
+ghost use Rattle.std.specs.Prelude.{◌≡◌, ◌≤◌, ◌<◌, ◌*◌, length, true, IfOk, Some};
 ghost use Rattle.sa_drive.specs.Built.{IsTried};
+ghost use Rattle.sa_statement.specs.Runnable.{HasRoom};
 
 use sa_core::{Core, FeatureCore, positions};
 use sa_dispatch::{Rows, rows};
@@ -14,8 +15,11 @@ use sqlite_items::Items;
 use std::alloc::Global;
 use wa_encode::encode;
 use wa_run::runnable;
-use wa_syntax::Module;
+use wa_syntax::{Limits, Module};
 use wa_valid::Valid;
+
+/// The KiB of a page.
+const PAGE: u64 = 64;
 
 /// A program's module, its bytes, and the positions that these name by number.
 #[derive(Drop)]
@@ -31,7 +35,8 @@ pub struct Built {
 /// The module of a typed program, traced or not, with so many KiB of room for its objects. Fails where memory runs out, also where a
 /// module of WebAssembly can't be as large as this one, or can't be run.
 pub fn module_of(alloc: Global, core: Core, room: u32, trace: Trace) -> Result<Built, NoMemory>
-    ensures { IfOk result IsTried }
+    ensures tried { IfOk result IsTried }
+    ensures roomy { IfOk result (λ built. HasRoom room built.«module») }
 {
     let positions = positions(alloc, &core)?;
     let sites = sites(alloc, &core)?;
@@ -41,7 +46,7 @@ pub fn module_of(alloc: Global, core: Core, room: u32, trace: Trace) -> Result<B
     let module = emitted(alloc, &flat, &rows, room, trace)?;
     let FlatProgram { positions, .. } = flat;
     match encode(alloc, &module) {
-        Ok(bytes) if bytes.len() < u32::MAX as usize => tried(alloc, bytes, positions, sites),
+        Ok(bytes) if bytes.len() < u32::MAX as usize => tried(alloc, bytes, room, positions, sites),
         _ => Err(NoMemory),
     }
 }
@@ -78,23 +83,49 @@ fn add_sites(to: &mut Items<Pos>, feature: &FeatureCore) -> Result<(), NoMemory>
     Ok(())
 }
 
-/// The module of these bytes, where they spell one that can be run.
+/// The module of these bytes, where they spell one that can be run and has so many KiB of room.
 fn tried(
     alloc: Global,
     bytes: Vec<u8>,
+    room: u32,
     positions: Items<Pos>,
     sites: Items<Pos>,
 ) -> Result<Built, NoMemory>
     requires { length bytes.items < 4294967295 }
-    ensures { IfOk result IsTried }
+    ensures tried { IfOk result IsTried }
+    ensures roomy { IfOk result (λ built. HasRoom room built.«module») }
 {
     match runnable(alloc, bytes.as_slice()) {
-        Ok(module) => Ok(Built {
+        Ok(module) if has_room(module.module(), room) => Ok(Built {
             module,
             bytes,
             positions,
             sites,
         }),
-        Err(_answer) => Err(NoMemory),
+        _ => Err(NoMemory),
     }
+}
+
+/// Whether a module has one memory, which never grows, and which holds so many KiB.
+fn has_room(module: &Module, room: u32) -> bool
+    ensures { result ≡ true → HasRoom room «module».now }
+{
+    match module.memories.as_slice() {
+        [memory] => is_fixed(memory) && holds(memory, room),
+        _ => false,
+    }
+}
+
+/// Whether a memory has at its start as many pages as at most.
+fn is_fixed(memory: &Limits) -> bool
+    ensures { result ≡ true → memory.now.max ≡ Some memory.now.min }
+{
+    memory.max == Some(memory.min)
+}
+
+/// Whether a memory holds so many KiB at its start.
+fn holds(memory: &Limits, room: u32) -> bool
+    ensures { result ≡ true → room ≤ memory.now.min * 64 }
+{
+    u64::from(room) <= u64::from(memory.min) * PAGE
 }

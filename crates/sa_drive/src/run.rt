@@ -1,7 +1,8 @@
 //! The command `run`: a program is compiled, and its module is run.
 
-ghost use Rattle.std.specs.Prelude.{◌≡◌, ◌&&◌, [], is_some, map};
+ghost use Rattle.std.specs.Prelude.{◌≡◌, ◌&&◌, ℕ, [], is_some, map};
 ghost use Rattle.sa_outside.specs.Output.{Grew};
+ghost use Rattle.sa_statement.specs.Runnable.{HasRoom};
 ghost use Rattle.sa_tree.specs.declared.pos.Sources.{Sources as Places};
 ghost use Rattle.wa_run.specs.declared.module_run.Run.{Run as Runs};
 ghost use Rattle.wa_syntax.specs.ValidModule.{IsValid};
@@ -35,7 +36,8 @@ pub fn run<'a, S: ReadFiles, I: Source, O: Sink>(
     out: &mut O,
 ) -> Outcome<'a>
     ensures does { IsRun (part S.files S.faults store.old store.new) (part I.input I.faults input.old input.new)
-        (part O.output O.faults out.old out.new) line.now.fuel (map (λ file. file.now) line.now.files.items) result }
+        (part O.output O.faults out.old out.new) line.now.room line.now.fuel
+        (map (λ file. file.now) line.now.files.items) result }
     ensures placed { IsPlaced result.sources result.cause }
     ensures steps { is_some result.steps ≡ (line.now.stats && has_steps result.cause) }
     ensures further { result.further.items ≡ [] }
@@ -70,8 +72,8 @@ pub fn run_built<'a, I: Source, O: Sink>(
     out: &mut O,
 ) -> Outcome<'a>
     requires tried { IsTried built }
-    ensures ran { RanBuilt (part I.input I.faults input.old input.new) (part O.output O.faults out.old out.new) fuel
-        (IsOfModule sources) result }
+    ensures ran { (room : ℕ) → HasRoom room built.«module» → RanBuilt (part I.input I.faults input.old input.new)
+        (part O.output O.faults out.old out.new) room fuel (IsOfModule sources) result }
     ensures sources { result.sources ≡ sources }
     ensures placed { IsPlaced result.sources result.cause }
     ensures steps { is_some result.steps ≡ (stats && has_steps result.cause) }

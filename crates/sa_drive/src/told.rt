@@ -1,7 +1,8 @@
 //! The command `run` with `--trace`: a program is compiled, and its traced module is run.
 
-ghost use Rattle.std.specs.Prelude.{◌≡◌, ◌&&◌, [], is_some, map};
+ghost use Rattle.std.specs.Prelude.{◌≡◌, ◌&&◌, ℕ, [], is_some, map};
 ghost use Rattle.sa_outside.specs.Output.{Grew};
+ghost use Rattle.sa_statement.specs.Runnable.{HasRoom};
 ghost use Rattle.sa_drive.specs.Answer.{IsTraced, has_steps};
 ghost use Rattle.sa_drive.specs.Built.{IsTried};
 ghost use Rattle.sa_drive.specs.Ends.{ComesBeforeOutput, IsOfModule};
@@ -30,7 +31,7 @@ pub fn run_told<'a, S: ReadFiles, I: Source, O: Sink, E: Sink>(
     err: &mut E,
 ) -> Outcome<'a>
     ensures does { IsTraced (outside (part S.files S.faults store.old store.new) (part I.input I.faults input.old input.new)
-        (part O.output O.faults out.old out.new) (part E.output E.faults err.old err.new)) line.now.fuel
+        (part O.output O.faults out.old out.new) (part E.output E.faults err.old err.new)) line.now.room line.now.fuel
         (map (λ file. file.now) line.now.files.items) result }
     ensures placed { IsPlaced result.sources result.cause }
     ensures steps { is_some result.steps ≡ (line.now.stats && has_steps result.cause) }
@@ -68,8 +69,8 @@ fn run_built_told<'a, I: Source, O: Sink, E: Sink>(
     err: &mut E,
 ) -> Outcome<'a>
     requires tried { IsTried built }
-    ensures ran { RanTraced (part I.input I.faults input.old input.new) (part O.output O.faults out.old out.new)
-        (part E.output E.faults err.old err.new) fuel (IsOfModule sources) result }
+    ensures ran { (room : ℕ) → HasRoom room built.«module» → RanTraced (part I.input I.faults input.old input.new)
+        (part O.output O.faults out.old out.new) (part E.output E.faults err.old err.new) room fuel (IsOfModule sources) result }
     ensures sources { result.sources ≡ sources }
     ensures placed { IsPlaced result.sources result.cause }
     ensures steps { is_some result.steps ≡ (stats && has_steps result.cause) }
