@@ -8,7 +8,8 @@ use Rattle.sa_tree.specs.declared.pos.Sources.{Sources}
 use Rattle.sa_read.specs.Front.{IsTakenUpTo}
 use Rattle.sa_read.specs.Program.{IsReadAs}
 use Rattle.sa_read.specs.declared.program.Program.{Program}
-use Rattle.sa_statement.specs.Runnable.{HasRoom, SpellsRunnable}
+use Rattle.sa_statement.specs.Confined.{IsConfined}
+use Rattle.sa_statement.specs.Runnable.{SpellsRunnable}
 use Rattle.wa_syntax.specs.Binary.{SpellsModule}
 use Rattle.sa_words.specs.Line.{Check}
 use Rattle.sa_words.specs.declared.command.Contracts.{Contracts}
@@ -80,19 +81,19 @@ taken_of files failed names made value sources told is match same =
 pub made_is : (made : Result Built Cause) (built : Built) (Is : Built → Type 0) → made ≡ Ok built → IfOk made Is → Is built
 made_is made built Is is each = subst (λ (made : Result Built Cause). IfOk made Is) is each
 
--- the module that is made has this room
-pub room_of : (made : Result Built Cause) (built : Built) (room : ℕ) → made ≡ Ok built → IfOk made (λ built. HasRoom room built.«module») → HasRoom room built.«module»
-room_of made built room is each = made_is made built (λ built. HasRoom room built.«module») is each
+-- the module that is made is confined, with this room
+pub confined_of : (made : Result Built Cause) (built : Built) (room : ℕ) → made ≡ Ok built → IfOk made (λ built. IsConfined room built.«module») → IsConfined room built.«module»
+confined_of made built room is each = made_is made built (λ built. IsConfined room built.«module») is each
 
--- the bytes of a module that was tried spell one that can be run and has this room
-pub spells_of : (made : Result Built Cause) (built : Built) (bytes : List ℕ) (room : ℕ) → made ≡ Ok built → IfOk made IsTried → IfOk made (λ built. HasRoom room built.«module») → bytes ≡ built.bytes.items → SpellsRunnable room bytes
-spells_of made built bytes room is tried roomy same =
+-- the bytes of a module that was tried spell one that can be run and is confined
+pub spells_of : (made : Result Built Cause) (built : Built) (bytes : List ℕ) (room : ℕ) → made ≡ Ok built → IfOk made IsTried → IfOk made (λ built. IsConfined room built.«module») → bytes ≡ built.bytes.items → SpellsRunnable room bytes
+spells_of made built bytes room is tried confined same =
     let it : IsTried built = made_is made built IsTried is tried in
     record {
       «module» = built.«module»;
       spelled = subst (λ (told : List ℕ). SpellsModule told built.«module») (sym same) it.spelled;
       runnable = it.runnable;
-      roomy = room_of made built room is roomy;
+      confined = confined_of made built room is confined;
     }
 
 -- the files give no module, and this outcome says why

@@ -13,7 +13,7 @@ use Rattle.wa_run.specs.declared.answer.Answer.{Answer}
 use Rattle.wa_run.specs.declared.answer.Answer.TheVariants as answer
 use Rattle.wa_run.specs.declared.module_run.Run.{Run}
 use Rattle.wa_run.proofs.Spelled.{run-spelled}
-use Rattle.sa_statement.specs.Runnable.{HasRoom}
+use Rattle.sa_statement.specs.Confined.{IsConfined}
 use Rattle.sa_words.specs.Line.{Line}
 use Rattle.std.specs.Prelude.{Option, None}
 use Rattle.sa_drive.specs.Answer.{DoesNothing, Obeys, empty_input, own_sink}
@@ -76,14 +76,14 @@ run_spelled input out bytes m fuel run spelled valid ran = record {
 }
 
 -- the outcome of a module that was tried, and ended so, is that of the run
-pub shown_built : (input : Part Input) (out : Part (List ℕ)) (IsCause : Cause → Cause → Type 0) (built : Built) (fuel : ℕ) (ended : Ended) (run : Run) (outcome : Outcome) → IsTried built → ended ≡ ended_of fuel run → IsRunOfModule input out built.«module» fuel run → outcome.«module».items ≡ built.bytes.items → IsCause ended.cause outcome.cause → outcome.done ≡ ended.done → ((steps : ℕ) → outcome.steps ≡ Some steps → steps ≡ ended.steps) → (room : ℕ) → HasRoom room built.«module» → RanBuilt input out room fuel IsCause outcome
-shown_built input out IsCause built fuel ended run outcome tried is ran same cause done steps room roomy =
+pub shown_built : (input : Part Input) (out : Part (List ℕ)) (IsCause : Cause → Cause → Type 0) (built : Built) (fuel : ℕ) (ended : Ended) (run : Run) (outcome : Outcome) → IsTried built → ended ≡ ended_of fuel run → IsRunOfModule input out built.«module» fuel run → outcome.«module».items ≡ built.bytes.items → IsCause ended.cause outcome.cause → outcome.done ≡ ended.done → ((steps : ℕ) → outcome.steps ≡ Some steps → steps ≡ ended.steps) → (room : ℕ) → IsConfined room built.«module» → RanBuilt input out room fuel IsCause outcome
+shown_built input out IsCause built fuel ended run outcome tried is ran same cause done steps room confined =
     let spelled : SpellsModule outcome.«module».items built.«module» = rw same tried.spelled in
     record {
       built = built.«module»;
       spelled = spelled;
       runnable = tried.runnable;
-      roomy = roomy;
+      confined = confined;
       run = run;
       of_module = ran;
       of_bytes = run_spelled input out outcome.«module».items built.«module» fuel run spelled tried.runnable.valid ran;
@@ -91,8 +91,8 @@ shown_built input out IsCause built fuel ended run outcome tried is ran same cau
     }
 
 -- the outcome of a traced module that was tried is that of its run
-pub traced : (input : Part Input) (out err : Part (List ℕ)) (IsCause : Cause → Cause → Type 0) (built : Built) (sources : Sources) (sites : List Pos) (fuel : ℕ) (run : Run) (framed : List ℕ) (outcome : Outcome) → IsTried built → IsRunOfModule input (framed_output out framed) built.«module» fuel run → AreTold sites sources framed (sinks_of out err outcome.listening) run.answer → outcome.sources ≡ sources → outcome.«module».items ≡ built.bytes.items → IsCause (cause_of fuel run.answer) outcome.cause → outcome.done ≡ done_of run.answer → ((steps : ℕ) → outcome.steps ≡ Some steps → steps ≡ run.steps) → (room : ℕ) → HasRoom room built.«module» → RanTraced input out err room fuel IsCause outcome
-traced input out err IsCause built sources sites fuel run framed outcome tried ran told same_sources same cause done steps room roomy =
+pub traced : (input : Part Input) (out err : Part (List ℕ)) (IsCause : Cause → Cause → Type 0) (built : Built) (sources : Sources) (sites : List Pos) (fuel : ℕ) (run : Run) (framed : List ℕ) (outcome : Outcome) → IsTried built → IsRunOfModule input (framed_output out framed) built.«module» fuel run → AreTold sites sources framed (sinks_of out err outcome.listening) run.answer → outcome.sources ≡ sources → outcome.«module».items ≡ built.bytes.items → IsCause (cause_of fuel run.answer) outcome.cause → outcome.done ≡ done_of run.answer → ((steps : ℕ) → outcome.steps ≡ Some steps → steps ≡ run.steps) → (room : ℕ) → IsConfined room built.«module» → RanTraced input out err room fuel IsCause outcome
+traced input out err IsCause built sources sites fuel run framed outcome tried ran told same_sources same cause done steps room confined =
     let spelled : SpellsModule outcome.«module».items built.«module» = rw same tried.spelled in
     record {
       framed = framed;
@@ -100,7 +100,7 @@ traced input out err IsCause built sources sites fuel run framed outcome tried r
         built = built.«module»;
         spelled = spelled;
         runnable = tried.runnable;
-        roomy = roomy;
+        confined = confined;
         run = run;
         of_module = ran;
         of_bytes = run_spelled input (framed_output out framed) outcome.«module».items built.«module» fuel run spelled tried.runnable.valid ran;

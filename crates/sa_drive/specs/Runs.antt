@@ -1,7 +1,8 @@
 -- What a command shows of the run of a module.
 use Rattle.std.specs.Prelude.{◌≡◌, ◌≤◌, ℕ, ◌%◌, ◌^◌, List, [], Option, None, Some}
 use Rattle.sa_outside.specs.Input.{Input}
-use Rattle.sa_statement.specs.Runnable.{HasRoom, IsRunnable}
+use Rattle.sa_statement.specs.Confined.{IsConfined}
+use Rattle.sa_statement.specs.Runnable.{IsRunnable}
 use Rattle.sa_trace.specs.Handing.{sink}
 use Rattle.sa_trace.specs.declared.sinks.Listening.{Listening}
 use Rattle.sa_trace_run.specs.Traced.{AreTold, Sinks, sinks}
@@ -70,14 +71,14 @@ abbrev pub Ran : Part Input → Part (List ℕ) → (pages : Option ℕ) → (fu
 Ran input out pages fuel IsCause outcome =
     (run : Run) × IsRunBounded input out pages outcome.«module».items fuel run × Shows fuel IsCause outcome run
 
--- the bytes of the outcome spell a module that can be run and has this room, in KiB; it was run with this fuel, and the outcome is that
+-- the bytes of the outcome spell a module that can be run and is confined, with this room in KiB; it was run with this fuel, and the
 -- of the run
 pub record RanBuilt (input : Part Input) (out : Part (List ℕ)) (room fuel : ℕ)
     (IsCause : (of_module : Cause) → (told : Cause) → Type 0) (outcome : Outcome) : Type 0 where
   pub built : Module
   pub spelled : SpellsModule outcome.«module».items built
   pub runnable : IsRunnable built
-  pub roomy : HasRoom room built
+  pub confined : IsConfined room built
   pub run : Run
   pub of_module : IsRunOfModule input out built fuel run
   pub of_bytes : IsRunOf input out outcome.«module».items fuel run

@@ -3,7 +3,7 @@
 ghost use Rattle.std.specs.Prelude.{◌≡◌, ◌≤◌, ◌<◌, ◌⊎◌, All, length, map, Err, None, IfErr, IfOk, IfSome, MatchResult};
 ghost use Rattle.sa_outside.specs.Faults.{Rose};
 ghost use Rattle.sa_read.specs.Front.{IsRefusalOf, IsTakenUpTo};
-ghost use Rattle.sa_statement.specs.Runnable.{HasRoom};
+ghost use Rattle.sa_statement.specs.Confined.{IsConfined};
 ghost use Rattle.sa_drive.specs.Answer.{default_room};
 ghost use Rattle.sa_drive.specs.Built.{IsTried};
 ghost use Rattle.sa_drive.specs.Files.{ComesOfFiles, ComesOfGenerated, Explains, ExplainsProgram, IsByChecker};
@@ -80,7 +80,7 @@ pub fn compile_files<S: ReadFiles>(
         (ComesOfFiles (S.files store.old) (Rose (S.faults store.old) (S.faults store.new))
         (map (λ file. file.now) files.now) result.sources) }
     ensures built { IfOk result.«module» IsTried }
-    ensures roomy { IfOk result.«module» (λ built. HasRoom room built.«module») }
+    ensures confined { IfOk result.«module» (λ built. IsConfined room built.«module») }
     ensures placed { IfErr result.«module» (IsPlaced result.sources) }
     ensures files { S.files store.new ≡ S.files store.old }
     ensures count { S.faults store.old ≤ S.faults store.new }
@@ -93,7 +93,7 @@ pub fn compile_files<S: ReadFiles>(
 pub fn compile_generated(alloc: Global, classes: u32) -> Compiled
     ensures module { MatchResult result.«module» (λ _. IsTakenGenerated classes result.sources) (ComesOfGenerated classes result.sources) }
     ensures built { IfOk result.«module» IsTried }
-    ensures roomy { IfOk result.«module» (λ built. HasRoom default_room built.«module») }
+    ensures confined { IfOk result.«module» (λ built. IsConfined default_room built.«module») }
     ensures placed { IfErr result.«module» (IsPlaced result.sources) }
 {
     let checked = check_generated(alloc, classes);
@@ -104,7 +104,7 @@ pub fn compile_generated(alloc: Global, classes: u32) -> Compiled
 fn compile_checked(alloc: Global, checked: Checked, room: u32, trace: Trace) -> Compiled
     ensures same { result.sources ≡ checked.sources }
     ensures built { IfOk result.«module» IsTried }
-    ensures roomy { IfOk result.«module» (λ built. HasRoom room built.«module») }
+    ensures confined { IfOk result.«module» (λ built. IsConfined room built.«module») }
     ensures made { IfOk result.«module» (λ _. IfErr checked.core (λ _. ⊥)) }
     ensures fault { IfErr result.«module» (λ cause. (checked.core ≡ Err cause) ⊎ (cause ≡ Cause.NoMemory)) }
 {
@@ -116,7 +116,7 @@ fn compile_checked(alloc: Global, checked: Checked, room: u32, trace: Trace) -> 
 /// The module of a typed tree, or the cause why there is none.
 fn made(alloc: Global, core: Result<Core, Cause>, room: u32, trace: Trace) -> Result<Built, Cause>
     ensures built { IfOk result IsTried }
-    ensures roomy { IfOk result (λ built. HasRoom room built.«module») }
+    ensures confined { IfOk result (λ built. IsConfined room built.«module») }
     ensures made { IfOk result (λ _. IfErr core (λ _. ⊥)) }
     ensures fault { IfErr result (λ cause. (core ≡ Err cause) ⊎ (cause ≡ Cause.NoMemory)) }
 {

@@ -9,6 +9,7 @@ mod cause;
 mod check;
 mod checkers;
 mod compile;
+mod confined;
 mod decoded;
 mod exec;
 mod explained;

@@ -1,9 +1,10 @@
 //! The module of a typed program, which is tried before it is given: it is valid, it is linked, and its segments fit.
 
-ghost use Rattle.std.specs.Prelude.{◌≡◌, ◌≤◌, ◌<◌, ◌*◌, length, true, IfOk, Some};
+ghost use Rattle.std.specs.Prelude.{◌<◌, length, IfOk};
 ghost use Rattle.sa_drive.specs.Built.{IsTried};
-ghost use Rattle.sa_statement.specs.Runnable.{HasRoom};
+ghost use Rattle.sa_statement.specs.Confined.{IsConfined};
 
+use crate::confined::is_confined;
 use sa_core::{Core, FeatureCore, positions};
 use sa_dispatch::{Rows, rows};
 use sa_emit::{emit, emit_traced};
@@ -15,11 +16,8 @@ use sqlite_items::Items;
 use std::alloc::Global;
 use wa_encode::encode;
 use wa_run::runnable;
-use wa_syntax::{Limits, Module};
+use wa_syntax::Module;
 use wa_valid::Valid;
-
-/// The KiB of a page.
-const PAGE: u64 = 64;
 
 /// A program's module, its bytes, and the positions that these name by number.
 #[derive(Drop)]
@@ -36,7 +34,7 @@ pub struct Built {
 /// module of WebAssembly can't be as large as this one, or can't be run.
 pub fn module_of(alloc: Global, core: Core, room: u32, trace: Trace) -> Result<Built, NoMemory>
     ensures tried { IfOk result IsTried }
-    ensures roomy { IfOk result (λ built. HasRoom room built.«module») }
+    ensures confined { IfOk result (λ built. IsConfined room built.«module») }
 {
     let positions = positions(alloc, &core)?;
     let sites = sites(alloc, &core)?;
@@ -83,7 +81,7 @@ fn add_sites(to: &mut Items<Pos>, feature: &FeatureCore) -> Result<(), NoMemory>
     Ok(())
 }
 
-/// The module of these bytes, where they spell one that can be run and has so many KiB of room.
+/// The module of these bytes, where they spell one that can be run and is confined, with so many KiB of room.
 fn tried(
     alloc: Global,
     bytes: Vec<u8>,
@@ -93,10 +91,10 @@ fn tried(
 ) -> Result<Built, NoMemory>
     requires { length bytes.items < 4294967295 }
     ensures tried { IfOk result IsTried }
-    ensures roomy { IfOk result (λ built. HasRoom room built.«module») }
+    ensures confined { IfOk result (λ built. IsConfined room built.«module») }
 {
     match runnable(alloc, bytes.as_slice()) {
-        Ok(module) if has_room(module.module(), room) => Ok(Built {
+        Ok(module) if is_confined(module.module(), room) => Ok(Built {
             module,
             bytes,
             positions,
@@ -104,28 +102,4 @@ fn tried(
         }),
         _ => Err(NoMemory),
     }
-}
-
-/// Whether a module has one memory, which never grows, and which holds so many KiB.
-fn has_room(module: &Module, room: u32) -> bool
-    ensures { result ≡ true → HasRoom room «module».now }
-{
-    match module.memories.as_slice() {
-        [memory] => is_fixed(memory) && holds(memory, room),
-        _ => false,
-    }
-}
-
-/// Whether a memory has at its start as many pages as at most.
-fn is_fixed(memory: &Limits) -> bool
-    ensures { result ≡ true → memory.now.max ≡ Some memory.now.min }
-{
-    memory.max == Some(memory.min)
-}
-
-/// Whether a memory holds so many KiB at its start.
-fn holds(memory: &Limits, room: u32) -> bool
-    ensures { result ≡ true → room ≤ memory.now.min * 64 }
-{
-    u64::from(room) <= u64::from(memory.min) * PAGE
 }

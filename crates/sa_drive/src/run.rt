@@ -2,7 +2,7 @@
 
 ghost use Rattle.std.specs.Prelude.{◌≡◌, ◌&&◌, ℕ, [], is_some, map};
 ghost use Rattle.sa_outside.specs.Output.{Grew};
-ghost use Rattle.sa_statement.specs.Runnable.{HasRoom};
+ghost use Rattle.sa_statement.specs.Confined.{IsConfined};
 ghost use Rattle.sa_tree.specs.declared.pos.Sources.{Sources as Places};
 ghost use Rattle.wa_run.specs.declared.module_run.Run.{Run as Runs};
 ghost use Rattle.wa_syntax.specs.ValidModule.{IsValid};
@@ -72,7 +72,7 @@ pub fn run_built<'a, I: Source, O: Sink>(
     out: &mut O,
 ) -> Outcome<'a>
     requires tried { IsTried built }
-    ensures ran { (room : ℕ) → HasRoom room built.«module» → RanBuilt (part I.input I.faults input.old input.new)
+    ensures ran { (room : ℕ) → IsConfined room built.«module» → RanBuilt (part I.input I.faults input.old input.new)
         (part O.output O.faults out.old out.new) room fuel (IsOfModule sources) result }
     ensures sources { result.sources ≡ sources }
     ensures placed { IsPlaced result.sources result.cause }

@@ -3,7 +3,7 @@
 ghost use Rattle.std.specs.Prelude.{◌≡◌, [], IfOk, false, is_some};
 ghost use Rattle.sa_outside.specs.Output.{Grew};
 ghost use Rattle.sa_trace.specs.declared.sinks.Listening.TheVariants as listening;
-ghost use Rattle.sa_statement.specs.Runnable.{HasRoom};
+ghost use Rattle.sa_statement.specs.Confined.{IsConfined};
 ghost use Rattle.sa_drive.specs.Answer.{IsRunApart, IsTested, default_room};
 ghost use Rattle.sa_drive.specs.Built.{IsTried};
 ghost use Rattle.sa_drive.specs.Ends.{ComesBeforeOutput, IsPrinted};
@@ -51,7 +51,7 @@ fn run_apart<'a, O: Sink>(
     out: &mut O,
 ) -> Outcome<'a>
     requires tried { IsTried built }
-    requires roomy { HasRoom default_room built.«module» }
+    requires confined { IsConfined default_room built.«module» }
     requires taken { IsTakenGenerated classes sources }
     ensures ran { IsRunApart (part O.output O.faults out.old out.new) classes result }
     ensures placed { IsPlaced result.sources result.cause }

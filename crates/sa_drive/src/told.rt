@@ -2,7 +2,7 @@
 
 ghost use Rattle.std.specs.Prelude.{◌≡◌, ◌&&◌, ℕ, [], is_some, map};
 ghost use Rattle.sa_outside.specs.Output.{Grew};
-ghost use Rattle.sa_statement.specs.Runnable.{HasRoom};
+ghost use Rattle.sa_statement.specs.Confined.{IsConfined};
 ghost use Rattle.sa_drive.specs.Answer.{IsTraced, has_steps};
 ghost use Rattle.sa_drive.specs.Built.{IsTried};
 ghost use Rattle.sa_drive.specs.Ends.{ComesBeforeOutput, IsOfModule};
@@ -69,7 +69,7 @@ fn run_built_told<'a, I: Source, O: Sink, E: Sink>(
     err: &mut E,
 ) -> Outcome<'a>
     requires tried { IsTried built }
-    ensures ran { (room : ℕ) → HasRoom room built.«module» → RanTraced (part I.input I.faults input.old input.new)
+    ensures ran { (room : ℕ) → IsConfined room built.«module» → RanTraced (part I.input I.faults input.old input.new)
         (part O.output O.faults out.old out.new) (part E.output E.faults err.old err.new) room fuel (IsOfModule sources) result }
     ensures sources { result.sources ≡ sources }
     ensures placed { IsPlaced result.sources result.cause }

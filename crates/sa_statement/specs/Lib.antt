@@ -1,4 +1,5 @@
 pub mod Bound
+pub mod Confined
 pub mod Ends
 pub mod Promise
 pub mod Runnable

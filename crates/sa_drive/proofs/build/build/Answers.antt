@@ -7,7 +7,7 @@ pub returns-in-Ok-clause-does : goal.returns-in-Ok-clause-does
 returns-in-Ok-clause-does g c =
     rw (← c.as_slice.ensures.value) (inr (
       taken_of _ _ _ _ _ _ _ c.in-Ok.is c.compile_files-sources.ensures.«module» c.without_run.ensures.sources,
-      spells_of _ c.in-Ok.built _ _ c.in-Ok.is c.compile_files-sources.ensures.built c.compile_files-sources.ensures.roomy c.without_run.ensures.bytes,
+      spells_of _ c.in-Ok.built _ _ c.in-Ok.is c.compile_files-sources.ensures.built c.compile_files-sources.ensures.confined c.without_run.ensures.bytes,
       module_earlier _ _ _ _ _ _ _ _ _ _ _ _ _ _ c.compile_files-sources.ensures.files c.compile_files-sources.ensures.count c.without_run.ensures.bytes c.without_run.ensures.sources c.without_run.ensures.cause c.write_built-cause.ensures.writes,
     ))
 

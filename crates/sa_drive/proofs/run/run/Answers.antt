@@ -1,5 +1,5 @@
 use Rattle.std.proofs.Common.{inl, inr, refl}
-use Rattle.sa_drive.proofs.EndLemmas.{given_none, room_of, taken_of}
+use Rattle.sa_drive.proofs.EndLemmas.{given_none, confined_of, taken_of}
 use Rattle.sa_drive.proofs.RunLemmas.{ran_of}
 use Rattle.sa_drive.proofs.run.run.Goals as goal
 
@@ -7,7 +7,7 @@ pub returns-in-Ok-clause-does : goal.returns-in-Ok-clause-does
 returns-in-Ok-clause-does g c =
     rw (← c.as_slice.ensures.value) (inr (
       taken_of _ _ _ _ _ _ _ c.in-Ok.is c.compile_files-sources.ensures.«module» c.run_built.ensures.sources,
-      ran_of _ _ _ _ _ _ c.run_built.ensures.sources (c.run_built.ensures.ran _ (room_of _ _ _ c.in-Ok.is c.compile_files-sources.ensures.roomy)),
+      ran_of _ _ _ _ _ _ c.run_built.ensures.sources (c.run_built.ensures.ran _ (confined_of _ _ _ c.in-Ok.is c.compile_files-sources.ensures.confined)),
     ))
 
 pub returns-in-Err-clause-does : goal.returns-in-Err-clause-does

@@ -1,6 +1,6 @@
 use Rattle.std.proofs.Common.{inl, inr, refl}
 use Rattle.sa_drive.specs.Files.{ComesOfGenerated, IsTakenGenerated}
-use Rattle.sa_drive.proofs.EndLemmas.{of_err, of_ok, room_of}
+use Rattle.sa_drive.proofs.EndLemmas.{of_err, of_ok, confined_of}
 use Rattle.sa_drive.proofs.selftest.selftest.Goals as goal
 
 pub returns-in-Ok-clause-does : goal.returns-in-Ok-clause-does
@@ -9,8 +9,8 @@ returns-in-Ok-clause-does g c = inr c.run_apart.ensures.ran
 pub run_apart-requires-clause-taken : goal.run_apart-requires-clause-taken
 run_apart-requires-clause-taken g c = of_ok (IsTakenGenerated c.args.classes c.compile_generated-sources.result.sources) (ComesOfGenerated c.args.classes c.compile_generated-sources.result.sources) _ _ c.in-Ok.is c.compile_generated-sources.ensures.«module»
 
-pub run_apart-requires-clause-roomy : goal.run_apart-requires-clause-roomy
-run_apart-requires-clause-roomy g c = room_of _ _ _ c.in-Ok.is c.compile_generated-sources.ensures.roomy
+pub run_apart-requires-clause-confined : goal.run_apart-requires-clause-confined
+run_apart-requires-clause-confined g c = confined_of _ _ _ c.in-Ok.is c.compile_generated-sources.ensures.confined
 
 pub returns-in-Err-clause-does : goal.returns-in-Err-clause-does
 returns-in-Err-clause-does g c =
