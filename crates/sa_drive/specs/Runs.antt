@@ -72,7 +72,7 @@ Ran input out pages fuel IsCause outcome =
     (run : Run) × IsRunBounded input out pages outcome.«module».items fuel run × Shows fuel IsCause outcome run
 
 -- the bytes of the outcome spell a module that can be run and is confined, with this room in KiB; it was run with this fuel, and the
--- of the run
+-- outcome is that of the run
 pub record RanBuilt (input : Part Input) (out : Part (List ℕ)) (room fuel : ℕ)
     (IsCause : (of_module : Cause) → (told : Cause) → Type 0) (outcome : Outcome) : Type 0 where
   pub built : Module

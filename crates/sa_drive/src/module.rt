@@ -1,4 +1,4 @@
-//! The module of a typed program, which is tried before it is given: it is valid, it is linked, and its segments fit.
+//! The module of a typed program, which is tried before it is given: it is valid, it is linked, its segments fit, and it is confined.
 
 ghost use Rattle.std.specs.Prelude.{◌<◌, length, IfOk};
 ghost use Rattle.sa_drive.specs.Built.{IsTried};
@@ -31,7 +31,7 @@ pub struct Built {
 }
 
 /// The module of a typed program, traced or not, with so many KiB of room for its objects. Fails where memory runs out, also where a
-/// module of WebAssembly can't be as large as this one, or can't be run.
+/// module of WebAssembly can't be as large as this one, can't be run, or isn't confined.
 pub fn module_of(alloc: Global, core: Core, room: u32, trace: Trace) -> Result<Built, NoMemory>
     ensures tried { IfOk result IsTried }
     ensures confined { IfOk result (λ built. IsConfined room built.«module») }
