@@ -32,6 +32,7 @@ mod texts;
 mod told;
 mod top;
 mod unlinked;
+mod usage_end;
 
 pub use cause::{Cause, Exit};
 pub use lines::NO_MEMORY;

@@ -148,7 +148,10 @@ The words are no command: the first one is none of these and none of `help`,
 number that it takes, a file is missing, the file behind `-o` is one of those
 that are read, or `-`, which is the input, stands where a program or a module
 is run or a file is written. `sather help` has a line for each command, and
-`sather help run` the options of `run`.
+`sather help run` the options of `run`. Where the first word is a command and
+`--explain` is among the others, which of these it is stands behind the line:
+of `sather run --explain --stat f.sa` that `run` has no option `--stat`, that
+`--stats` is nearly that, and what to type.
 
     class MAIN is
        main is #OUT + "Hello\n"; end;
