@@ -84,7 +84,7 @@ fn explanation(
         Cause::Spent(_) | Cause::InFault | Cause::OutFault => outside_end(alloc, cause),
         Cause::Usage => usage_end(alloc, asked.words),
         Cause::NoMemory => memory_end(alloc, module, asked.pages),
-        _ => module_end(alloc, module, cause),
+        _ => module_end(alloc, module, cause, outcome.func),
     }
 }
 

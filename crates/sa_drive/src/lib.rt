@@ -12,6 +12,7 @@ mod compile;
 mod decoded;
 mod exec;
 mod explained;
+mod function;
 mod further;
 mod lines;
 mod listing;
