@@ -38,7 +38,8 @@ const MALFORMED: &str = r#"malformed
 
 The bytes of the file are no module of the integer part of WebAssembly 1.0. It
 is another file, it was cut, or it was made with features that came later, or
-with floating point.
+with floating point. `exec --explain` tells at which byte it is wrong, what
+stands there, and what is wanted.
 
     echo 'class MAIN is main is #OUT + "Hello\n"; end; end;' > f.sa
     sather exec f.sa
