@@ -6,6 +6,8 @@ use Rattle.std.proofs.lemmas.Bool.{cases_lt}
 use Rattle.sa_outside.specs.Files.{Files, Writes, WritesFront}
 use Rattle.sa_outside.specs.Output.{Grew, Took, TookFront}
 use Rattle.sa_outside.proofs.Growth.{Grew-refl}
+use Rattle.std.specs.Option.{option_map_or}
+use Rattle.sa_words.specs.Line.{Line, asked_detail, detail_of, detail_without_command, line_in}
 use Rattle.sa_words.specs.declared.command.Detail.{Detail}
 use Rattle.sa_words.specs.declared.command.Detail.TheVariants.{Brief, Explained}
 use Rattle.sa_drive.specs.Report.{TellsMore}
@@ -45,6 +47,14 @@ WritesFront-from_writes old new name bytes wrote = inr (length bytes, subst (λ 
 untold : (asked : Detail) (err : Part (List ℕ)) → IsUntouched err → TellsMore asked err
 untold Brief err same = same
 untold Explained err same = subst (λ after. Grew err.before after) (sym same.0) (Grew-refl err.before)
+
+-- what words ask to be told that are a command
+pub detail_of_command : (words : List (List ℕ)) (line : Line) → line_in words ≡ Some line → asked_detail words ≡ detail_of line
+detail_of_command words line is = ap (λ found. option_map_or detail_of found (detail_without_command words)) is
+
+-- and what words ask that are none
+pub detail_of_none : (words : List (List ℕ)) → line_in words ≡ None → asked_detail words ≡ detail_without_command words
+detail_of_none words is = ap (λ found. option_map_or detail_of found (detail_without_command words)) is
 
 -- what is told by one detail is told by what is asked for, if it is the same, or the brief one
 pub explained : (asked told : Detail) (err : Part (List ℕ)) → (told ≡ asked) ⊎ (told ≡ Brief) → TellsMore told err → TellsMore asked err

@@ -1,9 +1,9 @@
 -- The exit of a call, and what err holds then.
-use Rattle.std.specs.Prelude.{◌≡◌, ◌≢◌, ℕ, List, Option, ◌⊎◌}
+use Rattle.std.specs.Prelude.{◌≡◌, ◌≢◌, ℕ, List, ◌⊎◌}
 use Rattle.sa_outside.specs.Output.{Grew, Took, TookFront}
 use Rattle.sa_trace.specs.declared.sinks.Listening.{Listening}
 use Rattle.sa_trace.specs.declared.sinks.Listening.TheVariants as listening
-use Rattle.sa_words.specs.Line.{Line, detail_of}
+use Rattle.sa_words.specs.Line.{asked_detail}
 use Rattle.sa_words.specs.declared.command.Detail.{Detail}
 use Rattle.sa_words.specs.declared.command.Detail.TheVariants.{Brief, Explained}
 use Rattle.sa_drive.specs.Lines.{lines_of}
@@ -41,9 +41,9 @@ abbrev pub TellsMore : Detail → (err : Part (List ℕ)) → Type 0
 TellsMore Brief err = IsUntouched err
 TellsMore Explained err = Grew err.before err.after
 
--- by what the command asks for
-abbrev pub IsExplained : Option Line → (err : Part (List ℕ)) → Type 0
-IsExplained line err = TellsMore (detail_of line) err
+-- by what the words ask for
+abbrev pub IsExplained : (words : List (List ℕ)) → (err : Part (List ℕ)) → Type 0
+IsExplained words err = TellsMore (asked_detail words) err
 
 -- the exit has the cause that stands, its status and the outcome's module
 pub record IsExitOf (outcome : Outcome) (err : Part (List ℕ)) (exit : Exit) : Type 0 where

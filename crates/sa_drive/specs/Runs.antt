@@ -29,7 +29,7 @@ done_of _ = 0
 
 -- how a run with this fuel ended
 abbrev pub ended_of : ℕ → Run → Ended
-ended_of fuel run = record { cause = cause_of fuel run.answer; done = done_of run.answer; steps = run.steps }
+ended_of fuel run = record { cause = cause_of fuel run.answer; done = done_of run.answer; steps = run.steps; func = run.func }
 
 -- the module of these bytes was run with this fuel: by the machine of the standard, on what the input gave, of which just what the run
 -- reads was taken, to what out took

@@ -1,14 +1,16 @@
-//! What a command asks to be told of the cause of its end, of which files a fault of the store can be, and how a memory is bounded.
+//! What words ask to be told of the cause of their end, of which files a fault of the store can be, and how a memory is bounded.
 
-ghost use Rattle.std.specs.Prelude.{◌≡◌, Some};
-ghost use Rattle.sa_words.specs.Line.{detail_of, line_of};
+ghost use Rattle.std.specs.Prelude.{◌≡◌, map, string_bytes};
+ghost use Rattle.sa_words.specs.Line.{detail_of, detail_without_command, line_of};
 
-use sa_words::{Command, Contracts, Detail, detail_of};
+use sa_words::{Command, Contracts, Detail, detail_of, detail_without_command};
 
 /// What is to be told, and of which files.
 #[derive(Clone, Copy)]
 pub struct Asked<'a> {
     pub detail: Detail,
+    /// The words.
+    pub words: &'a [String],
     /// What was done with the contracts of the program, where one was run.
     pub contracts: Contracts,
     /// The name of the file that the command reads, where it reads one.
@@ -20,12 +22,13 @@ pub struct Asked<'a> {
 }
 
 impl<'a> Asked<'a> {
-    /// The line of the cause alone.
-    pub fn brief() -> Asked<'a>
-        ensures { result.detail ≡ Detail.Brief }
+    /// So much is to be told of words that give no command.
+    fn of_detail(words: &'a [String], detail: Detail) -> Asked<'a>
+        ensures { result.detail ≡ detail }
     {
         Asked {
-            detail: Detail::Brief,
+            detail,
+            words,
             contracts: Contracts::Dropped,
             read: None,
             written: None,
@@ -33,12 +36,27 @@ impl<'a> Asked<'a> {
         }
     }
 
-    /// What the command asks for.
-    pub fn of_command(command: &Command<'a>) -> Asked<'a>
-        ensures { result.detail ≡ detail_of (Some (line_of command.now)) }
+    /// The line of the cause alone.
+    pub fn brief(words: &'a [String]) -> Asked<'a>
+        ensures { result.detail ≡ Detail.Brief }
+    {
+        Asked::of_detail(words, Detail::Brief)
+    }
+
+    /// What words that are no command ask for.
+    pub fn of_words(words: &'a [String]) -> Asked<'a>
+        ensures { result.detail ≡ detail_without_command (map string_bytes words.now) }
+    {
+        Asked::of_detail(words, detail_without_command(words))
+    }
+
+    /// What the words ask for that are this command.
+    pub fn of_command(words: &'a [String], command: &Command<'a>) -> Asked<'a>
+        ensures { result.detail ≡ detail_of (line_of command.now) }
     {
         Asked {
             detail: detail_of(command),
+            words,
             contracts: contracts_of(command),
             read: read_by(command),
             written: written_by(command),

@@ -34,6 +34,8 @@ pub struct Ended {
     pub done: u8,
     /// How many steps the machine made.
     pub steps: u64,
+    /// The function of the module whose instruction ended the run by a trap or a call that is too deep, where one did.
+    pub func: Option<usize>,
 }
 
 impl Ended {
@@ -67,6 +69,7 @@ impl Ended {
             further: Vec::new(alloc),
             refusals: Vec::new(alloc),
             steps,
+            func: self.func,
             listening: Listening::Yes,
         }
     }
@@ -157,6 +160,7 @@ fn ended_of(run: Run, fuel: u64) -> Ended
         cause: cause_of(run.answer, fuel),
         done: done_of(run.answer),
         steps: run.steps,
+        func: run.func,
     }
 }
 

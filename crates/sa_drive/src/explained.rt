@@ -1,4 +1,4 @@
-//! What is told of a cause behind its lines, where the command asks for it.
+//! What is told of a cause behind its lines, where the words ask for it.
 
 ghost use Rattle.sa_drive.specs.Report.{TellsMore};
 ghost use Rattle.sa_drive.specs.Seen.{part};
@@ -10,6 +10,7 @@ use crate::module_end::module_end;
 use crate::outcome::Outcome;
 use crate::outside_end::{outside_end, store_fault};
 use crate::retyped::typed_again;
+use crate::usage_end::usage_end;
 use sa_explain::{explain_fault, explain_refusals};
 use sa_outside::Sink;
 use sa_trace::Listening;
@@ -81,8 +82,9 @@ fn explanation(
         Cause::Fault(kind, pos) => fault(alloc, asked.contracts, &outcome.sources, kind, pos),
         Cause::StoreFault => store_fault(alloc, asked, module.is_empty()),
         Cause::Spent(_) | Cause::InFault | Cause::OutFault => outside_end(alloc, cause),
+        Cause::Usage => usage_end(alloc, asked.words),
         Cause::NoMemory => memory_end(alloc, module, asked.pages),
-        _ => module_end(alloc, module, cause),
+        _ => module_end(alloc, module, cause, outcome.func),
     }
 }
 

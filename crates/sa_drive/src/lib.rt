@@ -13,6 +13,7 @@ mod confined;
 mod decoded;
 mod exec;
 mod explained;
+mod function;
 mod further;
 mod lines;
 mod listing;
@@ -33,6 +34,7 @@ mod texts;
 mod told;
 mod top;
 mod unlinked;
+mod usage_end;
 
 pub use cause::{Cause, Exit};
 pub use lines::NO_MEMORY;

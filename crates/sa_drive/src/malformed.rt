@@ -22,7 +22,7 @@ pub fn malformed(module: &[u8], said: &mut Sentences) -> Result<(), AllocError> 
             )?;
             for_another(said)
         }
-        Some(flaw) => wrong_at(flaw, said),
+        Some(flaw) => wrong_at(flaw, module.get(flaw.at).copied(), said),
         None => {
             said.say_words(
                 "The file begins as a module of WebAssembly 1.0, and goes on as none without floating point.",
@@ -39,45 +39,56 @@ fn for_another(said: &mut Sentences) -> Result<(), AllocError> {
     )
 }
 
-/// What is wrong at a place of a module.
-fn wrong_at(flaw: Flaw, said: &mut Sentences) -> Result<(), AllocError> {
-    let at = Part::Number(flaw.at);
-    let hex = Part::Hex(flaw.at);
-    let wrong = Part::Words(flaw.lack.text());
-    match flaw.place {
-        Place::File => said.say(&[
-            Part::Words("At byte "),
-            at,
-            Part::Words(" ("),
-            hex,
-            Part::Words("): "),
-            wrong,
-        ])?,
-        Place::Section(number) => said.say(&[
-            Part::Words("At byte "),
-            at,
-            Part::Words(" ("),
-            hex,
-            Part::Words("), in section "),
-            Part::Number(usize::from(number)),
-            Part::Words(section_name(number)),
-            Part::Words(": "),
-            wrong,
-        ])?,
-        Place::Body(number) => said.say(&[
-            Part::Words("At byte "),
-            at,
-            Part::Words(" ("),
-            hex,
-            Part::Words("), in the body of function "),
-            Part::Number(number as usize),
-            Part::Words(" of the module's own, from 0: "),
-            wrong,
-        ])?,
-    }
+/// What is wrong at a place of a module, where this byte stands, or none any more.
+fn wrong_at(flaw: Flaw, byte: Option<u8>, said: &mut Sentences) -> Result<(), AllocError> {
+    let (behind, there, stands) = standing(byte);
+    let (inside, number, name) = part_of_module(flaw.place);
+    said.say(&[
+        Part::Words("At byte "),
+        Part::Number(flaw.at),
+        Part::Words(" ("),
+        Part::Hex(flaw.at),
+        behind,
+        there,
+        stands,
+        inside,
+        number,
+        name,
+        Part::Words(": "),
+        Part::Words(flaw.lack.text()),
+    ])?;
     said.say_words(
         "`exec` takes modules of WebAssembly 1.0 without floating point: see that the file is whole, and how it was made.",
     )
+}
+
+/// What is said of the byte at the place, behind its number.
+fn standing(byte: Option<u8>) -> (Part<'static>, Part<'static>, Part<'static>) {
+    match byte {
+        Some(byte) => (
+            Part::Words("), where "),
+            Part::Byte(byte),
+            Part::Words(" stands"),
+        ),
+        None => (Part::Words(")"), Part::Words(""), Part::Words("")),
+    }
+}
+
+/// What is said of the part of the module that the place is in.
+fn part_of_module(place: Place) -> (Part<'static>, Part<'static>, Part<'static>) {
+    match place {
+        Place::File => (Part::Words(""), Part::Words(""), Part::Words("")),
+        Place::Section(number) => (
+            Part::Words(", in section "),
+            Part::Number(usize::from(number)),
+            Part::Words(section_name(number)),
+        ),
+        Place::Body(number) => (
+            Part::Words(", in the body of function "),
+            Part::Number(number as usize),
+            Part::Words(" of the module's own, from 0"),
+        ),
+    }
 }
 
 /// The name of the section with a number.

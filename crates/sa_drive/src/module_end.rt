@@ -1,6 +1,7 @@
 //! What is said of a module that `exec` doesn't run, or that ended by itself.
 
 use crate::cause::Cause;
+use crate::function::say_function;
 use crate::malformed::malformed;
 use crate::unlinked::unlinked;
 use sa_explain_scene::{Part, Sentences};
@@ -8,16 +9,30 @@ use sa_tree::{FaultKind, NoMemory};
 use std::alloc::{AllocError, Global};
 use wa_syntax::TrapKind;
 
-/// What a cause means that a module of these bytes ended with; nothing where no module has such an end.
-pub fn module_end(alloc: Global, module: &[u8], cause: Cause) -> Result<Vec<u8>, NoMemory> {
+/// What a cause means that a module of these bytes ended with, in this function where it is known; nothing where no module has such an
+/// end.
+pub fn module_end(
+    alloc: Global,
+    module: &[u8],
+    cause: Cause,
+    func: Option<usize>,
+) -> Result<Vec<u8>, NoMemory> {
     let mut said = Sentences::new(alloc);
     match cause {
         Cause::Malformed => malformed(module, &mut said)?,
-        Cause::Invalid(func) => invalid(func, &mut said)?,
+        Cause::Invalid(own) => invalid(own, &mut said)?,
         Cause::Unlinked(number) => unlinked(alloc, module, number, &mut said)?,
         Cause::Segment => segment(&mut said)?,
-        Cause::Trap(kind) => trap(kind, &mut said)?,
-        Cause::TooDeep => too_deep(&mut said)?,
+        Cause::Trap(kind) => {
+            trap(kind, &mut said)?;
+            say_function(alloc, module, func, "It was in function ", &mut said)?;
+            said.say_words("Look at what has made the module; `listing` shows its instructions.")?;
+        }
+        Cause::TooDeep => {
+            said.say_words("40000 functions of the module are running, and one more begins.")?;
+            say_function(alloc, module, func, "It is called in function ", &mut said)?;
+            said.say_words("See that what calls itself comes to an end, or make a loop of it.")?;
+        }
         Cause::Stopped(code, _) => stopped(code, &mut said)?,
         _ => {}
     }
@@ -56,13 +71,7 @@ fn trap(kind: TrapKind, said: &mut Sentences) -> Result<(), AllocError> {
         TrapKind::Element => "A call through the table is past its end.",
         TrapKind::Uninitialised => "A call through the table is of an element that was never set.",
         TrapKind::Mismatch => "A call through the table is of a function of another type.",
-    })?;
-    said.say_words("Look at what has made the module; `listing` shows its instructions.")
-}
-
-fn too_deep(said: &mut Sentences) -> Result<(), AllocError> {
-    said.say_words("40000 functions of the module are running, and one more begins.")?;
-    said.say_words("See that what calls itself comes to an end, or make a loop of it.")
+    })
 }
 
 /// A module that has called `env.stop` with this code.

@@ -26,6 +26,8 @@ pub struct Outcome<'a> {
     pub refusals: Vec<Refusal>,
     /// How many steps the machine made, where they are to be shown.
     pub steps: Option<u64>,
+    /// The function of the module whose instruction ended its run by a trap or a call that is too deep, where one did.
+    pub func: Option<usize>,
     /// Whether err has taken all lines of the trace, where there is one.
     pub listening: Listening,
 }
@@ -56,6 +58,7 @@ impl<'a> Outcome<'a> {
             further: Vec::new(alloc),
             refusals: Vec::new(alloc),
             steps: None,
+            func: None,
             listening: Listening::Yes,
         }
     }

@@ -114,6 +114,7 @@ fn run_valid<I: Source, O: Sink>(
         cause: cause_of(run.answer, fuel),
         done: done_of(run.answer),
         steps: run.steps,
+        func: run.func,
     }
 }
 

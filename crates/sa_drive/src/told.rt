@@ -100,6 +100,7 @@ fn run_built_told<'a, I: Source, O: Sink, E: Sink>(
         cause: at_place(cause, positions.as_slice(), &sources),
         done: done_of(traced.run.answer),
         steps: traced.run.steps,
+        func: traced.run.func,
     };
     let outcome = ended.outcome(alloc, sources, "", bytes, stats);
     Outcome {

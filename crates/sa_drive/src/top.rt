@@ -4,7 +4,7 @@ ghost use Rattle.std.specs.Prelude.{◌≡◌, ◌≢◌, ◌⊎◌, ◌&&◌, [
 ghost use Rattle.sa_outside.specs.Output.{Grew};
 ghost use Rattle.sa_trace.specs.Handing.{Sink as Taken, sink};
 ghost use Rattle.sa_trace.specs.declared.sinks.Listening.TheVariants as listening;
-ghost use Rattle.sa_words.specs.Line.{detail_of, line_in, line_of};
+ghost use Rattle.sa_words.specs.Line.{asked_detail, line_in, line_of};
 ghost use Rattle.sa_words.specs.declared.command.Detail.TheVariants.{Brief};
 ghost use Rattle.sa_drive.specs.Answer.{Does, IsTellable, Obeys, PrintsNone, ReadsNone};
 ghost use Rattle.sa_drive.specs.Answer.{RunsNone, TellsOne, WritesNone, asks_stats, has_steps, module_file};
@@ -53,7 +53,7 @@ pub fn sather<S: WriteFiles, I: Source, O: Sink, E: Sink>(
         (line_in (map string_bytes words.now)) outcome
         × IsTellable (line_in (map string_bytes words.now)) outcome
         × IsExitOf outcome (between middle told) result
-        × IsExplained (line_in (map string_bytes words.now)) (between told (sink (E.output err.new) (E.faults err.new))) }
+        × IsExplained (map string_bytes words.now) (between told (sink (E.output err.new) (E.faults err.new))) }
 
     // A command that runs no module on the input takes nothing from it, and has the status 0 at `Done`.
     ensures input { RunsNone (line_in (map string_bytes words.now)) → input.new ≡ input.old }
@@ -102,7 +102,7 @@ fn obey<'a, S: WriteFiles, I: Source, O: Sink, E: Sink>(
     ensures obeys { Obeys (outside (part S.files S.faults store.old store.new) (part I.input I.faults input.old input.new)
         (part O.output O.faults out.old out.new) (part E.output E.faults err.old err.new))
         (line_in (map string_bytes words.now)) result.outcome }
-    ensures detail { (result.asked.detail ≡ detail_of (line_in (map string_bytes words.now))) ⊎ (result.asked.detail ≡ Brief) }
+    ensures detail { (result.asked.detail ≡ asked_detail (map string_bytes words.now)) ⊎ (result.asked.detail ≡ Brief) }
     ensures file { result.outcome.cause ≢ Cause.NoMemory → result.outcome.file.now ≡ module_file (line_in (map string_bytes words.now)) }
     ensures steps { is_some result.outcome.steps ≡ (asks_stats (line_in (map string_bytes words.now)) && has_steps result.outcome.cause) }
     ensures further { TellsOne (line_in (map string_bytes words.now)) → result.outcome.further.items ≡ [] }
@@ -117,10 +117,15 @@ fn obey<'a, S: WriteFiles, I: Source, O: Sink, E: Sink>(
 {
     let command = match command_of(alloc, words) {
         Ok(command) => command,
-        Err(WordsFault::Usage) => return without_command(alloc, Cause::Usage),
-        Err(WordsFault::NoMemory) => return without_command(alloc, Cause::NoMemory),
+        Err(WordsFault::Usage) => {
+            let asked = Asked::of_words(words);
+            return without_command(alloc, asked, Cause::Usage);
+        }
+        Err(WordsFault::NoMemory) => {
+            return without_command(alloc, Asked::brief(words), Cause::NoMemory);
+        }
     };
-    let asked = Asked::of_command(&command);
+    let asked = Asked::of_command(words, &command);
     let outcome = do_command(alloc, command, store, input, out, err);
     Obeyed { outcome, asked }
 }
@@ -167,10 +172,10 @@ fn do_command<'a, S: WriteFiles, I: Source, O: Sink, E: Sink>(
     }
 }
 
-/// What comes of words that give no command, for this cause, whose line is all that is told of it.
-fn without_command<'a>(alloc: Global, cause: Cause) -> Obeyed<'a>
+/// What comes of words that give no command, for this cause, of which so much is to be told.
+fn without_command<'a>(alloc: Global, asked: Asked<'a>, cause: Cause) -> Obeyed<'a>
     ensures cause { result.outcome.cause ≡ cause }
-    ensures detail { result.asked.detail ≡ Brief }
+    ensures detail { result.asked.detail ≡ asked.detail }
     ensures done { result.outcome.done ≡ 0 }
     ensures bytes { result.outcome.«module».items ≡ [] }
     ensures file { result.outcome.file.now ≡ [] }
@@ -180,6 +185,6 @@ fn without_command<'a>(alloc: Global, cause: Cause) -> Obeyed<'a>
 {
     Obeyed {
         outcome: Outcome::without_module(alloc, cause, no_sources(alloc)),
-        asked: Asked::brief(),
+        asked,
     }
 }

@@ -4,28 +4,53 @@
 use sa_explain_scene::{Scene, Tokens, has_parameter, is_block};
 use sa_lex::{Sign, TokenKind, Word};
 
-/// The class of a value, and the number of the token behind it.
+/// The class of a value, which is its type, and the number of the token behind it.
 #[derive(Clone, Copy)]
 pub(crate) struct Value<'a> {
     pub class: &'a [u8],
     pub behind: usize,
 }
 
+/// A class as it is named.
+#[derive(Clone, Copy)]
+struct Named<'a> {
+    class: &'a [u8],
+    /// Whether types follow its name, so that the name isn't the type.
+    has_types: bool,
+}
+
+impl<'a> Named<'a> {
+    /// The type, where it is the name alone.
+    fn plain(self) -> Option<&'a [u8]> {
+        (!self.has_types).then_some(self.class)
+    }
+}
+
+/// A class as it is named or known, and the number of the token behind what tells it.
+#[derive(Clone, Copy)]
+struct Primary<'a> {
+    named: Named<'a>,
+    behind: usize,
+}
+
 /// The value that begins at a token, where it is a literal, a new object or a variable and nothing is done with it.
 pub(crate) fn value_at<'a>(scene: Scene<'a>, at: usize) -> Option<Value<'a>> {
-    let value = primary_at(scene, at)?;
-    if goes_on(scene.tokens.kind(value.behind)) {
+    let primary = primary_at(scene, at)?;
+    if goes_on(scene.tokens.kind(primary.behind)) {
         return None;
     }
-    Some(value)
+    Some(Value {
+        class: primary.named.plain()?,
+        behind: primary.behind,
+    })
 }
 
 /// The literal, the new object or the variable at a token.
-fn primary_at<'a>(scene: Scene<'a>, at: usize) -> Option<Value<'a>> {
+fn primary_at<'a>(scene: Scene<'a>, at: usize) -> Option<Primary<'a>> {
     if scene.tokens.is_lower(at) {
-        let declared = declared_before(scene, at)?;
-        return Some(Value {
-            class: declared.class?,
+        let place = declaration_before(scene, at)?;
+        return Some(Primary {
+            named: class_of_declaration(scene, place)?,
             behind: at.saturating_add(1),
         });
     }
@@ -33,7 +58,7 @@ fn primary_at<'a>(scene: Scene<'a>, at: usize) -> Option<Value<'a>> {
 }
 
 /// The literal or the new object at a token.
-fn made_at<'a>(scene: Scene<'a>, at: usize) -> Option<Value<'a>> {
+fn made_at<'a>(scene: Scene<'a>, at: usize) -> Option<Primary<'a>> {
     let tokens = scene.tokens;
     if tokens.is_sign(at, Sign::Hash) {
         return object_at(scene, at.saturating_add(1));
@@ -45,8 +70,11 @@ fn made_at<'a>(scene: Scene<'a>, at: usize) -> Option<Value<'a>> {
         TokenKind::Text(_) => "STR",
         _ => return None,
     };
-    Some(Value {
-        class: class.as_bytes(),
+    Some(Primary {
+        named: Named {
+            class: class.as_bytes(),
+            has_types: false,
+        },
         behind: behind_texts(tokens, at),
     })
 }
@@ -63,16 +91,39 @@ fn behind_texts(tokens: Tokens<'_>, at: usize) -> usize {
 }
 
 /// The new object whose class is named at a token.
-fn object_at<'a>(scene: Scene<'a>, name: usize) -> Option<Value<'a>> {
-    let class = class_named_at(scene, name)?;
-    let next = name.saturating_add(1);
-    if scene.tokens.is_sign(next, Sign::LeftParen) {
-        let behind = scene.tokens.behind_bracket(next)?;
-        return Some(Value { class, behind });
+fn object_at<'a>(scene: Scene<'a>, name: usize) -> Option<Primary<'a>> {
+    let ty = type_at(scene, name)?;
+    if scene.tokens.is_sign(ty.behind, Sign::LeftParen) {
+        return Some(Primary {
+            named: ty.named,
+            behind: scene.tokens.behind_bracket(ty.behind)?,
+        });
     }
-    Some(Value {
-        class,
-        behind: next,
+    Some(ty)
+}
+
+/// The class that is named at a token, with the types behind it where it has parameters.
+fn type_at<'a>(scene: Scene<'a>, at: usize) -> Option<Primary<'a>> {
+    let next = at.saturating_add(1);
+    if let Some(class) = class_named_at(scene, at) {
+        return Some(Primary {
+            named: Named {
+                class,
+                has_types: false,
+            },
+            behind: next,
+        });
+    }
+    let class = scene.table.class(scene.tokens.bytes(at))?;
+    if !scene.tokens.is_sign(next, Sign::LeftBrace) {
+        return None;
+    }
+    Some(Primary {
+        named: Named {
+            class: class.name.name.as_slice(),
+            has_types: true,
+        },
+        behind: scene.tokens.behind_bracket(next)?,
     })
 }
 
@@ -113,8 +164,18 @@ pub(crate) struct Declared<'a> {
     pub class: Option<&'a [u8]>,
 }
 
-/// The declaration of the variable that is named at a token: the last one of its feature up to there, if it is still in force.
+/// The declaration of the variable that is named at a token, with its class where this is its type.
 pub(crate) fn declared_before<'a>(scene: Scene<'a>, at: usize) -> Option<Declared<'a>> {
+    let place = declaration_before(scene, at)?;
+    let class = match class_of_declaration(scene, place) {
+        Some(named) => named.plain(),
+        None => None,
+    };
+    Some(Declared { at: place, class })
+}
+
+/// The place of the last declaration in the feature of the variable that is named at a token, if it is still in force there.
+fn declaration_before(scene: Scene<'_>, at: usize) -> Option<usize> {
     let tokens = scene.tokens;
     let name = tokens.bytes(at);
     let mut found = None;
@@ -129,13 +190,7 @@ pub(crate) fn declared_before<'a>(scene: Scene<'a>, at: usize) -> Option<Declare
         }
     }
     let place = found?;
-    if !is_in_force(tokens, place, at) {
-        return None;
-    }
-    Some(Declared {
-        at: place,
-        class: class_of_declaration(scene, place),
-    })
+    is_in_force(tokens, place, at).then_some(place)
 }
 
 /// Whether a `typecase` tests the variable at a token, so that its branches see another type.
@@ -187,7 +242,7 @@ fn ends_statements(kind: Option<&TokenKind>) -> bool {
 }
 
 /// The class of what is declared at a token.
-fn class_of_declaration<'a>(scene: Scene<'a>, at: usize) -> Option<&'a [u8]> {
+fn class_of_declaration<'a>(scene: Scene<'a>, at: usize) -> Option<Named<'a>> {
     let tokens = scene.tokens;
     let next = at.saturating_add(1);
     if tokens.is_sign(next, Sign::Declare) {
@@ -195,16 +250,14 @@ fn class_of_declaration<'a>(scene: Scene<'a>, at: usize) -> Option<&'a [u8]> {
         if goes_on(tokens.kind(value.behind)) {
             return None;
         }
-        return Some(value.class);
+        return Some(value.named);
     }
-    let ty = colon_behind(tokens, at)?.saturating_add(1);
-    if tokens.is_sign(ty.saturating_add(1), Sign::LeftBrace) {
-        return None;
-    }
-    class_named_at(scene, ty)
+    let ty = type_at(scene, colon_behind(tokens, at)?.saturating_add(1))?;
+    Some(ty.named)
 }
 
-/// The class of what stands before the `.` at a token, where it is a literal, a new object or a variable.
+/// The class of what stands before the `.` at a token, with or without types behind its name, where it is a literal, a new object or a
+/// variable.
 pub(crate) fn receiver_before<'a>(scene: Scene<'a>, dot: usize) -> Option<&'a [u8]> {
     let first = first_of_primary(scene.tokens, dot)?;
     if is_part(scene.tokens, first) {
@@ -214,7 +267,7 @@ pub(crate) fn receiver_before<'a>(scene: Scene<'a>, dot: usize) -> Option<&'a [u
     if value.behind != dot {
         return None;
     }
-    Some(value.class)
+    Some(value.named.class)
 }
 
 /// The class of the whole left operand of the operator at a token, where it is a literal, a new object or a variable.
@@ -227,7 +280,7 @@ pub(crate) fn operand_before<'a>(scene: Scene<'a>, operator: usize) -> Option<&'
     if value.behind != operator {
         return None;
     }
-    Some(value.class)
+    value.named.plain()
 }
 
 /// Whether an operand begins behind this token, and none goes on.
@@ -262,9 +315,11 @@ fn begins_operand(kind: Option<&TokenKind>) -> bool {
 
 /// The token with which a primary begins that ends before a token.
 fn first_of_primary(tokens: Tokens<'_>, behind: usize) -> Option<usize> {
-    let last = behind.checked_sub(1)?;
-    if tokens.is_sign(last, Sign::RightParen) {
-        return tokens.opening_of(last)?.checked_sub(2);
+    let mut last = behind.checked_sub(1)?;
+    for closing in [Sign::RightParen, Sign::RightBrace] {
+        if tokens.is_sign(last, closing) {
+            last = tokens.opening_of(last)?.checked_sub(1)?;
+        }
     }
     if tokens.is_class_name(last) {
         return last.checked_sub(1);

@@ -14,6 +14,9 @@ use std::alloc::AllocError;
 /// How many bytes of the line are shown on each side of the place.
 const AROUND: usize = 100;
 
+/// The byte order mark of UTF-8.
+const ORDER_MARK: &[u8] = b"\xef\xbb\xbf";
+
 /// Adds the line in which a span of the text begins, which has this number, and marks below it what of the span is in it.
 ///
 /// # Errors
@@ -26,7 +29,7 @@ pub fn put_marked(
     mark: Span,
 ) -> Result<(), AllocError> {
     let start = mark.start.min(text.len());
-    let line = line_around(text, start);
+    let line = without_order_mark(line_around(text, start), text);
     let shown = shown_of(line, start);
     let mut digits = Buffer::new();
     let digits = digits.format(number as u64);
@@ -56,6 +59,18 @@ fn line_around(text: &[u8], place: usize) -> Span
     Span {
         start: place.saturating_sub(front),
         end: place.saturating_add(back),
+    }
+}
+
+/// A line without the byte order mark that a text may begin with, which no screen shows.
+fn without_order_mark(line: Span, text: &[u8]) -> Span {
+    if line.start == 0 && text.starts_with(ORDER_MARK) {
+        Span {
+            start: ORDER_MARK.len(),
+            end: line.end.max(ORDER_MARK.len()),
+        }
+    } else {
+        line
     }
 }
 

@@ -4,10 +4,13 @@ use crate::scene::Scene;
 use crate::tokens::Tokens;
 use sa_lex::{Sign, TokenKind};
 use std::alloc::{AllocError, Global};
-use strsim::generic_levenshtein;
+use strsim::generic_damerau_levenshtein;
 
-/// How many letters may differ.
+/// How many letters may differ, where two neighbours that are swapped are one.
 const MOST_EDITS: usize = 2;
+
+/// How long names are at most that are compared, since that takes the product of their lengths.
+const LONGEST: usize = 64;
 
 /// The names that have been looked at, and the nearest one of them.
 #[derive(Clone, Copy)]
@@ -23,7 +26,11 @@ impl<'a> Nearest<'a> {
     fn new(to: &'a [u8]) -> Nearest<'a> {
         Nearest {
             to,
-            limit: MOST_EDITS.min(to.len() / 3),
+            limit: if to.len() > LONGEST {
+                0
+            } else {
+                MOST_EDITS.min(to.len() / 3)
+            },
             found: None,
         }
     }
@@ -33,7 +40,7 @@ impl<'a> Nearest<'a> {
         if self.limit == 0 || name.len().abs_diff(self.to.len()) > self.limit || name == self.to {
             return Ok(());
         }
-        let edits = generic_levenshtein(alloc, self.to, name)?;
+        let edits = generic_damerau_levenshtein(alloc, self.to, name)?;
         if edits <= self.limit {
             self.found = Some(name);
             self.limit = edits.saturating_sub(1);

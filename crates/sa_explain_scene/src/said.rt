@@ -32,6 +32,8 @@ pub enum Part<'a> {
     Number(usize),
     /// A number as `0x`, and its hexadecimal digits.
     Hex(usize),
+    /// A byte by its two hexadecimal digits.
+    Byte(u8),
     /// So many arguments.
     Arguments(usize),
 }
@@ -82,6 +84,7 @@ impl Sentences {
             Part::File(name) => self.put_whole(name),
             Part::Number(number) => self.put_number(number),
             Part::Hex(number) => self.put_hex(number),
+            Part::Byte(byte) => self.put_byte(byte),
             Part::Arguments(count) => self.put_arguments(count),
         }
     }
@@ -99,9 +102,19 @@ impl Sentences {
             let digit = (number >> (4 * (DIGITS - 1 - back))) & 0xf;
             begun = begun || digit > 0 || back + 1 == DIGITS;
             if begun {
-                self.text.push(HEX.get(digit).copied().unwrap_or(b'0'))?;
+                self.put_digit(digit)?;
             }
         }
+        Ok(())
+    }
+
+    fn put_byte(&mut self, byte: u8) -> Result<(), AllocError> {
+        self.put_digit(usize::from(byte >> 4))?;
+        self.put_digit(usize::from(byte & 0xf))
+    }
+
+    fn put_digit(&mut self, digit: usize) -> Result<(), AllocError> {
+        self.text.push(HEX.get(digit).copied().unwrap_or(b'0'))?;
         Ok(())
     }
 

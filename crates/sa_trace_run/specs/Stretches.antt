@@ -35,7 +35,8 @@ module _ (b : Beginning) where
   -- the run came to this answer within the fuel, and has put these bytes
   abbrev pub HasRunTo : (fuel : ℕ) → Answer → (steps : ℕ) → (input : Option source.Input) → (put : List ℕ) → Type 0
   HasRunTo fuel given steps input put =
-      HasRunModule b.program fuel (record { answer = given; steps = steps }) (streams b.input (Some [])) (streams input (Some put))
+      HasRunModule b.program fuel (record { answer = given; steps = steps; func = None })
+      (streams b.input (Some [])) (streams input (Some put))
 
   -- the run can go on, and has put these bytes so far
   pub record GoesOn (machine : Progress) (held : List ℕ) (input : Option source.Input) (ended : Bool) (put : List ℕ) : Type 0 where

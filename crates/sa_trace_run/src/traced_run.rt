@@ -87,6 +87,7 @@ pub fn run_traced<I: Source, O: Sink, E: Sink>(
         run: Run {
             answer,
             steps: running.machine.steps(),
+            func: running.machine.halted_in(),
         },
         listening: running.listening,
     }
@@ -99,7 +100,11 @@ fn unrun(answer: Answer) -> TracedRun
     ensures listening { result.listening ≡ Listening.Yes }
 {
     TracedRun {
-        run: Run { answer, steps: 0 },
+        run: Run {
+            answer,
+            steps: 0,
+            func: None,
+        },
         listening: Listening::Yes,
     }
 }

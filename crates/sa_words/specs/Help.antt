@@ -1,6 +1,6 @@
--- Which words ask for help, and for the version.
-use Rattle.std.specs.Prelude.{ℕ, ◌||◌, Bool, false, List, [], ◌∷◌, Option, None, Some, codes, bytes_eq}
-use Rattle.std.specs.Prelude.{find, if◌then◌else◌}
+-- Which words ask for help, for the version, and for the reason why they are no command.
+use Rattle.std.specs.Prelude.{ℕ, ◌&&◌, ◌||◌, Bool, false, List, [], ◌∷◌, Option, None, Some, codes, bytes_eq}
+use Rattle.std.specs.Prelude.{find, if◌then◌else◌, is_some}
 use Rattle.std.specs.Option.{option_map_or}
 use Rattle.sa_words.specs.declared.command.Topic.{Topic}
 use Rattle.sa_words.specs.declared.command.Topic.TheVariants as topic
@@ -46,3 +46,20 @@ asked_topic (word ∷ rest) = if is_help word then Some topic.All else topic_nam
 abbrev pub asks_version : List (List ℕ) → Bool
 asks_version (word ∷ []) = bytes_eq word (codes "--version") || bytes_eq word (codes "-V")
 asks_version _ = false
+
+-- the words begin with the name of a command
+abbrev pub begins_with_command : List (List ℕ) → Bool
+begins_with_command [] = false
+begins_with_command (word ∷ rest) = is_some (topic_named word)
+
+-- a word that asks for an explanation, wherever it stands
+abbrev pub is_explain : List ℕ → Bool
+is_explain word = bytes_eq word (codes "--explain")
+
+-- an explanation is asked for by a word before the first `--`
+abbrev pub asks_explanation : List (List ℕ) → Bool
+asks_explanation words = option_map_or is_explain (find (λ word. is_explain word || ends_options word) words) false
+
+-- words that are no command ask for the reason where they begin with the name of one and ask for an explanation
+abbrev pub asks_reason : List (List ℕ) → Bool
+asks_reason words = begins_with_command words && asks_explanation words

@@ -17,7 +17,7 @@ use Rattle.sa_words.specs.declared.command.Detail.{Detail}
 use Rattle.sa_words.specs.declared.command.Detail.TheVariants.{Brief, Explained}
 use Rattle.sa_words.specs.declared.command.Extent.{Extent}
 use Rattle.sa_words.specs.declared.command.Extent.TheVariants.{Needed, All}
-use Rattle.sa_words.specs.Help.{asked_topic, asks_help, asks_version, topic_named}
+use Rattle.sa_words.specs.Help.{asked_topic, asks_help, asks_reason, asks_version, topic_named}
 use Rattle.sa_words.specs.declared.command.Topic.{Topic}
 use Rattle.sa_words.specs.declared.command.Topic.TheVariants as topic
 use Rattle.sa_words.specs.declared.command.Trace.{Trace}
@@ -55,12 +55,16 @@ line_of (command.Explain word) = Explain word.now
 line_of (command.Library name) = Library (option_map (λ text. text.now) name)
 
 -- how much a command asks to be told of the cause of its end
-abbrev pub detail_of : Option Line → Detail
-detail_of (Some (Run fuel room stats contracts trace detail files)) = detail
-detail_of (Some (Build room contracts detail out sites files)) = detail
-detail_of (Some (Check contracts extent detail files)) = detail
-detail_of (Some (Exec fuel pages stats detail file)) = detail
+abbrev pub detail_of : Line → Detail
+detail_of (Run fuel room stats contracts trace detail files) = detail
+detail_of (Build room contracts detail out sites files) = detail
+detail_of (Check contracts extent detail files) = detail
+detail_of (Exec fuel pages stats detail file) = detail
 detail_of _ = Brief
+
+-- how much words that are no command ask to be told of that
+abbrev pub detail_without_command : List Text → Detail
+detail_without_command words = if asks_reason words then Explained else Brief
 
 -- the fuel, which has no limit but that of its type, and else that limit
 abbrev pub fuel_in : List Row → Option ℕ
@@ -206,3 +210,7 @@ abbrev pub line_in : List Text → Option Line
 line_in words =
     if asks_help words then option_map Help (asked_topic words)
     else (if asks_version words then Some Version else plain_line_in words)
+
+-- how much words ask to be told of the cause of their end: as much as the command that they are does, if they are one
+abbrev pub asked_detail : List Text → Detail
+asked_detail words = option_map_or detail_of (line_in words) (detail_without_command words)

@@ -1,7 +1,8 @@
-//! Words that ask for help, or for the version.
+//! Words that ask for help, for the version, or for the reason why they are no command.
 
 ghost use Rattle.std.specs.Prelude.{◌≡◌, map, string_bytes};
-ghost use Rattle.sa_words.specs.Help.{asked_topic, asks_help, asks_version, ends_options, is_help, telling_topic, topic_named};
+ghost use Rattle.sa_words.specs.Help.{asked_topic, asks_explanation, asks_help, asks_reason, asks_version, begins_with_command};
+ghost use Rattle.sa_words.specs.Help.{ends_options, is_explain, is_help, telling_topic, topic_named};
 
 use crate::command::Topic;
 
@@ -41,7 +42,7 @@ pub(crate) fn asked_topic(words: &[String]) -> Option<Topic>
 }
 
 /// The command of this name.
-pub(crate) fn topic_named(name: &str) -> Option<Topic>
+pub fn topic_named(name: &str) -> Option<Topic>
     ensures { result ≡ topic_named name.now }
 {
     match name {
@@ -78,4 +79,38 @@ pub(crate) fn asks_version(words: &[String]) -> bool
         [word] => word.as_str() == "--version" || word.as_str() == "-V",
         _ => false,
     }
+}
+
+/// Whether words that are no command ask for the reason: they begin with the name of one, and ask for an explanation.
+pub(crate) fn asks_reason(words: &[String]) -> bool
+    ensures { result ≡ asks_reason (map string_bytes words.now) }
+{
+    begins_with_command(words) && asks_explanation(words)
+}
+
+/// Whether words begin with the name of a command.
+fn begins_with_command(words: &[String]) -> bool
+    ensures { result ≡ begins_with_command (map string_bytes words.now) }
+{
+    match words.first() {
+        Some(word) => topic_named(word.as_str()).is_some(),
+        None => false,
+    }
+}
+
+/// Whether an explanation is asked for: by `--explain` before the first `--`.
+fn asks_explanation(words: &[String]) -> bool
+    ensures { result ≡ asks_explanation (map string_bytes words.now) }
+{
+    match words.iter().find(|word| { is_explain(word.as_str()) || ends_options(word.as_str()) }) {
+        Some(word) => is_explain(word.as_str()),
+        None => false,
+    }
+}
+
+/// Whether a word asks for an explanation, wherever it stands.
+fn is_explain(word: &str) -> bool
+    ensures { result ≡ is_explain word.now }
+{
+    word == "--explain"
 }

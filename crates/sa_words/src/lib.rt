@@ -8,6 +8,7 @@ mod command;
 mod detail;
 mod fault;
 mod help;
+mod mistake;
 mod number;
 mod program;
 mod read;
@@ -17,7 +18,9 @@ mod telling;
 pub use command::{
     Assemble, Build, Check, Command, Contracts, Detail, Exec, Extent, Listing, Run, Topic, Trace,
 };
-pub use detail::detail_of;
+pub use detail::{detail_of, detail_without_command};
 pub use fault::WordsFault;
+pub use help::topic_named;
+pub use mistake::{Mistake, Needs, mistake_in};
 pub use read::command_of;
 pub use subcommand::ROOM;

@@ -16,7 +16,7 @@ use clap::error::ErrorKind;
 use std::alloc::Global;
 
 /// How many words are taken at most.
-const MOST_WORDS: usize = 65_535;
+pub(crate) const MOST_WORDS: usize = 65_535;
 
 /// What the words of a command line, without the program's name, ask for.
 ///

@@ -15,23 +15,23 @@ use clap::ArgMatches;
 use std::alloc::{AllocError, Global};
 
 /// The fuel in steps where none is given.
-const MOST_FUEL: u64 = u64::MAX;
+pub(crate) const MOST_FUEL: u64 = u64::MAX;
 
 /// The room in KiB where none is given.
 pub const ROOM: u32 = 65_536;
 
-const LEAST_ROOM: u64 = 64;
+pub(crate) const LEAST_ROOM: u64 = 64;
 
-const MOST_ROOM: u64 = 1_048_576;
+pub(crate) const MOST_ROOM: u64 = 1_048_576;
 
 /// How many pages a memory has at most.
-const MOST_PAGES: u64 = 65_536;
+pub(crate) const MOST_PAGES: u64 = 65_536;
 
 /// How many classes a generated program has at most.
 const MOST_CLASSES: u64 = 500;
 
 /// The name of the input, where it is read as a file.
-const INPUT: &str = "-";
+pub(crate) const INPUT: &str = "-";
 
 /// The value of the argument with this name, or its first one.
 pub(crate) fn value<'a>(matches: &ArgMatches<'a>, name: &str) -> Option<&'a str>
@@ -41,21 +41,21 @@ pub(crate) fn value<'a>(matches: &ArgMatches<'a>, name: &str) -> Option<&'a str>
 }
 
 /// The values of the argument with this name, or none where it has no entry.
-fn values<'m, 'a>(matches: &'m ArgMatches<'a>, name: &str) -> Option<&'m [&'a str]>
+pub(crate) fn values<'m, 'a>(matches: &'m ArgMatches<'a>, name: &str) -> Option<&'m [&'a str]>
     ensures { option_map (λ texts. map (λ text. text.now) texts.now) result ≡ all_of name.now (rows_of (found_of matches.now)) }
 {
     matches.get_strs(name)
 }
 
 /// The fuel in steps, if it is in its range.
-fn fuel(matches: &ArgMatches<'_>) -> Option<u64>
+pub(crate) fn fuel(matches: &ArgMatches<'_>) -> Option<u64>
     ensures { result ≡ fuel_in (rows_of (found_of matches.now)) }
 {
     number_or(MOST_FUEL, value(matches, "fuel"), 0, MOST_FUEL)
 }
 
 /// The room in KiB, if it is in its range.
-fn room(matches: &ArgMatches<'_>) -> Option<u32>
+pub(crate) fn room(matches: &ArgMatches<'_>) -> Option<u32>
     ensures { result ≡ room_in (rows_of (found_of matches.now)) }
 {
     let room = number_or(
@@ -68,7 +68,7 @@ fn room(matches: &ArgMatches<'_>) -> Option<u32>
 }
 
 /// The bound of the memory in pages, if there is one. None where it isn't in its range.
-fn pages(matches: &ArgMatches<'_>) -> Option<Option<u32>>
+pub(crate) fn pages(matches: &ArgMatches<'_>) -> Option<Option<u32>>
     ensures { result ≡ pages_in (rows_of (found_of matches.now)) }
 {
     match value(matches, "pages") {
@@ -149,7 +149,7 @@ fn files<'a>(alloc: Global, matches: &ArgMatches<'a>) -> Result<Vec<&'a str>, Al
 }
 
 /// Whether the name is one of these.
-fn is_among(name: &str, names: &[&str]) -> bool
+pub(crate) fn is_among(name: &str, names: &[&str]) -> bool
     ensures { result ≡ is_among name.now (map (λ other. other.now) names.now) }
 {
     names.iter().any(|other| name == *other)
@@ -178,7 +178,7 @@ fn run<'a>(alloc: Global, matches: &ArgMatches<'a>) -> Result<Option<Command<'a>
 }
 
 /// Whether nothing may be written under this name: it is that of the input, or of a file that is read.
-fn is_kept(name: &str, files: &[&str]) -> bool
+pub(crate) fn is_kept(name: &str, files: &[&str]) -> bool
     ensures { result ≡ is_kept name.now (map (λ file. file.now) files.now) }
 {
     name == INPUT || is_among(name, files)

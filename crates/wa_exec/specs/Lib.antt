@@ -1,6 +1,7 @@
 pub mod Activations
 pub mod Beginning
 pub mod Goes
+pub mod Halted
 pub mod HandingOn
 pub mod HostCalls
 pub mod Law

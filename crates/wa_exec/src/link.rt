@@ -1,9 +1,10 @@
 //! What a module is linked to (section 4.5.4 of the WebAssembly Core Specification 1.0): the functions of the host, and its
 //! `main`.
 
-ghost use Rattle.std.specs.Prelude.{◌≡◌, ◌≤◌, ◌++◌, ◌||◌, [], ◌∷◌, if◌then◌else◌, bytes_eq, codes, slice_get};
+ghost use Rattle.std.specs.Prelude.{◌≡◌, ◌≤◌, ◌++◌, ◌||◌, [], ◌∷◌, if◌then◌else◌, bytes_eq, codes, count_by, slice_get};
 ghost use Rattle.std.specs.Prelude.{IfOk, IfErr, IfSome, IsNone, Some, None, length, map, option_map};
 ghost use Rattle.wa_code.specs.Codes.{are_same};
+ghost use Rattle.wa_exec.specs.Halted.{begins_before};
 ghost use Rattle.wa_exec.specs.Links.{Names, function_of, host_called};
 ghost use Rattle.wa_syntax.specs.declared.module.ValTy.TheVariants.{I32};
 ghost use Rattle.wa_syntax.specs.Hosts.{from_to, host_named, host_of, is_type, type_of};
@@ -48,6 +49,16 @@ impl Linked {
         Ok(Linked { code, callees })
     }
 
+    /// How many functions begin in front of a place of the code, those of the host among them.
+    pub(crate) fn begun_before(&self, at: usize) -> usize
+        ensures { result ≡ count_by (begins_before at) self.now.callees.items }
+    {
+        self.callees
+            .iter()
+            .filter(|callee| begins_before(callee, at))
+            .count()
+    }
+
     /// Whether a function is of the type with this number, by content.
     pub(crate) fn is_of_type(&self, func: u32, ty: u32) -> bool
         ensures { result ≡ are_same (slice_get self.now.code.func_types.items func) (slice_get self.now.code.first_types.items ty) }
@@ -59,6 +70,16 @@ impl Linked {
             (Some(own), Some(wanted)) => own == wanted,
             _ => false,
         }
+    }
+}
+
+/// Whether a function begins in front of a place of the code, as each one of the host does, which has none of it.
+fn begins_before(callee: &Callee, at: usize) -> bool
+    ensures { result ≡ begins_before at callee.now }
+{
+    match callee {
+        Callee::Host(_) => true,
+        Callee::Own(body) => (body.entry as usize) < at,
     }
 }
 

@@ -3,6 +3,7 @@
 ghost use Rattle.std.specs.Prelude.{◌≡◌, ◌≢◌, ◌≤◌, ◌<◌, max, Some, IfOk, IfErr, OnOk, ◌∷◌, option_to_list};
 ghost use Rattle.wa_exec.specs.Beginning.{IsBeginning};
 ghost use Rattle.wa_exec.specs.Goes.{first};
+ghost use Rattle.wa_exec.specs.Halted.{halted_in};
 ghost use Rattle.wa_exec.specs.Linking.{flat_of};
 ghost use Rattle.wa_exec.specs.Machines.{Stands};
 ghost use Rattle.wa_exec.specs.Outside.{Makes, sides};
@@ -80,6 +81,21 @@ impl Machine {
         ensures { result ≡ self.now.steps }
     {
         self.steps
+    }
+
+    /// The function whose instruction has ended the run, by a trap or by a call that is too deep: its number among all functions of the
+    /// module, the imported ones first. None where the run hasn't ended so.
+    pub fn halted_in(&self) -> Option<usize>
+        ensures { result ≡ halted_in self.now }
+    {
+        match self.halt {
+            Some(Halt::Trap(_) | Halt::TooDeep) => Some(
+                self.linked
+                    .begun_before(self.state.calls.at)
+                    .saturating_sub(1),
+            ),
+            _ => None,
+        }
     }
 
     /// Runs until the steps have reached the fuel or the run halts. A machine that has halted answers its halt again, and

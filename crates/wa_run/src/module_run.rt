@@ -23,11 +23,14 @@ use std::alloc::Global;
 use wa_exec::{Host, Machine};
 use wa_valid::Valid;
 
-/// The answer of a run, and how many steps the machine made.
+/// The answer of a run, how many steps the machine made, and in which function it ended.
 #[derive(Clone, Copy, Debug, PartialEq, Eq)]
 pub struct Run {
     pub answer: Answer,
     pub steps: u64,
+    /// The function whose instruction ended the run, by a trap or by a call that is too deep, where one did: its number among all
+    /// functions of the module, the imported ones first.
+    pub func: Option<usize>,
 }
 
 /// Runs the module that these bytes spell, with at most `fuel` steps. Its output goes to `out` and its input comes from
@@ -60,7 +63,11 @@ pub fn run_bytes<I: Source, O: Sink>(
 {
     match load(alloc, bytes) {
         Ok(valid) => run_module(alloc, &valid, fuel, input, out),
-        Err(answer) => Run { answer, steps: 0 },
+        Err(answer) => Run {
+            answer,
+            steps: 0,
+            func: None,
+        },
     }
 }
 
@@ -94,6 +101,7 @@ pub fn run_module<I: Source, O: Sink>(
             return Run {
                 answer: Answer::NoMemory,
                 steps: 0,
+                func: None,
             };
         }
     };
@@ -102,6 +110,7 @@ pub fn run_module<I: Source, O: Sink>(
         Err(fault) => Run {
             answer: answer_of_start(fault),
             steps: 0,
+            func: None,
         },
     }
 }
@@ -132,6 +141,7 @@ fn run_machine<I: Source, O: Sink>(
     Run {
         answer: handed_on(answer_of_halt(halt), host, out),
         steps: machine.steps(),
+        func: machine.halted_in(),
     }
 }
 

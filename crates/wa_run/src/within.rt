@@ -47,7 +47,11 @@ pub fn run_within<I: Source, O: Sink>(
 {
     match load_within(alloc, bytes, pages) {
         Ok(valid) => run_module(alloc, &valid, fuel, input, out),
-        Err(answer) => Run { answer, steps: 0 },
+        Err(answer) => Run {
+            answer,
+            steps: 0,
+            func: None,
+        },
     }
 }
 

@@ -1,7 +1,7 @@
 //! Part 11 of the sections of docs/ERRORS.md.
 
 /// The texts of this part, each behind the words that ask for it.
-pub(crate) const ERRORS_10: [(&str, &str, &str, &str); 8] = [
+pub(crate) const ERRORS_10: [(&str, &str, &str, &str); 9] = [
     ("frames", "fault: frames", "fault: frames", FRAMES),
     ("fuel spent", "fuel spent", "fuel spent", FUEL_SPENT),
     ("store fault", "store fault", "store fault", STORE_FAULT),
@@ -10,6 +10,12 @@ pub(crate) const ERRORS_10: [(&str, &str, &str, &str); 8] = [
     ("usage", "usage", "usage", USAGE),
     ("no page", "no page", "no page", NO_PAGE),
     ("no file", "no file", "no file", NO_FILE),
+    (
+        "out of memory",
+        "out of memory",
+        "out of memory",
+        OUT_OF_MEMORY,
+    ),
 ];
 
 const FRAMES: &str = r#"fault: frames
@@ -148,7 +154,10 @@ The words are no command: the first one is none of these and none of `help`,
 number that it takes, a file is missing, the file behind `-o` is one of those
 that are read, or `-`, which is the input, stands where a program or a module
 is run or a file is written. `sather help` has a line for each command, and
-`sather help run` the options of `run`.
+`sather help run` the options of `run`. Where the first word is a command and
+`--explain` is among the others, which of these it is stands behind the line:
+of `sather run --explain --stat f.sa` that `run` has no option `--stat`, that
+`--stats` is nearly that, and what to type.
 
     class MAIN is
        main is #OUT + "Hello\n"; end;
@@ -202,4 +211,28 @@ gives `no file: lib takes a name that sather lib lists`.
     sather run f.sa queue.sa
 
 prints `3`.
+"#;
+
+const OUT_OF_MEMORY: &str = r#"out of memory
+
+`out of memory`, status 125.
+
+The system gave no more memory. A program that runs takes its whole room at its
+start, 65 MiB where `--room` gives no other one.
+
+    class MAIN is
+       main is #OUT + "Hello\n"; end;
+    end;
+
+prints `Hello`. Where a process may have 50,000 KiB
+
+    ulimit -v 50000
+    sather run f.sa
+
+gives `out of memory`. With a smaller room it fits:
+
+    ulimit -v 50000
+    sather run --room 1024 f.sa
+
+prints `Hello`.
 "#;

@@ -1,13 +1,7 @@
 //! Part 12 of the sections of docs/ERRORS.md.
 
 /// The texts of this part, each behind the words that ask for it.
-pub(crate) const ERRORS_11: [(&str, &str, &str, &str); 8] = [
-    (
-        "out of memory",
-        "out of memory",
-        "out of memory",
-        OUT_OF_MEMORY,
-    ),
+pub(crate) const ERRORS_11: [(&str, &str, &str, &str); 7] = [
     ("stop", "stop", "stop", STOP),
     ("malformed", "malformed", "malformed", MALFORMED),
     ("invalid", "invalid", "invalid", INVALID),
@@ -16,30 +10,6 @@ pub(crate) const ERRORS_11: [(&str, &str, &str, &str); 8] = [
     ("trap", "trap", "trap", TRAP),
     ("no listing", "no listing", "no listing", NO_LISTING),
 ];
-
-const OUT_OF_MEMORY: &str = r#"out of memory
-
-`out of memory`, status 125.
-
-The system gave no more memory. A program that runs takes its whole room at its
-start, 65 MiB where `--room` gives no other one.
-
-    class MAIN is
-       main is #OUT + "Hello\n"; end;
-    end;
-
-prints `Hello`. Where a process may have 50,000 KiB
-
-    ulimit -v 50000
-    sather run f.sa
-
-gives `out of memory`. With a smaller room it fits:
-
-    ulimit -v 50000
-    sather run --room 1024 f.sa
-
-prints `Hello`.
-"#;
 
 const STOP: &str = r#"stop
 
@@ -68,7 +38,8 @@ const MALFORMED: &str = r#"malformed
 
 The bytes of the file are no module of the integer part of WebAssembly 1.0. It
 is another file, it was cut, or it was made with features that came later, or
-with floating point.
+with floating point. `exec --explain` tells at which byte it is wrong, what
+stands there, and what is wanted.
 
     echo 'class MAIN is main is #OUT + "Hello\n"; end; end;' > f.sa
     sather exec f.sa
@@ -192,7 +163,9 @@ const TRAP: &str = r#"trap
 
 An instruction has no result for its operands, as a quotient by zero or a load
 past the memory, or it is `unreachable`. The list has them all. A module that
-this compiler has built ends by `stop` instead.
+this compiler has built ends by `stop` instead. `exec --explain` tells which of
+these it was and in which function, by its number and the name that it is
+exported under.
 
     cat > m.txt << 'END'
     type ->

@@ -207,7 +207,8 @@ too deep
 `FILE: too deep`, status 126.
 
 40,000 functions of the module are running, and one more begins. Engines have a
-stack of their own, and many end such a module earlier.
+stack of their own, and many end such a module earlier. `exec --explain` tells
+in which function that one is called.
 
     cat > m.txt << 'END'
     type ->

@@ -1,4 +1,4 @@
-use Rattle.std.proofs.Common.{◌∙◌, ℕ, [], Some, refl, subst, sym}
+use Rattle.std.proofs.Common.{None, ◌∙◌, ℕ, [], Some, refl, subst, sym}
 use Rattle.sa_trace.specs.Handing.{sink}
 use Rattle.wa_code.specs.Codes.{row_of}
 use Rattle.sa_trace.specs.declared.sinks.Listening.TheVariants as listening
@@ -52,7 +52,7 @@ returns-clause-ran g c =
     c.in-Ok.ensures c.in-Ok-new.ensures.runs refl refl c.new-3.ensures refl)
     in (
       all.0,
-      subst (λ (n : ℕ). HasRunModule c.args.«module».now c.args.fuel (record { answer = c.run_on-answer.result; steps = n })
+      subst (λ (n : ℕ). HasRunModule c.args.«module».now c.args.fuel (record { answer = c.run_on-answer.result; steps = n; func = None })
           (streams (input.input c.args.input.now) (Some [])) (streams (input.input c.run_on-answer.new.input) (Some all.0))) (sym c.steps.ensures) all.1,
       all.2,
     )

@@ -1,4 +1,4 @@
-use Rattle.std.proofs.Common.{refl}
+use Rattle.std.proofs.Common.{None, refl}
 use Rattle.wa_run.specs.Runs.{streams}
 use Rattle.wa_run.proofs.Runs.{before-run, nothing-passed, spelled-told}
 use Rattle.wa_run.proofs.Spelled.{run-spelled}
@@ -24,4 +24,4 @@ returns-in-Err-clause-ran g c =
 pub returns-in-Err-clause-whole : goal.returns-in-Err-clause-whole
 returns-in-Err-clause-whole g c =
     let here = streams (g.I.Source.input c.args.input.now) (g.O.Sink.output c.args.out.now) in
-    spelled-told c.args.bytes.now c.args.fuel (record { answer = c.in-Err.answer; steps = 0 }) here here (returns-in-Err-clause-ran g c)
+    spelled-told c.args.bytes.now c.args.fuel (record { answer = c.in-Err.answer; steps = 0; func = None }) here here (returns-in-Err-clause-ran g c)

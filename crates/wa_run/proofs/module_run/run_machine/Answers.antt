@@ -1,4 +1,4 @@
-use Rattle.std.proofs.Common.{rules, ◌≤◌, ℕ, Some, refl, sym, subst}
+use Rattle.std.proofs.Common.{None, rules, ◌≤◌, ℕ, Some, refl, sym, subst}
 use Rattle.sa_outside.proofs.Growth.{Grew-trans}
 use Rattle.wa_code.specs.Codes.{row_of}
 use Rattle.wa_exec.specs.Linking.{flat_of}
@@ -35,4 +35,4 @@ returns-clause-ran g c = λ m valid linked runs begins none.
     (spent-at h before after steps c.args.fuel (c.step_until-halt.ensures.tells c.requires.halt) within)
     c.handed_on.result c.args.host.now left here mid after_all none makes closed refl
     in
-    subst (λ (n : ℕ). HasRunModule m c.args.fuel (record { answer = c.handed_on.result; steps = n }) (seen here) after_all) (sym c.steps.ensures) passed)
+    subst (λ (n : ℕ). HasRunModule m c.args.fuel (record { answer = c.handed_on.result; steps = n; func = None }) (seen here) after_all) (sym c.steps.ensures) passed)

@@ -1,4 +1,4 @@
-use Rattle.std.proofs.Common.{refl, sym, subst, []}
+use Rattle.std.proofs.Common.{None, refl, sym, subst, []}
 use Rattle.wa_exec.specs.declared.halt.StartFault.TheVariants as start
 use Rattle.wa_run.specs.declared.answer.Answer.{Answer}
 use Rattle.wa_run.specs.declared.answer.Answer.TheVariants as answer
@@ -15,7 +15,7 @@ returns-in-Err-clause-ran g c =
 pub returns-in-Err-clause-whole : goal.returns-in-Err-clause-whole
 returns-in-Err-clause-whole g c =
     let here = streams (g.I.Source.input c.args.input.now) (g.O.Sink.output c.args.out.now) in
-    run-told c.args.valid.now c.args.fuel (record { answer = answer.NoMemory; steps = 0 }) here here (returns-in-Err-clause-ran g c)
+    run-told c.args.valid.now c.args.fuel (record { answer = answer.NoMemory; steps = 0; func = None }) here here (returns-in-Err-clause-ran g c)
 
 pub returns-in-Ok-new-clause-ran : goal.returns-in-Ok-new-clause-ran
 returns-in-Ok-new-clause-ran g c =
@@ -36,7 +36,7 @@ returns-clause-ran g c =
 pub returns-clause-whole : goal.returns-clause-whole
 returns-clause-whole g c =
     let here = streams (g.I.Source.input c.args.input.now) (g.O.Sink.output c.args.out.now) in
-    run-told c.args.valid.now c.args.fuel (record { answer = c.answer_of_start.result; steps = 0 }) here here (returns-clause-ran g c)
+    run-told c.args.valid.now c.args.fuel (record { answer = c.answer_of_start.result; steps = 0; func = None }) here here (returns-clause-ran g c)
 
 pub returns-clause-starts : goal.returns-clause-starts
 returns-clause-starts g c = λ linked fit before.
