@@ -1,5 +1,6 @@
 mod Innermost
 mod Precedences
+mod SpelledExpressions
 mod SpelledTypes
 mod Stretches
 mod Taken

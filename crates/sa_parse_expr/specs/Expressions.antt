@@ -4,6 +4,7 @@ use Rattle.sa_lex.specs.declared.token.TokenKind.TheVariants as token
 use Rattle.sa_lex.specs.declared.sign.Sign.TheVariants as sign
 use Rattle.sa_lex.specs.declared.word.Word.TheVariants as word
 use Rattle.sa_tree.specs.declared.ty.Ty.{Ty}
+use Rattle.sa_tree.specs.declared.ty.Mode.{Mode}
 use Rattle.sa_tree.specs.declared.ty.Mode.TheVariants.{In, Out, Inout}
 use Rattle.sa_tree.specs.declared.expr.Op.{Op}
 use Rattle.sa_tree.specs.declared.expr.Op.TheVariants.{Plus, Minus, Times, Div, Pow, Mod, Lt, Leq, Gt, Geq, Eq, Neq, And, Or, Negate, Not}
@@ -15,6 +16,8 @@ use Rattle.sa_tree.specs.declared.expr.Expr.{Expr}
 use Rattle.sa_tree.specs.declared.expr.Expr.TheVariants as tree
 use Rattle.sa_parse_expr.specs.declared.grammar.Around.{Around}
 use Rattle.sa_parse_expr.specs.declared.grammar.Around.TheVariants as around
+use Rattle.sa_parse_expr.specs.declared.grammar.Form.{Form}
+use Rattle.sa_parse_expr.specs.declared.grammar.Form.TheVariants as form
 use Rattle.sa_parse_expr.specs.declared.grammar.Scope.{Scope}
 use Rattle.sa_parse_expr.specs.declared.grammar.Scope.TheVariants.{Plain, PostClause}
 use Rattle.sa_parse_expr.specs.declared.operators.Precedence.{Precedence}
@@ -68,6 +71,10 @@ pub data IsTexts : List Lexeme → List ℕ → Type 0 where
   last_text : {l : Lexeme} {bytes : List ℕ} → l.kind ≡ token.Text bytes → IsTexts (l ∷ []) bytes
   more_texts : {l : Lexeme} {ls : List Lexeme} {bytes others : List ℕ} → l.kind ≡ token.Text bytes → IsTexts ls others
       → IsTexts (l ∷ ls) (bytes ++ others)
+
+-- {text} behind a first text: all bytes are these
+abbrev pub ContinuesTexts : List ℕ → List Lexeme → List ℕ → Type 0
+ContinuesTexts first ls bytes = (l : Lexeme) → l.kind ≡ token.Text first → IsTexts (l ∷ ls) bytes
 
 -- optional_type = [type]
 pub data IsOptionalType : List Lexeme → Option Ty → Type 0 where
@@ -207,3 +214,12 @@ mutual
     result_word : {x : Around} {w : Lexeme} → IsWord word.Result w → IsFirst PostClause x (w ∷ []) (tree.Call Implied w.bytes [] w.pos)
     initial_of : {x : Around} {w : Lexeme} {ls : List Lexeme} {e : Expr} → IsWord word.Initial w → IsParenthesised Plain ls e
         → IsFirst PostClause x (w ∷ ls) (tree.Call Implied w.bytes (Value In e ∷ []) w.pos)
+
+-- a form that nests in others
+abbrev pub IsForm : Scope → Form → List Lexeme → Expr → Type 0
+IsForm s (form.Expr x) = IsExpr s x
+IsForm s form.Post = IsPost s around.Open
+
+-- what gives the value behind it this mode, in an argument
+abbrev pub GivesMode : List Lexeme → Mode → Type 0
+GivesMode ls mode = (s : Scope) (ms : List Lexeme) (e : Expr) → IsExpr s around.Open ms e → IsArg s (ls ++ ms) (Value mode e)

@@ -19,6 +19,13 @@ bytes_at text tokens at = option_map_or (λ (token : Token). slice_range text to
 unfoldable pub start_at : List ℕ → List Token → ℕ → ℕ
 start_at text tokens at = option_map_or (λ (token : Token). token.start) (slice_get tokens at) (length text)
 
+-- E06 at the token that stands there, or at the end of the file
+abbrev pub unexpected_at : ℕ → List ℕ → List Token → ℕ → FrontFault
+unexpected_at file text tokens at = Refused (record {
+  rule = UnexpectedToken;
+  pos = record { file = file; at = start_at text tokens at };
+})
+
 -- a token that can't stand where it does, in this file: E06
 abbrev pub IsUnexpected : ℕ → FrontFault → Type 0
 IsUnexpected file (Refused refusal) = (refusal.rule ≡ UnexpectedToken) × (refusal.pos.file ≡ file)

@@ -1,7 +1,11 @@
 //! Expressions, and the conditions of contracts.
 
-ghost use Rattle.std.specs.Prelude.{◌<◌, All, IfErr, IfOk, length};
+ghost use Rattle.std.specs.Prelude.{◌<◌, All, IfErr, IfOk, length, slice_range};
 ghost use Rattle.sa_lex.specs.Token.{IsWithin};
+ghost use Rattle.sa_parse_expr.specs.declared.grammar.Around.TheVariants.{Open};
+ghost use Rattle.sa_parse_expr.specs.declared.grammar.Scope.TheVariants.{Plain};
+ghost use Rattle.sa_parse_expr.specs.Expressions.{IsExpr};
+ghost use Rattle.sa_parse_expr.specs.Lexemes.{between, lexemes_of};
 ghost use Rattle.sa_parse_expr.specs.Places.{IsBehind, IsUnexpected};
 
 use crate::grammar::{Around, Form, Scope, read_form};
@@ -15,6 +19,7 @@ use std::alloc::Global;
 /// E06 stands at the first token with which the tokens from the place on begin no expression, or at the end of the file.
 pub fn read_expr(alloc: Global, tokens: &Tokens<'_>, from: u32) -> Result<(Expr, u32), FrontFault>
     ensures next { IfOk result (λ read. IsBehind tokens.now.list.now from read.1) }
+    ensures spelled { IfOk result (λ read. IsExpr Plain Open (between tokens.now from read.1) read.0) }
     ensures refused { IfErr result (IsUnexpected tokens.now.file) }
 {
     read_condition(alloc, tokens, Scope::Plain, from)
@@ -30,6 +35,7 @@ pub fn read_condition(
     from: u32,
 ) -> Result<(Expr, u32), FrontFault>
     ensures next { IfOk result (λ read. IsBehind tokens.now.list.now from read.1) }
+    ensures spelled { IfOk result (λ read. IsExpr scope Open (between tokens.now from read.1) read.0) }
     ensures refused { IfErr result (IsUnexpected tokens.now.file) }
 {
     read_form(alloc, tokens, scope, Form::Expr(Around::Open), from)
@@ -47,6 +53,7 @@ pub fn expr(
     requires few { length tokens.now < 4294967295 }
     requires short { length src.now < 4294967295 }
     ensures next { IfOk result (λ read. IsBehind tokens.now from read.1) }
+    ensures spelled { IfOk result (λ read. IsExpr Plain Open (slice_range (lexemes_of file src.now tokens.now) from read.1) read.0) }
     ensures refused { IfErr result (IsUnexpected file) }
 {
     let tokens = Tokens {
@@ -70,6 +77,7 @@ pub fn condition(
     requires few { length tokens.now < 4294967295 }
     requires short { length src.now < 4294967295 }
     ensures next { IfOk result (λ read. IsBehind tokens.now from read.1) }
+    ensures spelled { IfOk result (λ read. IsExpr scope Open (slice_range (lexemes_of file src.now tokens.now) from read.1) read.0) }
     ensures refused { IfErr result (IsUnexpected file) }
 {
     let tokens = Tokens {

@@ -2,6 +2,8 @@
 //! expression as a parameter, so that each is proved by itself.
 
 ghost use Rattle.std.specs.Prelude.{◌<◌, IfErr, IfOk};
+ghost use Rattle.sa_parse_expr.specs.Expressions.{IsForm};
+ghost use Rattle.sa_parse_expr.specs.Lexemes.{between};
 ghost use Rattle.sa_parse_expr.specs.Nests.{Nests};
 ghost use Rattle.sa_parse_expr.specs.Places.{IsBehind, IsUnexpected};
 
@@ -61,6 +63,7 @@ impl<F: Fn(Global, &Tokens<'_>, Scope, Form, u32) -> Result<(Expr, u32), FrontFa
         requires nested { Nests self.now.from (F.pre self.now.nested) (F.post self.now.nested) }
         requires from { self.now.from < from }
         ensures next { IfOk result (λ read. IsBehind self.now.tokens.list.now from read.1) }
+        ensures spelled { IfOk result (λ read. IsForm scope form (between self.now.tokens from read.1) read.0) }
         ensures refused { IfErr result (IsUnexpected self.now.tokens.file) }
     {
         (self.nested)(self.alloc, &self.tokens, scope, form, from)
@@ -76,6 +79,7 @@ pub(crate) fn read_form(
     from: u32,
 ) -> Result<(Expr, u32), FrontFault>
     ensures next { IfOk result (λ read. IsBehind tokens.now.list.now from read.1) }
+    ensures spelled { IfOk result (λ read. IsForm scope form (between tokens.now from read.1) read.0) }
     ensures refused { IfErr result (IsUnexpected tokens.now.file) }
 {
     let grammar = Grammar {

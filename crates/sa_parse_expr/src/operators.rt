@@ -13,7 +13,11 @@
 //! The four productions of operators of two operands that go to the left are alike, `operation = operand {operator operand}`,
 //! and have one function; a `Precedence` tells which it reads. An operator stands at its sign or word.
 
-ghost use Rattle.std.specs.Prelude.{◌<◌, ◌≤◌, IfErr, IfOk, OnSome, length};
+ghost use Rattle.std.specs.Prelude.{◌≡◌, ◌<◌, ◌≤◌, IfErr, IfOk, IfSome, OnSome, length};
+ghost use Rattle.sa_tree.specs.declared.expr.Expr.TheVariants as tree;
+ghost use Rattle.sa_parse_expr.specs.Expressions.{IsAdding, IsComparing, IsLogical, IsMultiplying, IsOperator, IsPrefix};
+ghost use Rattle.sa_parse_expr.specs.Expressions.{IsExpr, IsOperand, IsOperation, IsPower, IsUnary};
+ghost use Rattle.sa_parse_expr.specs.Lexemes.{Stands, between};
 ghost use Rattle.sa_parse_expr.specs.Nests.{Nests};
 ghost use Rattle.sa_parse_expr.specs.Places.{IsBehind, IsUnexpected};
 
@@ -38,7 +42,9 @@ pub(crate) enum Precedence {
 }
 
 /// The operator of two operands, which stands at this position.
-fn binary(alloc: Global, op: Op, left: Expr, right: Expr, pos: Pos) -> Result<Expr, AllocError> {
+fn binary(alloc: Global, op: Op, left: Expr, right: Expr, pos: Pos) -> Result<Expr, AllocError>
+    ensures { IfOk result (λ e. e ≡ tree.Binary op left right pos) }
+{
     let left = Boxed::new(alloc, left)?;
     let right = Boxed::new(alloc, right)?;
     Ok(Expr::Binary(op, left, right, pos))
@@ -46,7 +52,8 @@ fn binary(alloc: Global, op: Op, left: Expr, right: Expr, pos: Pos) -> Result<Ex
 
 /// The operator of this precedence that stands there, if there is one.
 fn operator(precedence: Precedence, tokens: &Tokens<'_>, at: u32) -> Option<Op>
-    ensures { OnSome result (at < length tokens.now.list.now) }
+    ensures within { OnSome result (at < length tokens.now.list.now) }
+    ensures spelled { IfSome result (λ op. Stands (IsOperator precedence op) tokens.now at) }
 {
     match precedence {
         Precedence::Logical => logical(tokens, at),
@@ -58,7 +65,8 @@ fn operator(precedence: Precedence, tokens: &Tokens<'_>, at: u32) -> Option<Op>
 
 /// `"and" | "or"`
 fn logical(tokens: &Tokens<'_>, at: u32) -> Option<Op>
-    ensures { OnSome result (at < length tokens.now.list.now) }
+    ensures within { OnSome result (at < length tokens.now.list.now) }
+    ensures spelled { IfSome result (λ op. Stands (IsLogical op) tokens.now at) }
 {
     match tokens.kind(at) {
         Some(TokenKind::Word(Word::And)) => Some(Op::And),
@@ -69,7 +77,8 @@ fn logical(tokens: &Tokens<'_>, at: u32) -> Option<Op>
 
 /// `"=" | "/=" | "<" | "<=" | ">" | ">="`
 fn comparing(tokens: &Tokens<'_>, at: u32) -> Option<Op>
-    ensures { OnSome result (at < length tokens.now.list.now) }
+    ensures within { OnSome result (at < length tokens.now.list.now) }
+    ensures spelled { IfSome result (λ op. Stands (IsComparing op) tokens.now at) }
 {
     match tokens.kind(at) {
         Some(TokenKind::Sign(Sign::Equal)) => Some(Op::Eq),
@@ -84,7 +93,8 @@ fn comparing(tokens: &Tokens<'_>, at: u32) -> Option<Op>
 
 /// `"+" | "-"`
 fn adding(tokens: &Tokens<'_>, at: u32) -> Option<Op>
-    ensures { OnSome result (at < length tokens.now.list.now) }
+    ensures within { OnSome result (at < length tokens.now.list.now) }
+    ensures spelled { IfSome result (λ op. Stands (IsAdding op) tokens.now at) }
 {
     match tokens.kind(at) {
         Some(TokenKind::Sign(Sign::Plus)) => Some(Op::Plus),
@@ -95,7 +105,8 @@ fn adding(tokens: &Tokens<'_>, at: u32) -> Option<Op>
 
 /// `"*" | "/" | "%"`
 fn multiplying(tokens: &Tokens<'_>, at: u32) -> Option<Op>
-    ensures { OnSome result (at < length tokens.now.list.now) }
+    ensures within { OnSome result (at < length tokens.now.list.now) }
+    ensures spelled { IfSome result (λ op. Stands (IsMultiplying op) tokens.now at) }
 {
     match tokens.kind(at) {
         Some(TokenKind::Sign(Sign::Star)) => Some(Op::Times),
@@ -107,7 +118,8 @@ fn multiplying(tokens: &Tokens<'_>, at: u32) -> Option<Op>
 
 /// `"-" | "~"`
 fn prefix(tokens: &Tokens<'_>, at: u32) -> Option<Op>
-    ensures { OnSome result (at < length tokens.now.list.now) }
+    ensures within { OnSome result (at < length tokens.now.list.now) }
+    ensures spelled { IfSome result (λ op. Stands (IsPrefix op) tokens.now at) }
 {
     match tokens.kind(at) {
         Some(TokenKind::Sign(Sign::Minus)) => Some(Op::Negate),
@@ -125,6 +137,7 @@ impl<F: Fn(Global, &Tokens<'_>, Scope, Form, u32) -> Result<(Expr, u32), FrontFa
         requires nested { Nests self.now.from (F.pre self.now.nested) (F.post self.now.nested) }
         requires from { self.now.from ≤ from }
         ensures next { IfOk result (λ read. IsBehind self.now.tokens.list.now from read.1) }
+        ensures spelled { IfOk result (λ read. IsExpr self.now.scope around (between self.now.tokens from read.1) read.0) }
         ensures refused { IfErr result (IsUnexpected self.now.tokens.file) }
     {
         self.operation(Precedence::Logical, around, from)
@@ -141,6 +154,7 @@ impl<F: Fn(Global, &Tokens<'_>, Scope, Form, u32) -> Result<(Expr, u32), FrontFa
         requires nested { Nests self.now.from (F.pre self.now.nested) (F.post self.now.nested) }
         requires from { self.now.from ≤ from }
         ensures next { IfOk result (λ read. IsBehind self.now.tokens.list.now from read.1) }
+        ensures spelled { IfOk result (λ read. IsOperation self.now.scope precedence around (between self.now.tokens from read.1) read.0) }
         ensures refused { IfErr result (IsUnexpected self.now.tokens.file) }
     {
         let (mut left, mut next) = self.operand(precedence, around, from)?;
@@ -163,6 +177,7 @@ impl<F: Fn(Global, &Tokens<'_>, Scope, Form, u32) -> Result<(Expr, u32), FrontFa
         requires nested { Nests self.now.from (F.pre self.now.nested) (F.post self.now.nested) }
         requires from { self.now.from ≤ from }
         ensures next { IfOk result (λ read. IsBehind self.now.tokens.list.now from read.1) }
+        ensures spelled { IfOk result (λ read. IsOperand self.now.scope precedence around (between self.now.tokens from read.1) read.0) }
         ensures refused { IfErr result (IsUnexpected self.now.tokens.file) }
     {
         match precedence {
@@ -178,6 +193,7 @@ impl<F: Fn(Global, &Tokens<'_>, Scope, Form, u32) -> Result<(Expr, u32), FrontFa
         requires nested { Nests self.now.from (F.pre self.now.nested) (F.post self.now.nested) }
         requires from { self.now.from ≤ from }
         ensures next { IfOk result (λ read. IsBehind self.now.tokens.list.now from read.1) }
+        ensures spelled { IfOk result (λ read. IsUnary self.now.scope around (between self.now.tokens from read.1) read.0) }
         ensures refused { IfErr result (IsUnexpected self.now.tokens.file) }
     {
         let Some(op) = prefix(&self.tokens, from) else {
@@ -193,6 +209,7 @@ impl<F: Fn(Global, &Tokens<'_>, Scope, Form, u32) -> Result<(Expr, u32), FrontFa
         requires nested { Nests self.now.from (F.pre self.now.nested) (F.post self.now.nested) }
         requires from { self.now.from ≤ from }
         ensures next { IfOk result (λ read. IsBehind self.now.tokens.list.now from read.1) }
+        ensures spelled { IfOk result (λ read. IsPower self.now.scope around (between self.now.tokens from read.1) read.0) }
         ensures refused { IfErr result (IsUnexpected self.now.tokens.file) }
     {
         let (base, next) = self.post(around, from)?;

@@ -11,9 +11,14 @@
 //! F is a lower name or an iter name. A call stands at this name, and an index at the first token of the whole form, a
 //! parenthesis among them.
 
-ghost use Rattle.std.specs.Prelude.{◌<◌, ◌≤◌, IfErr, IfOk, length};
+ghost use Rattle.std.specs.Prelude.{◌≡◌, ◌<◌, ◌≤◌, IfErr, IfOk, Some, length};
+ghost use Rattle.sa_lex.specs.declared.sign.Sign.TheVariants as sign;
+ghost use Rattle.sa_lex.specs.declared.token.TokenKind.TheVariants as token;
+ghost use Rattle.sa_parse_expr.specs.declared.grammar.Scope.{Scope};
+ghost use Rattle.sa_parse_expr.specs.Expressions.{GivesMode, IsArg, IsArgList, IsArgs, IsCall, IsExprs, IsIndex, IsPost};
+ghost use Rattle.sa_parse_expr.specs.Lexemes.{between};
 ghost use Rattle.sa_parse_expr.specs.Nests.{Nests};
-ghost use Rattle.sa_parse_expr.specs.Places.{IsBehind, IsFrom, IsUnexpected};
+ghost use Rattle.sa_parse_expr.specs.Places.{IsBehind, IsFrom, IsUnexpected, kind_at};
 
 use crate::grammar::{Around, Form, Grammar, Scope};
 use crate::tokens::Tokens;
@@ -32,13 +37,16 @@ impl<F: Fn(Global, &Tokens<'_>, Scope, Form, u32) -> Result<(Expr, u32), FrontFa
         requires nested { Nests self.now.from (F.pre self.now.nested) (F.post self.now.nested) }
         requires from { self.now.from ≤ from }
         ensures next { IfOk result (λ read. IsBehind self.now.tokens.list.now from read.1) }
+        ensures spelled { IfOk result (λ read. IsPost self.now.scope around (between self.now.tokens from read.1) read.0) }
         ensures refused { IfErr result (IsUnexpected self.now.tokens.file) }
     {
         let (mut of, mut next) = self.first(around, from)?;
         'more: loop {
             if self.tokens.is_sign(next, Sign::Dot) {
                 let on = Recv::Of(Boxed::new(self.alloc, of)?);
-                (of, next) = self.call(on, next + 1)?;
+                let (called, end) = self.call(on, next + 1)?;
+                of = called;
+                next = end;
             } else if self.tokens.is_sign(next, Sign::LeftBracket) {
                 let (places, end) = self.index(next)?;
                 let on = Some(Boxed::new(self.alloc, of)?);
@@ -55,6 +63,7 @@ impl<F: Fn(Global, &Tokens<'_>, Scope, Form, u32) -> Result<(Expr, u32), FrontFa
         requires nested { Nests self.now.from (F.pre self.now.nested) (F.post self.now.nested) }
         requires from { self.now.from ≤ from }
         ensures next { IfOk result (λ read. IsBehind self.now.tokens.list.now from read.1) }
+        ensures spelled { IfOk result (λ read. IsCall self.now.scope on (between self.now.tokens from read.1) read.0) }
         ensures refused { IfErr result (IsUnexpected self.now.tokens.file) }
     {
         if !self.tokens.is_feature_name(from) {
@@ -71,6 +80,7 @@ impl<F: Fn(Global, &Tokens<'_>, Scope, Form, u32) -> Result<(Expr, u32), FrontFa
         requires from { self.now.from ≤ from }
         requires within { from ≤ length self.now.tokens.list.now }
         ensures next { IfOk result (λ read. IsFrom self.now.tokens.list.now from read.1) }
+        ensures spelled { IfOk result (λ read. IsArgs self.now.scope (between self.now.tokens from read.1) read.0) }
         ensures refused { IfErr result (IsUnexpected self.now.tokens.file) }
     {
         if !self.tokens.is_sign(from, Sign::LeftParen) {
@@ -85,6 +95,7 @@ impl<F: Fn(Global, &Tokens<'_>, Scope, Form, u32) -> Result<(Expr, u32), FrontFa
         requires nested { Nests self.now.from (F.pre self.now.nested) (F.post self.now.nested) }
         requires from { self.now.from < from }
         ensures next { IfOk result (λ read. IsBehind self.now.tokens.list.now from read.1) }
+        ensures spelled { IfOk result (λ read. IsArgList self.now.scope (between self.now.tokens from read.1) read.0) }
         ensures refused { IfErr result (IsUnexpected self.now.tokens.file) }
     {
         let (first, mut next) = self.arg(from)?;
@@ -104,16 +115,13 @@ impl<F: Fn(Global, &Tokens<'_>, Scope, Form, u32) -> Result<(Expr, u32), FrontFa
         requires nested { Nests self.now.from (F.pre self.now.nested) (F.post self.now.nested) }
         requires from { self.now.from < from }
         ensures next { IfOk result (λ read. IsBehind self.now.tokens.list.now from read.1) }
+        ensures spelled { IfOk result (λ read. IsArg self.now.scope (between self.now.tokens from read.1) read.0) }
         ensures refused { IfErr result (IsUnexpected self.now.tokens.file) }
     {
         if self.tokens.is_sign(from, Sign::Underscore) {
             return left_open(self.alloc, &self.tokens, from);
         }
-        let (mode, next) = match self.tokens.kind(from) {
-            Some(TokenKind::Word(Word::Out)) => (Mode::Out, from + 1),
-            Some(TokenKind::Word(Word::Inout)) => (Mode::Inout, from + 1),
-            _ => (Mode::In, from),
-        };
+        let (mode, next) = given_mode(&self.tokens, from);
         let (value, next) = self.inner(self.scope, Form::Expr(Around::Open), next)?;
         Ok((Given::Value(mode, value), next))
     }
@@ -123,7 +131,9 @@ impl<F: Fn(Global, &Tokens<'_>, Scope, Form, u32) -> Result<(Expr, u32), FrontFa
         requires nested { Nests self.now.from (F.pre self.now.nested) (F.post self.now.nested) }
         requires from { self.now.from ≤ from }
         requires within { from < length self.now.tokens.list.now }
+        requires there { kind_at self.now.tokens.list.now from ≡ Some (token.Sign sign.LeftBracket) }
         ensures next { IfOk result (λ read. IsBehind self.now.tokens.list.now from read.1) }
+        ensures spelled { IfOk result (λ read. IsIndex self.now.scope (between self.now.tokens from read.1) read.0) }
         ensures refused { IfErr result (IsUnexpected self.now.tokens.file) }
     {
         let (places, next) = self.exprs(Around::Open, from + 1)?;
@@ -135,6 +145,7 @@ impl<F: Fn(Global, &Tokens<'_>, Scope, Form, u32) -> Result<(Expr, u32), FrontFa
         requires nested { Nests self.now.from (F.pre self.now.nested) (F.post self.now.nested) }
         requires from { self.now.from < from }
         ensures next { IfOk result (λ read. IsBehind self.now.tokens.list.now from read.1) }
+        ensures spelled { IfOk result (λ read. IsExprs self.now.scope around (between self.now.tokens from read.1) read.0) }
         ensures refused { IfErr result (IsUnexpected self.now.tokens.file) }
     {
         let (first, mut next) = self.inner(self.scope, Form::Expr(around), from)?;
@@ -150,10 +161,24 @@ impl<F: Fn(Global, &Tokens<'_>, Scope, Form, u32) -> Result<(Expr, u32), FrontFa
     }
 }
 
+/// `["out" | "inout"]` in front of the value of an argument, and the place behind it.
+fn given_mode(tokens: &Tokens<'_>, from: u32) -> (Mode, u32)
+    ensures from { from ≤ result.1 }
+    ensures spelled { GivesMode (between tokens.now from result.1) result.0 }
+{
+    match tokens.kind(from) {
+        Some(TokenKind::Word(Word::Out)) => (Mode::Out, from + 1),
+        Some(TokenKind::Word(Word::Inout)) => (Mode::Inout, from + 1),
+        _ => (Mode::In, from),
+    }
+}
+
 /// `"_" [":" type]`, where the `_` stands.
 fn left_open(alloc: Global, tokens: &Tokens<'_>, from: u32) -> Result<(Given, u32), FrontFault>
-    requires { from < length tokens.now.list.now }
+    requires within { from < length tokens.now.list.now }
+    requires there { kind_at tokens.now.list.now from ≡ Some (token.Sign sign.Underscore) }
     ensures next { IfOk result (λ read. IsBehind tokens.now.list.now from read.1) }
+    ensures spelled { (scope : Scope) → IfOk result (λ read. IsArg scope (between tokens.now from read.1) read.0) }
     ensures refused { IfErr result (IsUnexpected tokens.now.file) }
 {
     let pos = tokens.pos(from);

@@ -10,9 +10,17 @@
 //! `result` and `initial(e)` are calls of these names.
 //! A call stands at its name, and every other form at its first token. Parentheses leave no trace in the tree.
 
-ghost use Rattle.std.specs.Prelude.{◌<◌, ◌≤◌, IfErr, IfOk, length};
+ghost use Rattle.std.specs.Prelude.{◌≡◌, ◌<◌, ◌≤◌, IfErr, IfOk, Some, length};
+ghost use Rattle.sa_lex.specs.declared.sign.Sign.TheVariants as sign;
+ghost use Rattle.sa_lex.specs.declared.token.TokenKind.TheVariants as token;
+ghost use Rattle.sa_lex.specs.declared.word.Word.TheVariants as word;
+ghost use Rattle.sa_parse_expr.specs.declared.grammar.Around.TheVariants.{Open};
+ghost use Rattle.sa_parse_expr.specs.declared.grammar.Around.{Around};
+ghost use Rattle.sa_parse_expr.specs.declared.grammar.Scope.TheVariants.{PostClause};
+ghost use Rattle.sa_parse_expr.specs.Expressions.{ContinuesTexts, IsFirst, IsOptionalType, IsParenthesised};
+ghost use Rattle.sa_parse_expr.specs.Lexemes.{between};
 ghost use Rattle.sa_parse_expr.specs.Nests.{Nests};
-ghost use Rattle.sa_parse_expr.specs.Places.{IsBehind, IsFrom, IsUnexpected};
+ghost use Rattle.sa_parse_expr.specs.Places.{IsBehind, IsFrom, IsUnexpected, kind_at};
 
 use crate::grammar::{Around, Form, Grammar, Scope};
 use crate::starts::begins_type;
@@ -32,6 +40,7 @@ impl<F: Fn(Global, &Tokens<'_>, Scope, Form, u32) -> Result<(Expr, u32), FrontFa
         requires nested { Nests self.now.from (F.pre self.now.nested) (F.post self.now.nested) }
         requires from { self.now.from ≤ from }
         ensures next { IfOk result (λ read. IsBehind self.now.tokens.list.now from read.1) }
+        ensures spelled { IfOk result (λ read. IsFirst self.now.scope around (between self.now.tokens from read.1) read.0) }
         ensures refused { IfErr result (IsUnexpected self.now.tokens.file) }
     {
         let pos = self.tokens.pos(from);
@@ -55,7 +64,10 @@ impl<F: Fn(Global, &Tokens<'_>, Scope, Form, u32) -> Result<(Expr, u32), FrontFa
         requires nested { Nests self.now.from (F.pre self.now.nested) (F.post self.now.nested) }
         requires from { self.now.from ≤ from }
         requires within { from < length self.now.tokens.list.now }
+        requires there { kind_at self.now.tokens.list.now from ≡ Some (token.Word word) }
         ensures next { IfOk result (λ read. IsBehind self.now.tokens.list.now from read.1) }
+        ensures spelled { (around : Around)
+            → IfOk result (λ read. IsFirst self.now.scope around (between self.now.tokens from read.1) read.0) }
         ensures refused { IfErr result (IsUnexpected self.now.tokens.file) }
     {
         let pos = self.tokens.pos(from);
@@ -79,7 +91,9 @@ impl<F: Fn(Global, &Tokens<'_>, Scope, Form, u32) -> Result<(Expr, u32), FrontFa
         requires nested { Nests self.now.from (F.pre self.now.nested) (F.post self.now.nested) }
         requires from { self.now.from ≤ from }
         requires within { from < length self.now.tokens.list.now }
+        requires there { kind_at self.now.tokens.list.now from ≡ Some (token.Sign sign) }
         ensures next { IfOk result (λ read. IsBehind self.now.tokens.list.now from read.1) }
+        ensures spelled { IfOk result (λ read. IsFirst self.now.scope around (between self.now.tokens from read.1) read.0) }
         ensures refused { IfErr result (IsUnexpected self.now.tokens.file) }
     {
         match sign {
@@ -99,6 +113,7 @@ impl<F: Fn(Global, &Tokens<'_>, Scope, Form, u32) -> Result<(Expr, u32), FrontFa
         requires nested { Nests self.now.from (F.pre self.now.nested) (F.post self.now.nested) }
         requires from { self.now.from ≤ from }
         ensures next { IfOk result (λ read. IsBehind self.now.tokens.list.now from read.1) }
+        ensures spelled { IfOk result (λ read. IsParenthesised scope (between self.now.tokens from read.1) read.0) }
         ensures refused { IfErr result (IsUnexpected self.now.tokens.file) }
     {
         let next = self.tokens.after_sign(from, Sign::LeftParen)?;
@@ -111,7 +126,10 @@ impl<F: Fn(Global, &Tokens<'_>, Scope, Form, u32) -> Result<(Expr, u32), FrontFa
         requires nested { Nests self.now.from (F.pre self.now.nested) (F.post self.now.nested) }
         requires from { self.now.from ≤ from }
         requires within { from < length self.now.tokens.list.now }
+        requires there { kind_at self.now.tokens.list.now from ≡ Some (token.Word word.Void) }
         ensures next { IfOk result (λ read. IsBehind self.now.tokens.list.now from read.1) }
+        ensures spelled { (around : Around)
+            → IfOk result (λ read. IsFirst self.now.scope around (between self.now.tokens from read.1) read.0) }
         ensures refused { IfErr result (IsUnexpected self.now.tokens.file) }
     {
         let pos = self.tokens.pos(from);
@@ -127,7 +145,10 @@ impl<F: Fn(Global, &Tokens<'_>, Scope, Form, u32) -> Result<(Expr, u32), FrontFa
         requires nested { Nests self.now.from (F.pre self.now.nested) (F.post self.now.nested) }
         requires from { self.now.from ≤ from }
         requires within { from < length self.now.tokens.list.now }
+        requires there { kind_at self.now.tokens.list.now from ≡ Some (token.Word word.New) }
         ensures next { IfOk result (λ read. IsBehind self.now.tokens.list.now from read.1) }
+        ensures spelled { (around : Around)
+            → IfOk result (λ read. IsFirst self.now.scope around (between self.now.tokens from read.1) read.0) }
         ensures refused { IfErr result (IsUnexpected self.now.tokens.file) }
     {
         let pos = self.tokens.pos(from);
@@ -143,6 +164,8 @@ impl<F: Fn(Global, &Tokens<'_>, Scope, Form, u32) -> Result<(Expr, u32), FrontFa
         requires nested { Nests self.now.from (F.pre self.now.nested) (F.post self.now.nested) }
         requires from { self.now.from ≤ from }
         ensures next { IfOk result (λ read. IsBehind self.now.tokens.list.now from read.1) }
+        ensures spelled { (around : Around)
+            → IfOk result (λ read. IsFirst self.now.scope around (between self.now.tokens from read.1) read.0) }
         ensures refused { IfErr result (IsUnexpected self.now.tokens.file) }
     {
         let (class, next) = read_type(self.alloc, &self.tokens, from)?;
@@ -155,7 +178,10 @@ impl<F: Fn(Global, &Tokens<'_>, Scope, Form, u32) -> Result<(Expr, u32), FrontFa
         requires nested { Nests self.now.from (F.pre self.now.nested) (F.post self.now.nested) }
         requires from { self.now.from ≤ from }
         requires within { from < length self.now.tokens.list.now }
+        requires there { kind_at self.now.tokens.list.now from ≡ Some (token.Sign sign.Hash) }
         ensures next { IfOk result (λ read. IsBehind self.now.tokens.list.now from read.1) }
+        ensures spelled { (around : Around)
+            → IfOk result (λ read. IsFirst self.now.scope around (between self.now.tokens from read.1) read.0) }
         ensures refused { IfErr result (IsUnexpected self.now.tokens.file) }
     {
         let (class, next) = optional_type(self.alloc, &self.tokens, from + 1)?;
@@ -168,7 +194,9 @@ impl<F: Fn(Global, &Tokens<'_>, Scope, Form, u32) -> Result<(Expr, u32), FrontFa
         requires nested { Nests self.now.from (F.pre self.now.nested) (F.post self.now.nested) }
         requires from { self.now.from ≤ from }
         requires within { from < length self.now.tokens.list.now }
+        requires there { kind_at self.now.tokens.list.now from ≡ Some (token.Sign sign.Bar) }
         ensures next { IfOk result (λ read. IsBehind self.now.tokens.list.now from read.1) }
+        ensures spelled { IfOk result (λ read. IsFirst self.now.scope Open (between self.now.tokens from read.1) read.0) }
         ensures refused { IfErr result (IsUnexpected self.now.tokens.file) }
     {
         let (items, next) = self.exprs(Around::Items, from + 1)?;
@@ -181,7 +209,10 @@ impl<F: Fn(Global, &Tokens<'_>, Scope, Form, u32) -> Result<(Expr, u32), FrontFa
         requires nested { Nests self.now.from (F.pre self.now.nested) (F.post self.now.nested) }
         requires from { self.now.from ≤ from }
         requires within { from < length self.now.tokens.list.now }
+        requires there { kind_at self.now.tokens.list.now from ≡ Some (token.Word word.Bind) }
         ensures next { IfOk result (λ read. IsBehind self.now.tokens.list.now from read.1) }
+        ensures spelled { (around : Around)
+            → IfOk result (λ read. IsFirst self.now.scope around (between self.now.tokens from read.1) read.0) }
         ensures refused { IfErr result (IsUnexpected self.now.tokens.file) }
     {
         let next = self.tokens.after_sign(from + 1, Sign::LeftParen)?;
@@ -193,8 +224,12 @@ impl<F: Fn(Global, &Tokens<'_>, Scope, Form, u32) -> Result<(Expr, u32), FrontFa
 
     /// `"result"`
     fn result_word(&self, from: u32) -> Result<(Expr, u32), FrontFault>
-        requires { from < length self.now.tokens.list.now }
+        requires within { from < length self.now.tokens.list.now }
+        requires there { kind_at self.now.tokens.list.now from ≡ Some (token.Word word.Result) }
+        requires scope { self.now.scope ≡ PostClause }
         ensures next { IfOk result (λ read. IsBehind self.now.tokens.list.now from read.1) }
+        ensures spelled { (around : Around)
+            → IfOk result (λ read. IsFirst self.now.scope around (between self.now.tokens from read.1) read.0) }
         ensures refused { IfErr result (IsUnexpected self.now.tokens.file) }
     {
         let name = self.tokens.name(self.alloc, from)?;
@@ -208,7 +243,11 @@ impl<F: Fn(Global, &Tokens<'_>, Scope, Form, u32) -> Result<(Expr, u32), FrontFa
         requires nested { Nests self.now.from (F.pre self.now.nested) (F.post self.now.nested) }
         requires from { self.now.from ≤ from }
         requires within { from < length self.now.tokens.list.now }
+        requires there { kind_at self.now.tokens.list.now from ≡ Some (token.Word word.Initial) }
+        requires scope { self.now.scope ≡ PostClause }
         ensures next { IfOk result (λ read. IsBehind self.now.tokens.list.now from read.1) }
+        ensures spelled { (around : Around)
+            → IfOk result (λ read. IsFirst self.now.scope around (between self.now.tokens from read.1) read.0) }
         ensures refused { IfErr result (IsUnexpected self.now.tokens.file) }
     {
         let (old, next) = self.parenthesised(Scope::Plain, from + 1)?;
@@ -228,6 +267,7 @@ fn optional_type(
 ) -> Result<(Option<Ty>, u32), FrontFault>
     requires { from ≤ length tokens.now.list.now }
     ensures next { IfOk result (λ read. IsFrom tokens.now.list.now from read.1) }
+    ensures spelled { IfOk result (λ read. IsOptionalType (between tokens.now from read.1) read.0) }
     ensures refused { IfErr result (IsUnexpected tokens.now.file) }
 {
     if !begins_type(tokens.kind(from)) {
@@ -245,7 +285,8 @@ fn texts(
     from: u32,
 ) -> Result<(Name, u32), AllocError>
     requires { from ≤ length tokens.now.list.now }
-    ensures { IfOk result (λ read. IsFrom tokens.now.list.now from read.1) }
+    ensures next { IfOk result (λ read. IsFrom tokens.now.list.now from read.1) }
+    ensures spelled { IfOk result (λ read. ContinuesTexts first.now (between tokens.now from read.1) read.0) }
 {
     let mut bytes = Vec::from_slice(alloc, first.as_slice())?;
     let mut next = from;

@@ -1,13 +1,11 @@
 //! The tokens of a file together with its text.
 
-ghost use Rattle.std.specs.Prelude.{◌≡◌, ◌+◌, ◌<◌, ◌↔◌, All, IfErr, IfOk, IsTrue, OnSome, Some, length};
+ghost use Rattle.std.specs.Prelude.{◌≡◌, ◌+◌, ◌<◌, ◌↔◌, ◌⊎◌, ◌≢◌, All, IfErr, IfOk, IsTrue, OnSome, Some, length};
 ghost use Rattle.std.specs.Option.{option_copied};
 ghost use Rattle.std.specs.Bool.{OnTrue};
 ghost use Rattle.sa_lex.specs.Token.{IsWithin};
 ghost use Rattle.sa_lex.specs.declared.token.TokenKind.TheVariants as token;
-ghost use Rattle.sa_tree.specs.declared.refusal.FrontFault.TheVariants.{Refused};
-ghost use Rattle.sa_tree.specs.declared.rule.Rule.TheVariants.{UnexpectedToken};
-ghost use Rattle.sa_parse_expr.specs.Places.{IsUnexpected, bytes_at, kind_at, start_at};
+ghost use Rattle.sa_parse_expr.specs.Places.{IsUnexpected, bytes_at, kind_at, start_at, unexpected_at};
 
 use sa_lex::{Sign, Token, TokenKind, Word, slice_of};
 use sa_tree::{FrontFault, Name, Pos, Rule};
@@ -57,14 +55,17 @@ impl Tokens<'_> {
 
     /// Whether a lower name stands there, which no `!` follows.
     pub fn is_lower(&self, at: u32) -> bool
-        ensures { OnTrue result (at < length self.now.list.now) }
+        ensures value { IsTrue result ↔ (kind_at self.now.list.now at ≡ Some token.Lower) }
+        ensures within { OnTrue result (at < length self.now.list.now) }
     {
         matches!(self.kind(at), Some(TokenKind::Lower))
     }
 
     /// Whether the name of a feature stands there: a lower name or the name of an iter.
     pub fn is_feature_name(&self, at: u32) -> bool
-        ensures { OnTrue result (at < length self.now.list.now) }
+        ensures value { IsTrue result
+            ↔ ((kind_at self.now.list.now at ≡ Some token.Lower) ⊎ (kind_at self.now.list.now at ≡ Some token.IterName)) }
+        ensures within { OnTrue result (at < length self.now.list.now) }
     {
         matches!(self.kind(at), Some(TokenKind::Lower | TokenKind::IterName))
     }
@@ -104,10 +105,7 @@ impl Tokens<'_> {
 
     /// E06 at the token, or at the end of the file.
     pub fn unexpected(&self, at: u32) -> FrontFault
-        ensures value { result ≡ Refused (record {
-          rule = UnexpectedToken;
-          pos = record { file = self.now.file; at = start_at self.now.src.now self.now.list.now at };
-        }) }
+        ensures value { result ≡ unexpected_at self.now.file self.now.src.now self.now.list.now at }
         ensures unexpected { IsUnexpected self.now.file result }
     {
         FrontFault::Refused(Rule::UnexpectedToken.at(self.pos(at)))
@@ -117,6 +115,8 @@ impl Tokens<'_> {
     pub fn after_sign(&self, at: u32, sign: Sign) -> Result<u32, FrontFault>
         ensures next { IfOk result (λ next. (next ≡ at + 1) × (at < length self.now.list.now)) }
         ensures sign { IfOk result (λ _. kind_at self.now.list.now at ≡ Some (token.Sign sign)) }
+        ensures another { IfErr result (λ _. kind_at self.now.list.now at ≢ Some (token.Sign sign)) }
+        ensures fault { IfErr result (λ fault. fault ≡ unexpected_at self.now.file self.now.src.now self.now.list.now at) }
         ensures refused { IfErr result (IsUnexpected self.now.file) }
     {
         if self.is_sign(at, sign) {
@@ -130,6 +130,8 @@ impl Tokens<'_> {
     pub fn after_word(&self, at: u32, word: Word) -> Result<u32, FrontFault>
         ensures next { IfOk result (λ next. (next ≡ at + 1) × (at < length self.now.list.now)) }
         ensures word { IfOk result (λ _. kind_at self.now.list.now at ≡ Some (token.Word word)) }
+        ensures another { IfErr result (λ _. kind_at self.now.list.now at ≢ Some (token.Word word)) }
+        ensures fault { IfErr result (λ fault. fault ≡ unexpected_at self.now.file self.now.src.now self.now.list.now at) }
         ensures refused { IfErr result (IsUnexpected self.now.file) }
     {
         if self.is_word(at, word) {

@@ -1,5 +1,7 @@
 -- The weaker operators before the stronger ones, and an operation before its operands.
 use Rattle.std.proofs.Common.{length, ◌+◌, ◌-◌, ◌*◌}
+use Rattle.sa_parse_expr.specs.Expressions.{IsOperation}
+use Rattle.sa_parse_expr.specs.Lexemes.{between}
 use Rattle.sa_parse_expr.specs.Places.{IsBehind}
 use Rattle.sa_parse_expr.proofs.Precedences.{weaker_than}
 use Rattle.sa_parse_expr.proofs.grammar.Grammar.+operation.Given as goal
@@ -11,7 +13,10 @@ abbrev pub decreases-operand : goal.decreases-operand
 decreases-operand g l = 2 * weaker_than l.precedence
 
 abbrev pub invariant-operation-more : goal.invariant-operation-more
-invariant-operation-more g l = IsBehind l.self.tokens.list.now l.from l.next
+invariant-operation-more g l = record {
+  behind : IsBehind l.self.tokens.list.now l.from l.next;
+  spelled : IsOperation l.self.scope l.precedence l.around (between l.self.tokens l.from l.next) l.left;
+}
 
 abbrev pub decreases-operation-more : goal.decreases-operation-more
 decreases-operation-more g l = length l.self.tokens.list.now - l.next

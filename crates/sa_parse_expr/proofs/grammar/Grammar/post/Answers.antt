@@ -1,0 +1,35 @@
+use Rattle.std.proofs.Common.{◌≡◌, Some, arith, rules}
+use Rattle.sa_lex.specs.declared.token.TokenKind.TheVariants as token
+use Rattle.sa_lex.specs.declared.sign.Sign.TheVariants as sign
+use Rattle.sa_parse_expr.specs.Expressions as exprs
+use Rattle.sa_parse_expr.specs.Places.{kind_at}
+use Rattle.sa_parse_expr.proofs.SpelledExpressions.{call_on, index_of}
+use Rattle.sa_parse_expr.proofs.Stretches.{standing}
+use Rattle.sa_parse_expr.proofs.grammar.Grammar.post.Goals as goal
+
+pub more-init : goal.more-init
+more-init g c = record {
+  behind = c.in_ok-of.ensures.next;
+  spelled = exprs.first c.in_ok-of.ensures.spelled;
+}
+
+pub more-preserved-then-is_sign : goal.more-preserved-then-is_sign
+more-preserved-then-is_sign g c =
+    let begun = c.more.invariant in
+    let dot : kind_at c.args.self.now.tokens.list.now c.more.next ≡ Some (token.Sign sign.Dot) = search rules in
+    let called = c.in_ok-called.ensures in
+    record {
+      behind = (omega (arith, begun.behind.0, called.next.0), called.next.1);
+      spelled = call_on c.args.self.now.tokens c.args.self.now.scope c.args.around c.args.from c.more.next _ c.more.of _ _ begun.spelled dot called.spelled (omega (arith, begun.behind.0)) (omega (arith, called.next.0)) (search rules);
+    }
+
+pub more-preserved : goal.more-preserved
+more-preserved g c =
+    let t = c.args.self.now.tokens in
+    let begun = c.more.invariant in
+    let index = c.in_ok-places.ensures in
+    let there = standing t c.args.from (omega (arith, begun.behind.0, begun.behind.1)) in
+    record {
+      behind = (omega (arith, begun.behind.0, index.next.0), index.next.1);
+      spelled = index_of t c.args.self.now.scope c.args.around c.args.from c.more.next _ there.0 c.more.of _ _ _ there.1 begun.spelled index.spelled begun.behind.0 (omega (arith, index.next.0)) (search rules) (search rules);
+    }

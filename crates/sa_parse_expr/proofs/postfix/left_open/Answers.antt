@@ -1,0 +1,15 @@
+use Rattle.std.proofs.Common.{◌≡◌, ◌+◌, Some, arith, rules}
+use Rattle.sa_lex.specs.declared.token.TokenKind.TheVariants as token
+use Rattle.sa_lex.specs.declared.sign.Sign.TheVariants as sign
+use Rattle.sa_parse_expr.specs.Places.{kind_at}
+use Rattle.sa_parse_expr.proofs.SpelledExpressions.{left, left_of_type}
+use Rattle.sa_parse_expr.proofs.postfix.left_open.Goals as goal
+
+pub returns-then-not-is_sign-clause-spelled : goal.returns-then-not-is_sign-clause-spelled
+returns-then-not-is_sign-clause-spelled c = λ scope. left c.args.tokens.now scope c.args.from _ c.requires.there (search rules)
+
+pub returns-clause-spelled : goal.returns-clause-spelled
+returns-clause-spelled c = λ scope.
+    let colon : kind_at c.args.tokens.now.list.now (c.args.from + 1) ≡ Some (token.Sign sign.Colon) = search rules in
+    let read = c.in_ok-ty.ensures in
+    left_of_type c.args.tokens.now scope c.args.from _ _ _ c.requires.there colon read.spelled (omega (arith, read.next.0)) (search rules)
