@@ -8,6 +8,7 @@ Runs modules that `PROGRAM build` makes in the hosts of hosts/, Node and C by wa
 - the options of the host of Node end a run that passes them.
 
 A tool that is missing is named, and what needs it is left out. --only takes the tries whose names hold a word."""
+import contextlib
 import dataclasses
 import functools
 import os
@@ -18,6 +19,7 @@ import sys
 import examples
 import judges
 import report
+from hostile import unread_pipe
 from report import Left
 
 HOSTS = os.path.join(os.path.dirname(os.path.abspath(__file__)), '..', 'hosts')
@@ -34,11 +36,18 @@ COPY = b'class MAIN is main is loop b ::= #IN.get_byte; while!(b >= 0); #OUT + b
 
 @dataclasses.dataclass
 class Try:
-    """A program that is run in the hosts: its name, its source, its input, and the command whose run it is held to."""
+    """A program that is run in the hosts: its name, its source, its input, the command whose run it is held to, and whether
+    somebody reads its output."""
     name: str
     source: bytes
     input: bytes = b''
     command: str = 'exec'
+    is_read: bool = True
+
+    def run(self, words, folder, **how):
+        """What the words leave that run it in a folder."""
+        with contextlib.nullcontext(subprocess.PIPE) if self.is_read else unread_pipe() as out:
+            return report.run(words, folder, input=self.input, stdout=out, **how)
 
 
 ENDS = [
@@ -48,6 +57,7 @@ ENDS = [
     Try('each byte goes through', COPY, bytes(range(256)) * 800),
     Try('the end of the input comes again', b'class MAIN is main is #OUT + #IN.get_byte + #IN.get_byte; end; end;'),
     Try('a raise that nothing catches', b'class MAIN is main is raise "a"; end; end;'),
+    Try('an output that nobody reads', b'class MAIN is main is loop #OUT + "a"; end; end; end;', is_read=False),
 ]
 
 # A name, the options and the module for run.js, the source, and what has to be left.
@@ -64,18 +74,18 @@ OPTIONS = [
 ]
 
 
-def in_node(folder, given):
+def in_node(folder, tried):
     """What the module leaves in the host of Node."""
-    return report.run(['node', RUN_JS, 'm.wasm'], folder, input=given)
+    return tried.run(['node', RUN_JS, 'm.wasm'], folder)
 
 
-def in_c(folder, given):
+def in_c(folder, tried):
     """What the module leaves as a native program, or what the making of one leaves where it fails."""
     made = report.run([BUILD, '-o', 'native', 'm.wasm'], folder, env={**os.environ, 'CFLAGS': '-O1'})
     if made.status != 0:
         return made
     # The program tells the name by which it was called.
-    return report.run(['m.wasm'], folder, executable=os.path.join(folder, 'native'), input=given)
+    return tried.run(['m.wasm'], folder, executable=os.path.join(folder, 'native'))
 
 
 def has_c():
@@ -103,7 +113,7 @@ def hosts_here(told):
 def held_to(program, tried, folder):
     """What the program itself leaves, which the hosts are held to."""
     words = ['run', 'm.sa'] if tried.command == 'run' else ['exec', 'm.wasm']
-    return report.run([program, *words], folder, input=tried.input)
+    return tried.run([program, *words], folder)
 
 
 def compared(program, hosts, tried):
@@ -113,7 +123,7 @@ def compared(program, hosts, tried):
         if built != Left():
             return 'build left %r and status %d' % (built.lines, built.status)
         wanted = held_to(program, tried, folder)
-        return {name: report.difference(wanted, host(folder, tried.input)) for name, host in hosts.items()}
+        return {name: report.difference(wanted, host(folder, tried)) for name, host in hosts.items()}
 
 
 def with_options(program, option):
