@@ -26,10 +26,11 @@ HOSTS = os.path.join(os.path.dirname(os.path.abspath(__file__)), '..', 'hosts')
 RUN_JS = os.path.join(HOSTS, 'node', 'run.js')
 BUILD = os.path.join(HOSTS, 'c', 'build')
 WABT = '1.0.32'     # the version of wasm2c that hosts/c fits
-SPENT = 122         # the status of a run whose time is up
+TIME_SPENT = b'time spent\n'
 RUNTIME = os.environ.get('WASM2C_RUNTIME', '/usr/share/wabt/wasm2c')
 DEEP = b'class MAIN is f(n:INT):INT is a ::= n * 2; return f(n + 1) + a; end; main is #OUT + "a\\n"; #OUT + f(0); end; end;'
 ENDLESS = b'class MAIN is main is #OUT + "a\\n"; loop end; end; end;'
+PRINTS = b'class MAIN is main is loop 100000.times!; #OUT + "a"; end; end; end;'
 DIVIDES = b'class MAIN is main is #OUT + "a";\n#OUT + 1 / 0; end; end;'
 COPY = b'class MAIN is main is loop b ::= #IN.get_byte; while!(b >= 0); #OUT + b.char; end; end; end;'
 
@@ -62,9 +63,11 @@ ENDS = [
 
 # A name, the options and the module for run.js, the source, and what has to be left.
 OPTIONS = [
-    ('a run is ended when its time is up', ['--seconds', '1', 'm.wasm'], ENDLESS, Left(b'a\n', b'time spent\n', 122)),
+    ('a run is ended when its time is up', ['--seconds', '1', 'm.wasm'], ENDLESS, Left(b'a\n', TIME_SPENT, 122)),
     ('a run within its time ends by itself', ['--seconds', '100', 'm.wasm'], COPY, Left()),
     ('a memory past the limit isn\'t given', ['--memory', '1', 'm.wasm'], COPY, Left(lines=b'out of memory\n', status=125)),
+    ('an output past the limit isn\'t written', ['--output', '70', 'm.wasm'], PRINTS, Left(b'a' * 71680, b'output spent\n', 122)),
+    ('an output within the limit is whole', ['--output', '98', 'm.wasm'], PRINTS, Left(b'a' * 100000)),
     ('a small stack ends deep calls', ['--stack', '1', 'm.wasm'], DEEP, Left(b'a\n', b'm.wasm: too deep\n', 126)),
     ('the sites tell the line of a fault', ['--sites', 'm.json', 'm.wasm'], DIVIDES,
      Left(b'a', b'm.sa:2: fault: division by zero\n', 121)),
@@ -133,7 +136,7 @@ def with_options(program, option):
         report.run([program, 'build', '--sites', 'm.json', '-o', 'm.wasm', 'm.sa'], folder)
         left = report.run(['node', RUN_JS, *words], folder)
         # Where the machine is busy, the time may be up before anything was put out.
-        return report.difference(wanted, left, output_may_be_cut=wanted.status == SPENT)
+        return report.difference(wanted, left, output_may_be_cut=wanted.lines == TIME_SPENT)
 
 
 def of_examples():
