@@ -189,6 +189,8 @@ def try_all(program, told, count=None, seconds=None, seed=1, ways=(make_source, 
     told.part('sources and modules without end, seed %d' % seed, count or 0)
     fuzzing = Fuzzing(told, program, tree, seed, folder, log)
     until = None if seconds is None else time.monotonic() + seconds
+    if make_module in ways:
+        inputs.known_modules(program)   # which the processes of the jobs then have
     with kept.folders() as (quick, library):
         judging = program, tree, quick, library
         run_batches(fuzzing, judging, ways, jobs or report.processors(), batches(count, until))
