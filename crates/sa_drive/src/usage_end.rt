@@ -36,7 +36,9 @@ fn say_mistake(
             owners,
         } => {
             unknown_option(alloc, command, option.as_str(), owners.as_slice(), said)?;
-            did_you_mean(near, said)?;
+            if owners.is_empty() {
+                did_you_mean(near, said)?;
+            }
             behind_one_dash(option.as_bytes(), said)
         }
         Mistake::FurtherWord(word) => about(
