@@ -1,5 +1,6 @@
 -- What a sink took.
-use Rattle.std.proofs.Common.{◌≡◌, ◌∙◌, ◌⊎◌, ℕ, min, List, ◌++◌, length, take, Option, None, Some, append-nil, refl, sym, subst, ap, arith, inl, inr}
+use Rattle.std.proofs.Common.{◌≡◌, ◌∙◌, ◌⊎◌, ◌&&◌, Bool, true, false, ℕ, min, List, ◌++◌, length, take, Option, None, Some, append-nil, refl, sym, subst, ap, arith, inl, inr}
+use Rattle.std.specs.Prelude.{is_some}
 use Rattle.std.proofs.Math.Seq.{take-length}
 use Rattle.std.proofs.lemmas.List.{take-append-le, take_all}
 use Rattle.std.proofs.lemmas.Bool.{cases_lt}
@@ -10,8 +11,11 @@ use Rattle.std.specs.Option.{option_map_or}
 use Rattle.sa_words.specs.Line.{Line, asked_detail, detail_of, detail_without_command, line_in}
 use Rattle.sa_words.specs.declared.command.Detail.{Detail}
 use Rattle.sa_words.specs.declared.command.Detail.TheVariants.{Brief, Explained}
+use Rattle.sa_drive.specs.Answer.{has_steps}
 use Rattle.sa_drive.specs.Report.{TellsMore}
 use Rattle.sa_drive.specs.Seen.{IsUntouched, Part}
+use Rattle.sa_drive.specs.declared.cause.Cause.TheVariants as cause
+use Rattle.sa_drive.specs.declared.outcome.Outcome.{Outcome}
 
 -- all of a piece is a front of it
 pub TookFront-from_took : (old new : Option (List ℕ)) (bytes : List ℕ) → Took old new bytes → TookFront old new bytes
@@ -60,3 +64,11 @@ detail_of_none words is = ap (λ found. option_map_or detail_of found (detail_wi
 pub explained : (asked told : Detail) (err : Part (List ℕ)) → (told ≡ asked) ⊎ (told ≡ Brief) → TellsMore told err → TellsMore asked err
 explained asked told err (inl same) tells = subst (λ detail. TellsMore detail err) same tells
 explained asked told err (inr brief) tells = untold asked err (subst (λ detail. TellsMore detail err) brief tells)
+
+-- no steps are shown where memory ran out
+and-false : (b : Bool) → (b && false) ≡ false
+and-false true = refl
+and-false false = refl
+
+pub no_steps : (asked : Bool) (outcome : Outcome) → outcome.steps ≡ None → outcome.cause ≡ cause.NoMemory → is_some outcome.steps ≡ (asked && has_steps outcome.cause)
+no_steps asked outcome none memory = rw (none, memory) (sym (and-false asked))

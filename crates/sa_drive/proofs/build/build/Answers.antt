@@ -1,4 +1,4 @@
-use Rattle.std.proofs.Common.{◌∙◌, inl, inr, subst, sym}
+use Rattle.std.proofs.Common.{inl, inr, subst, sym}
 use Rattle.sa_drive.specs.Lines.{IsPlaced}
 use Rattle.sa_drive.proofs.EndLemmas.{given_none, module_earlier, placed_module, spells_of, taken_of}
 use Rattle.sa_drive.proofs.build.build.Goals as goal
