@@ -141,8 +141,8 @@ class Weaver:
         kept = invariant if not (routine.is_iter or routine.is_private) else None
         for begin, end in routine.leaves:
             self.weave_leave(routine, initials, kept, begin, end)
-        if routine.result is None and not routine.is_iter:
-            self.put.append((self.read.places[routine.end], b'; ' + self.checks(routine, initials, None, kept)))
+        if routine.result is None and not routine.is_iter:     # whose `result` is an unknown name
+            self.put.append((self.read.places[routine.end], b'; ' + self.checks(routine, initials, self.new_name(), kept)))
 
     def weave_leave(self, routine, initials, invariant, begin, end):
         """The checks at a `return` or a `yield`, whose value is put into a variable first."""
