@@ -1,5 +1,5 @@
 #!/usr/bin/env python3
-"""bars.py [--program PROGRAM] [--rounds N] [--only WORD]
+"""bars.py [--program PROGRAM] [--rounds N] [--scale PERCENT] [--only WORD] [--table]
 
 Measures all that has a bar, and prints one table: what is measured, its figure, that of what it is held against, the ratio of the
 two, and the bar.
@@ -11,10 +11,13 @@ two, and the bar.
 - The steps of a round of a loop, of a resumption, of a start and a release; the bytes of a module that prints a line.
 - A module of 60 MiB that is decoded and validated, and a source of 4 MiB that is checked: seconds and mebibytes.
 
-A time is the best of N runs, 3 without --rounds, the start of the process included. --only measures what has a name with a word in
-it. What needs a tool that is missing is left out, and that is told. The status is 1 where a bar is passed or a run fails."""
+A time is the best of N runs, 3 without --rounds, the start of the process included. What is held side by side has to print or give
+the same. --scale makes the five modules run that many percent of their rounds. --only measures what has a name with a word in it.
+--table prints the rows as docs/BENCHMARKS.md has them. What needs a tool that is missing is left out, and that is told. The status
+is 1 where a bar is missed or a run fails."""
 import argparse
 import os
+import re
 import shutil
 import subprocess
 import sys
@@ -24,9 +27,11 @@ import checker
 import iters
 import machine
 import routines
+from routines import Failure
 
 HELLO = 'class MAIN is main is #OUT + "Hello\\n"; end; end;'
 FOLDERS = [('iters', iters), ('routines', routines)]
+HEAD = ('what', 'measured', 'beside', 'ratio', 'bar')
 
 
 class Row:
@@ -35,18 +40,24 @@ class Row:
         self.name, self.value, self.unit, self.bar, self.beside = name, value, unit, bar, beside
         self.held = value if beside is None else beside / value if is_speed else value / beside
         self.is_well = self.held >= bar if is_speed else self.held <= bar
+        self.held_to = unit if beside is None else 'times as fast' if is_speed else 'times as long'
         self.sign = 'at least' if is_speed else 'at most'
 
-    def __str__(self):
-        shown = lambda value: '-' if value is None else '%.2f %s' % (value, self.unit)
+    def cells(self):
+        """The cells of the row."""
+        def shown(value):
+            return '-' if value is None else '%.2f %s' % (value, self.unit) if self.unit == 's' else '%.0f %s' % (value, self.unit)
         ratio = '-' if self.beside is None else '%.2f' % self.held
-        return '%-52s %12s %12s %7s   %s %g%s' % (self.name, shown(self.value), shown(self.beside), ratio, self.sign, self.bar,
-                                                  '' if self.is_well else '  PASSED OVER')
+        bar = '%s %g %s%s' % (self.sign, self.bar, self.held_to, '' if self.is_well else ': missed')
+        return self.name, shown(self.value), shown(self.beside), ratio, bar
 
 
-def timed(words, folder, rounds):
-    """The shortest time of so many runs, in seconds. The status of a module's `main` is its own."""
-    return machine.best(words, folder, rounds)[0]
+def printed(cells, is_table):
+    """Prints the cells of a row, or of the head."""
+    if is_table:
+        print('| %s |' % ' | '.join(cells), flush=True)
+    else:
+        print('%-52s %12s %12s %7s   %s' % cells, flush=True)
 
 
 def mebibytes(words, folder):
@@ -54,43 +65,72 @@ def mebibytes(words, folder):
     run = subprocess.Popen(words, cwd=folder, stdin=subprocess.DEVNULL, stdout=subprocess.DEVNULL, stderr=subprocess.DEVNULL)
     _, status, usage = os.wait4(run.pid, 0)
     run.returncode = os.waitstatus_to_exitcode(status)
+    if run.returncode != 0:
+        raise Failure('%s ended with status %d' % (' '.join(words[:2]), run.returncode))
     return usage.ru_maxrss / 1024
 
 
 def against_wabt(name, folder, program, rounds):
-    """The row of the module `m` in both machines."""
-    seconds = timed([program, 'exec', 'm'], folder, rounds)
-    beside = timed(['wasm-interp', 'm', '--dummy-import-func', '--run-all-exports'], folder, rounds)
-    return Row('exec of %s, beside wasm-interp' % name, seconds, 's', 4, beside, is_speed=True)
+    """The row of the module `m` in both machines. What `main` gives is the status of `sather exec`."""
+    seconds, _, result = machine.run_sather(program, folder, rounds)
+    beside, ended = machine.best(['wasm-interp', 'm', '--dummy-import-func', '--run-all-exports'], folder, rounds)
+    given = re.search(rb'^main\(\) =>(?: i32:(\d+))?$', ended.stdout, re.MULTILINE)
+    if not given or int(given.group(1) or 0) != result:
+        raise Failure('sather gives %d, and wasm-interp %r' % (result, ended.stdout[-80:]))
+    return Row(name, seconds, 's', 4, beside, is_speed=True)
 
 
-def modules(program, rounds, folder):
+def module_of_text(name, text, full, program, rounds, folder):
+    """The row of one of the five modules."""
+    with open(os.path.join(folder, 'm.wat'), 'w') as file:
+        file.write(text.replace('{rounds}', str(full)))
+    subprocess.run(['wat2wasm', 'm.wat', '-o', 'm'], cwd=folder, check=True)
+    return against_wabt('`exec` of %s beside `wasm-interp`' % name, folder, program, rounds)
+
+
+def module_of_iters(name, program, rounds, folder):
+    """The row of the module of a program of iters."""
+    subprocess.run([program, 'build', '-o', 'm', os.path.join(iters.FOLDER, name + '.sa')], cwd=folder, check=True)
+    return against_wabt('`exec` of the module of %s beside `wasm-interp`' % name, folder, program, rounds)
+
+
+def modules(program, rounds, scale, folder):
     """The rows of modules beside wabt."""
     for name, text, full in machine.MODULES:
-        with open(os.path.join(folder, 'm.wat'), 'w') as file:
-            file.write(text.replace('{rounds}', str(full)))
-        subprocess.run(['wat2wasm', 'm.wat', '-o', 'm'], cwd=folder, check=True)
-        yield name, lambda name=name: against_wabt(name, folder, program, rounds)
+        some = max(1, full * scale // 100)
+        yield name, lambda name=name, text=text, some=some: module_of_text(name, text, some, program, rounds, folder)
     for name in iters.PROGRAMS:
-        subprocess.run([program, 'build', '-o', 'm', os.path.join(iters.FOLDER, name + '.sa')], cwd=folder, check=True)
-        yield name, lambda name=name: against_wabt('the module of %s' % name, folder, program, rounds)
+        yield name, lambda name=name: module_of_iters(name, program, rounds, folder)
+
+
+def row_of_times(what, words, beside, bar, rounds):
+    """The row of two ways of running a program, which have to print the same."""
+    seconds, output = routines.best(words, rounds)
+    beside_seconds, beside_output = routines.best(beside, rounds)
+    if output != beside_output:
+        raise Failure('the outputs differ: %r and %r' % (output, beside_output))
+    return Row(what, seconds, 's', bar, beside_seconds)
 
 
 def programs(program, rounds, folder):
     """The rows of compiled programs beside JavaScript and Python."""
     for kind, which in FOLDERS:
         for name in which.PROGRAMS:
-            words = dict(routines.ways(os.path.join(which.FOLDER, name), program, folder))
-            yield from ways_of(name, kind, words, lambda way, words=words: timed(words[way], folder, rounds))
+            def ways(name=name, which=which):
+                return dict(routines.ways(os.path.join(which.FOLDER, name), program, folder))
 
+            def run(name=name, ways=ways):
+                words = ways()
+                return row_of_times('`run` of %s beside Python' % name, words['sather'], words['python'], 2, rounds)
 
-def ways_of(name, kind, words, time_of):
-    """The rows of one program, whose ways have these words."""
-    if kind == 'iters':
-        yield name, lambda: Row('run of %s, beside Python' % name, time_of('sather'), 's', 2, time_of('python'))
-    if 'module' in words:
-        what, bar = 'module of %s in V8, beside JavaScript' % name, 1 if kind == 'iters' else 1.3
-        yield name, lambda: Row(what, time_of('module'), 's', bar, time_of('js'))
+            def module(name=name, ways=ways, bar=1 if kind == 'iters' else 1.3):
+                words = ways()
+                return row_of_times('the module of %s in V8 beside JavaScript' % name, words['module'], words['js'], bar, rounds)
+
+            if kind == 'iters':
+                yield name, run
+            if shutil.which('node'):
+                yield name, module
 
 
 def counts(program, folder):
@@ -125,15 +165,15 @@ def sizes(program, rounds, folder):
             file.write(checker.ordinary(checker.LARGEST))
         return [program, 'check', 'f.sa']
 
-    yield 'decode', lambda: Row('60 MiB decoded and validated', timed(module(), folder, rounds), 's', 3)
+    yield 'decode', lambda: Row('60 MiB decoded and validated', routines.best(module(), rounds, folder)[0], 's', 3)
     yield 'decode', lambda: Row('60 MiB decoded and validated', mebibytes(module(), folder), 'MiB', 1229)
-    yield 'check', lambda: Row('check of 4 MiB', timed(source(), folder, rounds), 's', 1.2)
+    yield 'check', lambda: Row('`check` of 4 MiB', routines.best(source(), rounds, folder)[0], 's', 1.2)
 
 
-def rows(program, rounds, folder):
+def rows(program, rounds, scale, folder):
     """All rows by their names, each to be measured when it is asked for."""
     if shutil.which('wasm-interp') and shutil.which('wat2wasm'):
-        yield from modules(program, rounds, folder)
+        yield from modules(program, rounds, scale, folder)
     else:
         print('wabt is missing: nothing is run beside wasm-interp')
     if not shutil.which('node'):
@@ -143,20 +183,33 @@ def rows(program, rounds, folder):
     yield from sizes(program, rounds, folder)
 
 
+def measured(name, measure, is_table):
+    """Measures a row and prints it. Gives whether it is within its bar."""
+    try:
+        row = measure()
+    except (Failure, ValueError, subprocess.SubprocessError) as failure:
+        print('%s: %s' % (name, failure), flush=True)
+        return False
+    printed(row.cells(), is_table)
+    return row.is_well
+
+
 def main():
     words = argparse.ArgumentParser(description=__doc__, formatter_class=argparse.RawDescriptionHelpFormatter)
     words.add_argument('--program', default=os.path.join(os.path.dirname(routines.HERE), 'sather'))
     words.add_argument('--rounds', type=int, default=3)
+    words.add_argument('--scale', type=int, default=100)
     words.add_argument('--only', default='')
+    words.add_argument('--table', action='store_true')
     given = words.parse_args()
     well = True
-    print('%-52s %12s %12s %7s   %s' % ('what', 'measured', 'beside', 'ratio', 'bar'))
+    printed(HEAD, given.table)
+    if given.table:
+        printed(('---',) * len(HEAD), True)
     with tempfile.TemporaryDirectory() as folder:
-        for name, measure in rows(os.path.abspath(given.program), given.rounds, folder):
+        for name, measure in rows(os.path.abspath(given.program), given.rounds, given.scale, folder):
             if given.only in name:
-                row = measure()
-                well &= row.is_well
-                print(row, flush=True)
+                well &= measured(name, measure, given.table)
     return 0 if well else 1
 
 

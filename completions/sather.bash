@@ -18,6 +18,10 @@ _sather() {
       mapfile -t COMPREPLY < <(compgen -W "$commands" -- "$word")
       return
       ;;
+    lib)
+      mapfile -t COMPREPLY < <(compgen -W "$("${COMP_WORDS[0]}" lib 2>/dev/null | grep -o '^[a-z][a-z0-9_]*')" -- "$word")
+      return
+      ;;
     *) return ;;
   esac
   case $before in

@@ -7,8 +7,8 @@ promise of every input: source_verdicts.py, contract_verdicts.py and module_verd
 
 The seed, which is printed at the start, and the number of an input are all that it is made of. What breaks a promise is told, and
 kept in FOLDER, as it was and made smaller (shrinking.py), with what to type to see it again. N jobs work side by side, one a
-processor without --jobs. TREE is the program `typed_tree`; where it is given, programs are run by the written meaning too. A line of
-FILE tells each run: the seed, and how many inputs of each sort were judged."""
+processor without --jobs. TREE is the program `typed_tree`; where it is given, programs are run by the written meaning too. FILE gets
+a line at the end, and one every five minutes until then: the seed, and how many inputs of each sort were judged since the start."""
 import argparse
 import collections
 import concurrent.futures
@@ -36,6 +36,7 @@ from verdicts import Wrong
 TOP = os.path.join(os.path.dirname(os.path.abspath(__file__)), '..')
 KEPT = os.path.join(TOP, 'out', 'fuzz')
 BATCH = 40          # inputs that are judged before they are told
+LOGGED = 300        # seconds after which the log has a line again
 
 
 # ---- judging
@@ -104,11 +105,11 @@ def work(judging, seed, ways, numbers):
 # ---- telling
 
 class Fuzzing:
-    """The report, the seed, and the folder in which is kept what breaks a promise."""
+    """The report, the seed, the folder in which is kept what breaks a promise, and the path of the log or None."""
 
-    def __init__(self, told, program, tree, seed, folder):
-        self.told, self.program, self.tree, self.seed, self.folder = told, program, tree, seed, folder
-        self.counts = collections.Counter()
+    def __init__(self, told, program, tree, seed, folder, log):
+        self.told, self.program, self.tree, self.seed, self.folder, self.log_path = told, program, tree, seed, folder, log
+        self.counts, self.logged = collections.Counter(), time.monotonic()
 
     def keep(self, found, name, one):
         """Writes an input, and gives the path of its file."""
@@ -134,6 +135,8 @@ class Fuzzing:
         for found in founds:
             self.tell(found)
         self.told.tell()
+        if time.monotonic() - self.logged > LOGGED:
+            self.log()
 
     def lines(self):
         """How many inputs of each kind there were."""
@@ -145,11 +148,15 @@ class Fuzzing:
         self.told.close_part()
         for line in self.lines():
             self.told.line(line)
+        self.log()
 
-    def log(self, path):
-        """Adds a line to a file that tells of the whole run."""
+    def log(self):
+        """Adds a line to the log that tells of the run up to here."""
+        self.logged = time.monotonic()
+        if self.log_path is None:
+            return
         of = {ending: sum(count for (_, one), count in self.counts.items() if one == ending) for ending in (SOURCES, MODULES)}
-        with open(path, 'a', encoding='utf-8') as file:
+        with open(self.log_path, 'a', encoding='utf-8') as file:
             file.write('%s seed %d: %d sources, %d modules, %d wrong (%s)\n' % (
                 time.strftime('%H:%M:%S'), self.seed, of[SOURCES], of[MODULES], self.told.failed, ', '.join(self.lines())))
 
@@ -175,17 +182,19 @@ def run_batches(fuzzing, judging, ways, jobs, left):
                 fuzzing.take(*future.result())
 
 
-def try_all(program, told, count=None, seconds=None, seed=1, ways=(make_source, make_module), jobs=None, folder=KEPT, tree=None):
-    """Judges so many inputs, or for so many seconds, and gives what came of them."""
+def try_all(program, told, count=None, seconds=None, seed=1, ways=(make_source, make_module), jobs=None, folder=KEPT, tree=None,
+            log=None):
+    """Judges so many inputs, or for so many seconds."""
     judges.tell_missing(told)
     told.part('sources and modules without end, seed %d' % seed, count or 0)
-    fuzzing = Fuzzing(told, program, tree, seed, folder)
+    fuzzing = Fuzzing(told, program, tree, seed, folder, log)
     until = None if seconds is None else time.monotonic() + seconds
+    if make_module in ways:
+        inputs.known_modules(program)   # which the processes of the jobs then have
     with kept.folders() as (quick, library):
         judging = program, tree, quick, library
         run_batches(fuzzing, judging, ways, jobs or report.processors(), batches(count, until))
     fuzzing.close()
-    return fuzzing
 
 
 def try_again(program, tree, told, paths):
@@ -225,9 +234,7 @@ def main():
     ways = [make_source] * (not given.modules) + [make_module] * (not given.sources)
     seed = random.SystemRandom().randrange(1 << 32) if given.seed is None else given.seed
     told.line('seed %d' % seed)
-    fuzzing = try_all(program, told, given.count, given.seconds, seed, ways, given.jobs, given.keep, tree)
-    if given.log:
-        fuzzing.log(given.log)
+    try_all(program, told, given.count, given.seconds, seed, ways, given.jobs, given.keep, tree, given.log)
     return told.close()
 
 

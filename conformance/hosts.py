@@ -8,6 +8,7 @@ Runs modules that `PROGRAM build` makes in the hosts of hosts/, Node and C by wa
 - the options of the host of Node end a run that passes them.
 
 A tool that is missing is named, and what needs it is left out. --only takes the tries whose names hold a word."""
+import contextlib
 import dataclasses
 import functools
 import os
@@ -18,27 +19,36 @@ import sys
 import examples
 import judges
 import report
+from hostile import unread_pipe
 from report import Left
 
 HOSTS = os.path.join(os.path.dirname(os.path.abspath(__file__)), '..', 'hosts')
 RUN_JS = os.path.join(HOSTS, 'node', 'run.js')
 BUILD = os.path.join(HOSTS, 'c', 'build')
 WABT = '1.0.32'     # the version of wasm2c that hosts/c fits
-SPENT = 122         # the status of a run whose time is up
+TIME_SPENT = b'time spent\n'
 RUNTIME = os.environ.get('WASM2C_RUNTIME', '/usr/share/wabt/wasm2c')
 DEEP = b'class MAIN is f(n:INT):INT is a ::= n * 2; return f(n + 1) + a; end; main is #OUT + "a\\n"; #OUT + f(0); end; end;'
 ENDLESS = b'class MAIN is main is #OUT + "a\\n"; loop end; end; end;'
+PRINTS = b'class MAIN is main is loop 100000.times!; #OUT + "a"; end; end; end;'
 DIVIDES = b'class MAIN is main is #OUT + "a";\n#OUT + 1 / 0; end; end;'
 COPY = b'class MAIN is main is loop b ::= #IN.get_byte; while!(b >= 0); #OUT + b.char; end; end; end;'
 
 
 @dataclasses.dataclass
 class Try:
-    """A program that is run in the hosts: its name, its source, its input, and the command whose run it is held to."""
+    """A program that is run in the hosts: its name, its source, its input, the command whose run it is held to, and whether
+    somebody reads its output."""
     name: str
     source: bytes
     input: bytes = b''
     command: str = 'exec'
+    is_read: bool = True
+
+    def run(self, words, folder, **how):
+        """What the words leave that run it in a folder."""
+        with contextlib.nullcontext(subprocess.PIPE) if self.is_read else unread_pipe() as out:
+            return report.run(words, folder, input=self.input, stdout=out, **how)
 
 
 ENDS = [
@@ -48,13 +58,16 @@ ENDS = [
     Try('each byte goes through', COPY, bytes(range(256)) * 800),
     Try('the end of the input comes again', b'class MAIN is main is #OUT + #IN.get_byte + #IN.get_byte; end; end;'),
     Try('a raise that nothing catches', b'class MAIN is main is raise "a"; end; end;'),
+    Try('an output that nobody reads', b'class MAIN is main is loop #OUT + "a"; end; end; end;', is_read=False),
 ]
 
 # A name, the options and the module for run.js, the source, and what has to be left.
 OPTIONS = [
-    ('a run is ended when its time is up', ['--seconds', '1', 'm.wasm'], ENDLESS, Left(b'a\n', b'time spent\n', 122)),
+    ('a run is ended when its time is up', ['--seconds', '1', 'm.wasm'], ENDLESS, Left(b'a\n', TIME_SPENT, 122)),
     ('a run within its time ends by itself', ['--seconds', '100', 'm.wasm'], COPY, Left()),
     ('a memory past the limit isn\'t given', ['--memory', '1', 'm.wasm'], COPY, Left(lines=b'out of memory\n', status=125)),
+    ('an output past the limit isn\'t written', ['--output', '70', 'm.wasm'], PRINTS, Left(b'a' * 71680, b'output spent\n', 122)),
+    ('an output within the limit is whole', ['--output', '98', 'm.wasm'], PRINTS, Left(b'a' * 100000)),
     ('a small stack ends deep calls', ['--stack', '1', 'm.wasm'], DEEP, Left(b'a\n', b'm.wasm: too deep\n', 126)),
     ('the sites tell the line of a fault', ['--sites', 'm.json', 'm.wasm'], DIVIDES,
      Left(b'a', b'm.sa:2: fault: division by zero\n', 121)),
@@ -64,18 +77,18 @@ OPTIONS = [
 ]
 
 
-def in_node(folder, given):
+def in_node(folder, tried):
     """What the module leaves in the host of Node."""
-    return report.run(['node', RUN_JS, 'm.wasm'], folder, input=given)
+    return tried.run(['node', RUN_JS, 'm.wasm'], folder)
 
 
-def in_c(folder, given):
+def in_c(folder, tried):
     """What the module leaves as a native program, or what the making of one leaves where it fails."""
     made = report.run([BUILD, '-o', 'native', 'm.wasm'], folder, env={**os.environ, 'CFLAGS': '-O1'})
     if made.status != 0:
         return made
     # The program tells the name by which it was called.
-    return report.run(['m.wasm'], folder, executable=os.path.join(folder, 'native'), input=given)
+    return tried.run(['m.wasm'], folder, executable=os.path.join(folder, 'native'))
 
 
 def has_c():
@@ -103,7 +116,7 @@ def hosts_here(told):
 def held_to(program, tried, folder):
     """What the program itself leaves, which the hosts are held to."""
     words = ['run', 'm.sa'] if tried.command == 'run' else ['exec', 'm.wasm']
-    return report.run([program, *words], folder, input=tried.input)
+    return tried.run([program, *words], folder)
 
 
 def compared(program, hosts, tried):
@@ -113,7 +126,7 @@ def compared(program, hosts, tried):
         if built != Left():
             return 'build left %r and status %d' % (built.lines, built.status)
         wanted = held_to(program, tried, folder)
-        return {name: report.difference(wanted, host(folder, tried.input)) for name, host in hosts.items()}
+        return {name: report.difference(wanted, host(folder, tried)) for name, host in hosts.items()}
 
 
 def with_options(program, option):
@@ -123,7 +136,7 @@ def with_options(program, option):
         report.run([program, 'build', '--sites', 'm.json', '-o', 'm.wasm', 'm.sa'], folder)
         left = report.run(['node', RUN_JS, *words], folder)
         # Where the machine is busy, the time may be up before anything was put out.
-        return report.difference(wanted, left, output_may_be_cut=wanted.status == SPENT)
+        return report.difference(wanted, left, output_may_be_cut=wanted.lines == TIME_SPENT)
 
 
 def of_examples():

@@ -14,8 +14,8 @@ import time
 
 HERE = os.path.dirname(os.path.abspath(__file__))
 SECONDS = 60
+V8_SECONDS = 60     # of a processor that a process of V8 may take for all its modules
 BUSY = 20           # how many times longer than its seconds of a processor a process may take on a busy machine
-V8_SECONDS = 30     # that V8 may take for a module
 OWN_LINE = re.compile(rb'm: (malformed|invalid|unlinked \d+|segment|trap|too deep)\n')
 STOPPED = re.compile(rb'm: (stop \d+ at \d+)\n')
 STATS = re.compile(rb'steps (\d+), bytes (\d+)\n$')
@@ -123,11 +123,11 @@ def answer_of_v8(answer):
 
 
 class V8:
-    """V8, asked of one module after the other, with so many bytes of stack. Its process stays as long as it answers: to start one
-    takes longer than to judge a hundred modules."""
+    """V8, asked of one module after the other, with so many bytes of stack, for so many seconds by the clock each. Its process stays
+    as long as it answers and has seconds of a processor left: to start one takes longer than to judge a hundred modules."""
 
-    def __init__(self, stack):
-        self.stack, self.process, self.judged = stack, None, 0
+    def __init__(self, stack, patience):
+        self.stack, self.patience, self.process, self.judged = stack, patience, None, 0
 
     def ask(self, module, given, run):
         """Whether a module is valid, and its run or None. What goes wrong is no answer of a process that has judged others before
@@ -146,10 +146,10 @@ class V8:
         self.judged += 1
         self.process.stdin.write(task.encode() + b'\n')
         self.process.stdin.flush()
-        line, late = b'', time.monotonic() + BUSY * V8_SECONDS
+        line, late = b'', time.monotonic() + self.patience
         while not line.endswith(b'\n'):
             if not select.select([self.process.stdout], [], [], max(late - time.monotonic(), 0))[0]:
-                raise subprocess.TimeoutExpired('node', BUSY * V8_SECONDS)
+                raise subprocess.TimeoutExpired('node', self.patience)
             more = os.read(self.process.stdout.fileno(), 1 << 16)
             if not more:
                 raise ValueError('node has ended')
@@ -160,7 +160,7 @@ class V8:
         """Starts a process."""
         words = ['node', '--expose-gc', '--stack-size=%d' % (stack_within(self.stack) // 1024), os.path.join(HERE, 'v8.js')]
         self.process = subprocess.Popen(words, stdin=subprocess.PIPE, stdout=subprocess.PIPE, stderr=subprocess.DEVNULL, bufsize=0,
-                                        preexec_fn=functools.partial(limited, None, self.stack))
+                                        preexec_fn=functools.partial(limited, V8_SECONDS, self.stack))
         self.judged = 0
 
     def end(self):
@@ -178,10 +178,8 @@ def stack_within(stack):
 
 
 def limited(seconds, stack):
-    """Lets the process have so many seconds of a processor, where they are given, and as large a stack as the system allows, where
-    one is given."""
-    if seconds is not None:
-        resource.setrlimit(resource.RLIMIT_CPU, (seconds, seconds + 5))
+    """Lets the process have so many seconds of a processor, and as large a stack as the system allows, where one is given."""
+    resource.setrlimit(resource.RLIMIT_CPU, (seconds, seconds + 5))
     if stack is not None:
         _, most = resource.getrlimit(resource.RLIMIT_STACK)
         resource.setrlimit(resource.RLIMIT_STACK, (most, most))

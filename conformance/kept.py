@@ -1,5 +1,5 @@
 """Programs that are kept started. The library keeping.c stands before their main function: what a start does is done once, and each
-call is answered by a copy of the process. Where cc or Linux is missing, each call is a start of its own."""
+call is answered by a copy of the process. A script, or where cc or Linux is missing any program, is started for each call."""
 import contextlib
 import os
 import resource
@@ -145,10 +145,16 @@ class Kept:
         return os.pread(file, size, 0) if size else b''
 
 
+def is_script(path):
+    """Whether the program at a path is a script: what could be kept started of it is its interpreter, with other words."""
+    with open(path, 'rb') as file:
+        return file.read(2) == b'#!'
+
+
 def program(path, folder, limits, library_path):
     """The program at a path, kept started where that can be."""
     path = shutil.which(path) or path
-    if library_path is not None:
+    if library_path is not None and not is_script(path):
         one = Kept(path, folder, limits, library_path)
         if one.answers_calls():
             return one

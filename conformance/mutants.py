@@ -28,7 +28,7 @@ def tokens_in(text):
         if at == len(text):
             return tuple(pieces + ([text[begun:]] if begun < at else []))
         try:
-            end = source_reader.token_at(text, at).end
+            end = source_reader.token_at(text, at)[0].end
         except Refused:
             end = at + 1
         pieces.append(text[begun:end])

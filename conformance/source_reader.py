@@ -1,5 +1,6 @@
 """Reads sources by the rules of docs/LANGUAGE.md: the tokens, then the words and the levels, then the grammar. It shares nothing
 with the compiler that it judges, and tells the refusal of a source by these rules, E01 to E08, or that there is none."""
+import functools
 import re
 import sys
 
@@ -24,9 +25,14 @@ PREFIX = re.compile(rb'0[xob]')
 GOES_ON = re.compile(rb'[A-Za-z0-9]|\.[0-9]')
 LITERALS = {quote: re.compile(rb'%b((?:[^%b\\\n]|\\[^\n])*)%b' % (quote, quote, quote)) for quote in (b"'", b'"')}
 ITEM = re.compile(rb'\\[0-7]{1,3}|\\.|[^\\]', re.S)
+KINDS = ((b'INAME', ITER_NAME.pattern), (b'name', NAME.pattern), (b'ANAME', ABSTRACT_NAME.pattern))
 BEGINNING = re.compile(b'|'.join(rb'(?P<%b>%b)' % one for one in (
-    (b'INAME', ITER_NAME.pattern), (b'name', NAME.pattern), (b'ANAME', ABSTRACT_NAME.pattern), (b'number', b'[0-9]'),
-    (b'character', b"'"), (b'text', b'"'), (b'sign', SIGNS))))
+    *KINDS, (b'number', b'[0-9]'), (b'character', b"'"), (b'text', b'"'), (b'sign', SIGNS))))
+# Tokens as most are spelled, each with the gap behind it. None of these can be another token, or none.
+KNOWN = rb'\\(?:[0-3][0-7][0-7]|[0-7]{1,2}(?![0-7])|[abfnrtv\\\'"])'
+PLAIN = re.compile(rb'(?:%b)%b' % (b'|'.join(rb'(?P<%b>%b)' % one for one in (
+    *KINDS, (b'sign', SIGNS), (b'number', rb'[0-9]{1,9}(?![0-9A-Za-z_]|\.[0-9])'), (b'character', rb"'(?:[^'\\\n]|%b)'" % KNOWN),
+    (b'text', rb'"[^"\\\n]*(?:%b[^"\\\n]*)*"' % KNOWN))), GAP.pattern))
 ESCAPED = b'abfnrtv\\\'"'
 
 MODES = ('in', 'out', 'inout', 'once')
@@ -93,30 +99,43 @@ def literal_end(text, at):
     return found.end()
 
 
-def token_at(text, at):
+def read_token(text, at):
     """The longest token at a place."""
     found = BEGINNING.match(text, at)
     if not found:
         raise Refused('E01', at)
     kind = found.lastgroup
-    if kind == 'name':
-        spelled = found.group()
-        return Token(SYMBOLS.get(spelled) or ('CNAME' if spelled.isupper() else 'LNAME'), at, found.end())
-    if kind == 'sign':
-        return Token(found.group().decode(), at, found.end())
     if kind == 'number':
         return Token(kind, at, number_end(text, at))
     if kind in ('character', 'text'):
         return Token(kind, at, literal_end(text, at))
-    return Token(kind, at, found.end())
+    return Token(symbol_of(kind, found.group()), at, found.end())
 
 
+def symbol_of(kind, spelled):
+    """The symbol of a token that begins like one of a kind and is spelled so."""
+    if kind == 'name':
+        return SYMBOLS.get(spelled) or ('CNAME' if spelled.isupper() else 'LNAME')
+    return spelled.decode() if kind == 'sign' else kind
+
+
+def token_at(text, at):
+    """The token at a place, and where the next one would begin."""
+    found = PLAIN.match(text, at)
+    if found:
+        kind = found.lastgroup
+        return Token(symbol_of(kind, found.group(kind)), at, found.end(kind)), found.end()
+    token = read_token(text, at)
+    return token, GAP.match(text, token.end).end()
+
+
+@functools.lru_cache(maxsize=1)
 def tokens_of(text):
-    """The tokens of a source."""
+    """The tokens of a source, which are kept until another is read."""
     tokens, at = [], GAP.match(text).end()
     while at < len(text):
-        tokens.append(token_at(text, at))
-        at = GAP.match(text, tokens[-1].end).end()
+        token, at = token_at(text, at)
+        tokens.append(token)
     return tokens
 
 

@@ -10,6 +10,7 @@ import kept
 import programs
 
 SECONDS = 10                # of a processor
+PATIENCE = 3_600            # seconds by the clock: a machine that has other work may let an answer wait for long
 MEMORY = 2 << 30            # bytes of addresses
 FUEL = 2_000_000
 GIVEN = b'some input\n\0\xff 12'
@@ -46,13 +47,13 @@ class Host:
     the library that keeps programs started, or None."""
 
     def __init__(self, program, tree, folder, library):
-        limits = kept.Limits(SECONDS, MEMORY, judges.BUSY * SECONDS)
+        limits = kept.Limits(SECONDS, MEMORY, PATIENCE)
         self.path, self.folder = program, folder
         self.program = kept.program(program, folder, limits, library)
         self.started = kept.Started(program, folder, limits)
         self.tree = kept.program(tree, folder, limits, library) if tree else None
         self.wabt = kept.program('wasm-validate', folder, limits, library) if judges.has_wabt() else None
-        self.v8 = judges.V8(programs.STACK) if judges.has_node() else None
+        self.v8 = judges.V8(programs.STACK, PATIENCE) if judges.has_node() else None
         self.put('f.sa', WITH_CONTRACT)
         self.takes_contracts = self.call('check', 'f.sa').status == 0
 

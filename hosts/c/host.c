@@ -2,6 +2,7 @@
    line on err are those of `sather exec`, with the name by which the program was called for that of the module. */
 #include <errno.h>
 #include <pthread.h>
+#include <signal.h>
 #include <stdio.h>
 #include <stdlib.h>
 #include <unistd.h>
@@ -89,6 +90,8 @@ int main(int words, char **word) {
   pthread_t thread;
   (void)words;
   env.name = word[0];
+  /* A pipe that nobody reads is an output fault. */
+  signal(SIGPIPE, SIG_IGN);
   if (pthread_attr_init(&attributes) != 0 || pthread_attr_setstacksize(&attributes, STACK) != 0 ||
       pthread_create(&thread, &attributes, run, &env) != 0)
     leave(NO_MEMORY, "out of memory\n");

@@ -1,5 +1,5 @@
 #!/usr/bin/env node
-// run.js [--seconds N] [--stack MIB] [--memory MIB] [--sites SITES] MODULE
+// run.js [--seconds N] [--stack MIB] [--memory MIB] [--output KIB] [--sites SITES] MODULE
 //
 // Runs a module that `sather build` wrote, with the statuses and the lines on err of `sather exec`; with the sites that it wrote beside the
 // module, a fault has its line of the source, as by `sather run`.
@@ -14,7 +14,7 @@ const {setTimeout} = require('timers/promises');
 const {parseArgs} = require('util');
 const {Worker, isMainThread, parentPort, receiveMessageOnPort, workerData} = require('worker_threads');
 
-const USAGE = 'usage: node run.js [--seconds N] [--stack MIB] [--memory MIB] [--sites SITES] MODULE';
+const USAGE = 'usage: node run.js [--seconds N] [--stack MIB] [--memory MIB] [--output KIB] [--sites SITES] MODULE';
 const STACK = 1024;                 // MiB of stack without the option: calls 10,000 deep have room in it
 const PAGES = 16;                   // pages of a memory in a MiB
 const BUFFER = 65536;               // bytes that are written together
@@ -40,7 +40,9 @@ function command(words) {
   const option = {type: 'string'};
   try {
     const {values, positionals} = parseArgs({
-      args: words, allowPositionals: true, options: {seconds: option, stack: option, memory: option, sites: option},
+      args: words,
+      allowPositionals: true,
+      options: {seconds: option, stack: option, memory: option, output: option, sites: option},
     });
     const {sites, ...limits} = values;
     const numbers = Object.values(limits).every((text) => /^0*[1-9][0-9]{0,8}$/.test(text));
@@ -68,17 +70,21 @@ function sitesOf(name) {
   }
 }
 
-// Writes the bytes that are pending. A pipe that takes none for now is asked again.
-function write({output, counts}) {
+// Writes the bytes that are pending, as far as the output may go. A pipe that takes none for now is asked again.
+function write(shared) {
+  const {output, counts} = shared;
+  const due = Math.min(counts[PENDING], shared.left);
   let from = 0;
-  while (from < counts[PENDING]) {
+  while (from < due) {
     try {
-      from += fs.writeSync(1, output, from, counts[PENDING] - from);
+      from += fs.writeSync(1, output, from, due - from);
     } catch (error) {
       if (error.code !== 'EAGAIN') throw new End(123, 'output fault');
       Atomics.wait(counts, PENDING, counts[PENDING], 10);
     }
   }
+  if (due < counts[PENDING]) throw new End(122, 'output spent');
+  shared.left -= due;
   counts[PENDING] = 0;
 }
 
@@ -112,13 +118,14 @@ async function timeLimit(seconds, worker, shared) {
 }
 
 async function main(words) {
-  const {name, seconds, stack, memory, sites: file} = command(words);
+  const {name, seconds, stack, memory, output, sites: file} = command(words);
   const bytes = bytesOf(name);
   const sites = file === undefined ? [] : sitesOf(file);
   if (memory) v8.setFlagsFromString(`--wasm-max-mem-pages=${Math.min(memory * PAGES, 65536)}`);
   const shared = {
     output: new Uint8Array(new SharedArrayBuffer(BUFFER)),
     counts: new Int32Array(new SharedArrayBuffer(8)),
+    left: output ? output * 1024 : Infinity, // bytes that may still be written
   };
   const worker = new Worker(__filename, {
     workerData: {name, bytes, sites, shared}, resourceLimits: {stackSizeMb: Number(stack ?? STACK)},

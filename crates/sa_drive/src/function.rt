@@ -26,10 +26,10 @@ pub fn say_function(
     Ok(())
 }
 
-fn exported(
-    front: &str,
+fn exported<'a>(
+    front: &'a str,
     number: usize,
-    name: &[u8],
+    name: &'a [u8],
     said: &mut Sentences,
 ) -> Result<(), AllocError> {
     said.say(&[

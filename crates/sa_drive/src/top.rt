@@ -175,7 +175,7 @@ fn do_command<'a, S: WriteFiles, I: Source, O: Sink, E: Sink>(
 /// What comes of words that give no command, for this cause, of which so much is to be told.
 fn without_command<'a>(alloc: Global, asked: Asked<'a>, cause: Cause) -> Obeyed<'a>
     ensures cause { result.outcome.cause ≡ cause }
-    ensures detail { result.asked.detail ≡ asked.detail }
+    ensures detail { result.asked.detail ≡ asked.entry.detail }
     ensures done { result.outcome.done ≡ 0 }
     ensures bytes { result.outcome.«module».items ≡ [] }
     ensures file { result.outcome.file.now ≡ [] }

@@ -36,7 +36,9 @@ fn say_mistake(
             owners,
         } => {
             unknown_option(alloc, command, option.as_str(), owners.as_slice(), said)?;
-            did_you_mean(near, said)?;
+            if owners.is_empty() {
+                did_you_mean(near, said)?;
+            }
             behind_one_dash(option.as_bytes(), said)
         }
         Mistake::FurtherWord(word) => about(
@@ -118,11 +120,11 @@ fn about_files(
 }
 
 /// A sentence about a word and a command.
-fn about(
-    word: &str,
-    is: &str,
-    command: &str,
-    end: &str,
+fn about<'a>(
+    word: &'a str,
+    is: &'a str,
+    command: &'a str,
+    end: &'a str,
     said: &mut Sentences,
 ) -> Result<(), AllocError> {
     said.say(&[
@@ -134,16 +136,20 @@ fn about(
 }
 
 /// A sentence about an option.
-fn about_option(option: &String, is: &str, said: &mut Sentences) -> Result<(), AllocError> {
+fn about_option<'a>(
+    option: &'a String,
+    is: &'a str,
+    said: &mut Sentences,
+) -> Result<(), AllocError> {
     said.say(&[Part::Code(option.as_bytes()), Part::Words(is)])
 }
 
 /// An option that a command hasn't got, and these commands have.
-fn unknown_option(
+fn unknown_option<'a>(
     alloc: Global,
-    command: &str,
-    option: &str,
-    owners: &[&str],
+    command: &'a str,
+    option: &'a str,
+    owners: &'a [&'a str],
     said: &mut Sentences,
 ) -> Result<(), AllocError> {
     let mut parts = Vec::new(alloc);
