@@ -1,5 +1,5 @@
 -- Whether statements, tests and branches are well typed, from a place on.
-use Rattle.std.proofs.Common.{◌≡◌, ℕ, ◌+◌, ◌<◌, ◌&&◌, Bool, true, false, List, Some, length, get_or, drop, refl, ◌∙◌, add-one, drop-cons}
+use Rattle.std.proofs.Common.{◌≡◌, ℕ, ◌+◌, ◌<◌, ◌&&◌, Bool, true, false, List, Some, length, get_or, drop, refl, sym, ap, ◌∙◌, add-one, drop-cons}
 use Rattle.std.proofs.Math.Seq.{drop-length}
 use Rattle.sa_core.specs.declared.expr.ExprCore.{ExprCore}
 use Rattle.sa_core.specs.declared.stmt.ArmCore.{ArmCore}
@@ -30,11 +30,20 @@ module _ (f : Frame) (at : Place) where
       rw (add-one, drop-cons xs i x, ← e) in
       step ∙ and-assoc (are_tests f at (test_of x).0) (well_stmts f at (test_of x).1) (well_tests f at (tests_of (drop (i + 1) xs)))
 
-  pub well_cases-drop : (tested : ℕ) (xs : List ArmCore) (i : ℕ) (x : ArmCore) → i < length xs → x ≡ get_or xs i x → well_cases f at (Some tested) (arms_of (drop i xs)) ≡ ((is_branch_variable f tested (arm_of x).0 (arm_of x).1 && well_stmts f at (arm_of x).2) && well_cases f at (Some tested) (arms_of (drop (i + 1) xs)))
+  well_cases-drop : (tested : ℕ) (xs : List ArmCore) (i : ℕ) (x : ArmCore) → i < length xs → x ≡ get_or xs i x → well_cases f at (Some tested) (arms_of (drop i xs)) ≡ ((is_branch_variable f tested (arm_of x).0 (arm_of x).1 && well_stmts f at (arm_of x).2) && well_cases f at (Some tested) (arms_of (drop (i + 1) xs)))
   well_cases-drop tested xs i x h e =
       let step : well_cases f at (Some tested) (arms_of (drop i xs)) ≡ (is_branch_variable f tested (arm_of x).0 (arm_of x).1 && (well_stmts f at (arm_of x).2 && well_cases f at (Some tested) (arms_of (drop (i + 1) xs)))) =
       rw (add-one, drop-cons xs i x, ← e) in
       step ∙ and-assoc (is_branch_variable f tested (arm_of x).0 (arm_of x).1) (well_stmts f at (arm_of x).2) (well_cases f at (Some tested) (arms_of (drop (i + 1) xs)))
+
+  -- a branch that isn't well typed, and one that is
+  pub well_cases-fails : (tested : ℕ) (xs : List ArmCore) (i : ℕ) (x : ArmCore) → i < length xs → x ≡ get_or xs i x → false ≡ (is_branch_variable f tested (arm_of x).0 (arm_of x).1 && well_stmts f at (arm_of x).2) → well_cases f at (Some tested) (arms_of (drop i xs)) ≡ false
+  well_cases-fails tested xs i x h e no =
+      well_cases-drop tested xs i x h e ∙ ap (λ (b : Bool). b && well_cases f at (Some tested) (arms_of (drop (i + 1) xs))) (sym no)
+
+  pub well_cases-goes : (tested : ℕ) (xs : List ArmCore) (i : ℕ) (x : ArmCore) → i < length xs → x ≡ get_or xs i x → true ≡ (is_branch_variable f tested (arm_of x).0 (arm_of x).1 && well_stmts f at (arm_of x).2) → well_cases f at (Some tested) (arms_of (drop i xs)) ≡ well_cases f at (Some tested) (arms_of (drop (i + 1) xs))
+  well_cases-goes tested xs i x h e yes =
+      well_cases-drop tested xs i x h e ∙ ap (λ (b : Bool). b && well_cases f at (Some tested) (arms_of (drop (i + 1) xs))) (sym yes)
 
   pub well_branches-drop : (xs : List ArmCore) (i : ℕ) (x : ArmCore) → i < length xs → x ≡ get_or xs i x → well_branches f at (arms_of (drop i xs)) ≡ ((is_type f.rows (arm_of x).0 && well_stmts f (in_branch (arm_of x).0 at) (arm_of x).2) && well_branches f at (arms_of (drop (i + 1) xs)))
   well_branches-drop xs i x h e =
@@ -44,4 +53,4 @@ module _ (f : Frame) (at : Place) where
 
 pub ruleset tests = (are_tests-drop, drop-length)
 
-pub ruleset blocks = (well_stmts-drop, well_tests-drop, well_cases-drop, well_branches-drop, drop-length)
+pub ruleset blocks = (well_stmts-drop, well_tests-drop, well_branches-drop, drop-length)

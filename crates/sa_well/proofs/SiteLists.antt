@@ -1,5 +1,5 @@
 -- The calls of bound values in lists, from a place on.
-use Rattle.std.proofs.Common.{◌≡◌, ℕ, ◌+◌, ◌<◌, ◌≤◌, List, ◌++◌, Option, Some, length, get_or, drop, ap, sym, ◌∙◌, add-one, drop-cons, append_assoc, ◌&&◌, false}
+use Rattle.std.proofs.Common.{◌≡◌, ℕ, ◌+◌, ◌<◌, ◌≤◌, List, ◌++◌, Option, Some, length, get_or, drop, ap, sym, ◌∙◌, add-one, drop-cons, append_assoc, ◌&&◌, Bool, true, false}
 use Rattle.std.proofs.Math.Seq.{drop-length}
 use Rattle.std.proofs.lemmas.List.{append-nil}
 use Rattle.std.proofs.lemmas.Option.{slice_get-get_or, slice_get_past}
@@ -35,23 +35,33 @@ module _ (f : Frame) (at : Place) where
   pub branches_sites-drop : (xs : List ArmCore) (i : ℕ) (x : ArmCore) → i < length xs → x ≡ get_or xs i x → branches_sites f at (arms_of (drop i xs)) ≡ stmts_sites f (in_branch (arm_of x).0 at) (arm_of x).2 ++ branches_sites f at (arms_of (drop (i + 1) xs))
   branches_sites-drop xs i x h e = rw (add-one, drop-cons xs i x, ← e)
 
--- one more call
-pub agree_with-drop : (known : List (Option ℕ)) (xs : List (ℕ × ℕ)) (i : ℕ) (x : ℕ × ℕ) → i < length xs → x ≡ get_or xs i x → agree_with known (drop i xs) ≡ (option_map_or (is_known_as x.1) (slice_get known x.0) false && agree_with (set known x.0 (Some x.1)) (drop (i + 1) xs))
-agree_with-drop known xs i x h e = rw (add-one, drop-cons xs i x, ← e)
+-- one more call, which is at no site, of another type than is known of its site, or of this one
+module _ (known : List (Option ℕ)) (xs : List (ℕ × ℕ)) (i : ℕ) (other : ℕ × ℕ) where
+  agree_with-drop : i < length xs → agree_with known (drop i xs) ≡ (option_map_or (is_known_as (get_or xs i other).1) (slice_get known (get_or xs i other).0) false && agree_with (set known (get_or xs i other).0 (Some (get_or xs i other).1)) (drop (i + 1) xs))
+  agree_with-drop h = rw (add-one, drop-cons xs i other)
 
--- a call at no site, and at one of which so much is known
-pub agree_with-outside : (known : List (Option ℕ)) (xs : List (ℕ × ℕ)) (i : ℕ) (x : ℕ × ℕ) → i < length xs → x ≡ get_or xs i x → length known ≤ x.0 → agree_with known (drop i xs) ≡ false
-agree_with-outside known xs i x h e outside =
-    agree_with-drop known xs i x h e
-    ∙ ap (λ (o : Option (Option ℕ)). option_map_or (is_known_as x.1) o false && agree_with (set known x.0 (Some x.1)) (drop (i + 1) xs)) (slice_get_past known x.0 outside)
+  pub agree_with-outside : i < length xs → length known ≤ (get_or xs i other).0 → agree_with known (drop i xs) ≡ false
+  agree_with-outside h outside =
+      agree_with-drop h
+      ∙ ap (λ (o : Option (Option ℕ)). option_map_or (is_known_as (get_or xs i other).1) o false && agree_with (set known (get_or xs i other).0 (Some (get_or xs i other).1)) (drop (i + 1) xs)) (slice_get_past known (get_or xs i other).0 outside)
 
-pub agree_with-at : (known : List (Option ℕ)) (xs : List (ℕ × ℕ)) (i : ℕ) (x : ℕ × ℕ) (r d : Option ℕ) → i < length xs → x ≡ get_or xs i x → x.0 < length known → r ≡ get_or known x.0 d → agree_with known (drop i xs) ≡ (is_known_as x.1 r && agree_with (set known x.0 (Some x.1)) (drop (i + 1) xs))
-agree_with-at known xs i x r d h e within is =
-    agree_with-drop known xs i x h e
-    ∙ ap (λ (o : Option (Option ℕ)). option_map_or (is_known_as x.1) o false && agree_with (set known x.0 (Some x.1)) (drop (i + 1) xs)) (slice_get-get_or known x.0 d within ∙ ap (λ (o : Option ℕ). Some o) (sym is))
+  agree_with-at : (r d : Option ℕ) → i < length xs → (get_or xs i other).0 < length known → r ≡ get_or known (get_or xs i other).0 d → agree_with known (drop i xs) ≡ (is_known_as (get_or xs i other).1 r && agree_with (set known (get_or xs i other).0 (Some (get_or xs i other).1)) (drop (i + 1) xs))
+  agree_with-at r d h within is =
+      agree_with-drop h
+      ∙ ap (λ (o : Option (Option ℕ)). option_map_or (is_known_as (get_or xs i other).1) o false && agree_with (set known (get_or xs i other).0 (Some (get_or xs i other).1)) (drop (i + 1) xs)) (slice_get-get_or known (get_or xs i other).0 d within ∙ ap (λ (o : Option ℕ). Some o) (sym is))
+
+  pub agree_with-another : (r d : Option ℕ) → i < length xs → (get_or xs i other).0 < length known → r ≡ get_or known (get_or xs i other).0 d → false ≡ is_known_as (get_or xs i other).1 r → agree_with known (drop i xs) ≡ false
+  agree_with-another r d h within is no =
+      agree_with-at r d h within is
+      ∙ ap (λ (b : Bool). b && agree_with (set known (get_or xs i other).0 (Some (get_or xs i other).1)) (drop (i + 1) xs)) (sym no)
+
+  pub agree_with-same : (r d : Option ℕ) → i < length xs → (get_or xs i other).0 < length known → r ≡ get_or known (get_or xs i other).0 d → true ≡ is_known_as (get_or xs i other).1 r → agree_with known (drop i xs) ≡ agree_with (set known (get_or xs i other).0 (Some (get_or xs i other).1)) (drop (i + 1) xs)
+  agree_with-same r d h within is yes =
+      agree_with-at r d h within is
+      ∙ ap (λ (b : Bool). b && agree_with (set known (get_or xs i other).0 (Some (get_or xs i other).1)) (drop (i + 1) xs)) (sym yes)
 
 pub ruleset parts = (copies, append_assoc, append-nil)
 
 pub ruleset lists = (exprs_sites-drop, args_sites-drop, stmts_sites-drop, tests_sites-drop, cases_sites-drop, branches_sites-drop, drop-length, append_assoc, append-nil)
 
-pub ruleset known = (agree_with-outside, agree_with-at, drop-length)
+pub ruleset known = (drop-length)
