@@ -38,12 +38,12 @@ module _ (f : Frame) (at : Place) where
 
   -- a branch that isn't well typed, and one that is
   pub well_cases-fails : (tested : ℕ) (xs : List ArmCore) (i : ℕ) (x : ArmCore) → i < length xs → x ≡ get_or xs i x → false ≡ (is_branch_variable f tested (arm_of x).0 (arm_of x).1 && well_stmts f at (arm_of x).2) → well_cases f at (Some tested) (arms_of (drop i xs)) ≡ false
-  well_cases-fails tested xs i x h e no =
-      well_cases-drop tested xs i x h e ∙ ap (λ (b : Bool). b && well_cases f at (Some tested) (arms_of (drop (i + 1) xs))) (sym no)
+  well_cases-fails tested xs i x h e fails =
+      well_cases-drop tested xs i x h e ∙ ap (λ (b : Bool). b && well_cases f at (Some tested) (arms_of (drop (i + 1) xs))) (sym fails)
 
   pub well_cases-goes : (tested : ℕ) (xs : List ArmCore) (i : ℕ) (x : ArmCore) → i < length xs → x ≡ get_or xs i x → true ≡ (is_branch_variable f tested (arm_of x).0 (arm_of x).1 && well_stmts f at (arm_of x).2) → well_cases f at (Some tested) (arms_of (drop i xs)) ≡ well_cases f at (Some tested) (arms_of (drop (i + 1) xs))
-  well_cases-goes tested xs i x h e yes =
-      well_cases-drop tested xs i x h e ∙ ap (λ (b : Bool). b && well_cases f at (Some tested) (arms_of (drop (i + 1) xs))) (sym yes)
+  well_cases-goes tested xs i x h e goes =
+      well_cases-drop tested xs i x h e ∙ ap (λ (b : Bool). b && well_cases f at (Some tested) (arms_of (drop (i + 1) xs))) (sym goes)
 
   pub well_branches-drop : (xs : List ArmCore) (i : ℕ) (x : ArmCore) → i < length xs → x ≡ get_or xs i x → well_branches f at (arms_of (drop i xs)) ≡ ((is_type f.rows (arm_of x).0 && well_stmts f (in_branch (arm_of x).0 at) (arm_of x).2) && well_branches f at (arms_of (drop (i + 1) xs)))
   well_branches-drop xs i x h e =

@@ -26,6 +26,13 @@ drop-step xs i x h e = rw (add-one, drop-cons xs i x, ← e)
 pub list_all-drop : {X : Type 0} (test : X → Bool) (xs : List X) (i : ℕ) (x : X) → i < length xs → x ≡ get_or xs i x → list_all test (drop i xs) ≡ (test x && list_all test (drop (i + 1) xs))
 list_all-drop test xs i x h e = rw (add-one, drop-cons xs i x, ← e)
 
+-- one that fails the test, and one that passes it
+pub list_all-fails : {X : Type 0} (test : X → Bool) (xs : List X) (i : ℕ) (x : X) → i < length xs → x ≡ get_or xs i x → false ≡ test x → list_all test (drop i xs) ≡ false
+list_all-fails test xs i x h e fails = list_all-drop test xs i x h e ∙ ap (λ (b : Bool). b && list_all test (drop (i + 1) xs)) (sym fails)
+
+pub list_all-goes : {X : Type 0} (test : X → Bool) (xs : List X) (i : ℕ) (x : X) → i < length xs → x ≡ get_or xs i x → true ≡ test x → list_all test (drop i xs) ≡ list_all test (drop (i + 1) xs)
+list_all-goes test xs i x h e goes = list_all-drop test xs i x h e ∙ ap (λ (b : Bool). b && list_all test (drop (i + 1) xs)) (sym goes)
+
 pub rises_from-drop : (last : Option ℕ) (xs : List ℕ) (i x : ℕ) → i < length xs → x ≡ get_or xs i x → rises_from last (drop i xs) ≡ (is_after last x && rises_from (Some x) (drop (i + 1) xs))
 rises_from-drop last xs i x h e = rw (add-one, drop-cons xs i x, ← e)
 
@@ -68,11 +75,26 @@ module _ (w : Rows) where
   pub well_signatures-drop : (xs : List SigCore) (i : ℕ) (x : SigCore) → i < length xs → x ≡ get_or xs i x → well_signatures w i (drop i xs) ≡ (well_signature w i x && well_signatures w (i + 1) (drop (i + 1) xs))
   well_signatures-drop xs i x h e = ap (well_signatures w i) (drop-step xs i x h e)
 
+  pub well_signatures-fails : (xs : List SigCore) (i : ℕ) (x : SigCore) → i < length xs → x ≡ get_or xs i x → false ≡ well_signature w i x → well_signatures w i (drop i xs) ≡ false
+  well_signatures-fails xs i x h e fails =
+      well_signatures-drop xs i x h e ∙ ap (λ (b : Bool). b && well_signatures w (i + 1) (drop (i + 1) xs)) (sym fails)
+
+  pub well_signatures-goes : (xs : List SigCore) (i : ℕ) (x : SigCore) → i < length xs → x ≡ get_or xs i x → true ≡ well_signature w i x → well_signatures w i (drop i xs) ≡ well_signatures w (i + 1) (drop (i + 1) xs)
+  well_signatures-goes xs i x h e goes =
+      well_signatures-drop xs i x h e ∙ ap (λ (b : Bool). b && well_signatures w (i + 1) (drop (i + 1) xs)) (sym goes)
+
   pub all_implement-drop : (shape : Shape) (upper : ℕ) (xs : List ImplCore) (i : ℕ) (x : ImplCore) → i < length xs → x ≡ get_or xs i x → all_implement w shape upper (drop i xs) ≡ (is_implementation w shape upper x && all_implement w shape upper (drop (i + 1) xs))
   all_implement-drop shape upper xs i x h e = rw (add-one, drop-cons xs i x, ← e)
 
   pub params_conform-drop : (found : ImplCore) (xs : List Param) (i : ℕ) (x : Param) → i < length xs → x ≡ get_or xs i x → params_conform w found i (drop i xs) ≡ (param_conforms w x (target_parameter w found.ty found.target i) && params_conform w found (i + 1) (drop (i + 1) xs))
   params_conform-drop found xs i x h e = ap (params_conform w found i) (drop-step xs i x h e)
+
+-- a parameter that doesn't conform
+module _ (w : Rows) where
+  pub params_conform-fails : (found : ImplCore) (xs : List Param) (i : ℕ) (other : Param) → i < length xs → false ≡ param_conforms w (get_or xs i other) (target_parameter w found.ty found.target i) → params_conform w found i (drop i xs) ≡ false
+  params_conform-fails found xs i other h fails =
+      let step : drop i xs ≡ get_or xs i other ∷ drop (i + 1) xs = rw (add-one, drop-cons xs i other) in
+      ap (params_conform w found i) step ∙ ap (λ (b : Bool). b && params_conform w found (i + 1) (drop (i + 1) xs)) (sym fails)
 
 -- no last statement, and the last one
 pub ends-nowhere : (body : List StmtCore) → length body ≡ 0 → ends_in_stop body ≡ false

@@ -1,10 +1,11 @@
 -- The numbers of types, filled from the last type on; shapes and parameters, from a place on.
-use Rattle.std.proofs.Common.{◌≡◌, ◌≢◌, ℕ, ◌+◌, ◌<◌, ◌≤◌, ◌++◌, ◌&&◌, Bool, List, [], ◌∷◌, Option, None, Some, cond, nat_eq, length, get_or, drop, map, refl, sym, ap, ◌∙◌, add-one, drop-cons, suc, arith, append_assoc}
+use Rattle.std.proofs.Common.{◌≡◌, ◌≢◌, ◌↔◌, true≢false, ℕ, ◌+◌, ◌<◌, ◌≤◌, ◌++◌, ◌&&◌, Bool, List, [], ◌∷◌, Option, None, Some, cond, nat_eq, length, get_or, drop, map, refl, sym, ap, ◌∙◌, add-one, drop-cons, suc, arith, append_assoc}
+use Rattle.std.proofs.Math.Dec.{eqb-suc-zero}
 use Rattle.std.proofs.Math.ListN.{drop_of_length-le}
 use Rattle.std.proofs.Math.Seq.{drop-length}
 use Rattle.std.specs.HashMap.{HashMap, get}
 use Rattle.std.specs.Ordering.{on}
-use Rattle.std.specs.Prelude.{bytes_eq, codes, false, option_map, option_and_then, true}
+use Rattle.std.specs.Prelude.{IsTrue, bytes_eq, codes, false, option_map, option_and_then, true}
 use Rattle.sa_tree.specs.declared.ty.ModeTy.{ModeTy}
 use Rattle.sa_tree.specs.declared.ty.Mode.{Mode}
 use Rattle.sa_tree.specs.declared.ty.Ty.{Ty}
@@ -71,7 +72,14 @@ and-false false = refl
 -- CHAR has no type arguments, and ARRAY one
 pub is_char-given : (name : List ℕ) (given : List Ty) → is_char (Named name (all_bare given)) ≡ (bytes_eq name (codes "CHAR") && nat_eq (length given) 0)
 is_char-given name [] = and-true (bytes_eq name (codes "CHAR"))
-is_char-given name (t ∷ more) = and-false (bytes_eq name (codes "CHAR"))
+is_char-given name (t ∷ more) =
+    and-false (bytes_eq name (codes "CHAR")) ∙ ap (λ (b : Bool). bytes_eq name (codes "CHAR") && b) (sym (eqb-suc-zero (length more)))
+
+pub is_char-alone : (name : List ℕ) (given : List Ty) (empty : Bool) → IsTrue empty ↔ (given ≡ []) → bytes_eq name (codes "CHAR") ≡ true → empty ≡ is_char (Named name (all_bare given))
+is_char-alone name [] true h named = sym named
+is_char-alone name [] false h named = absurd (true≢false (sym (h.1 refl)))
+is_char-alone name (t ∷ more) true h named = let e : (t ∷ more) ≡ [] = h.0 refl in cc
+is_char-alone name (t ∷ more) false h named = refl
 
 pub is_char_alone-one : (given : List Ty) (only : Ty) → length given ≡ 1 → only ≡ get_or given 0 only → is_char_alone (all_bare given) ≡ is_char (bare only)
 is_char_alone-one [] only h e = absurd (omega arith)

@@ -1,14 +1,48 @@
 -- The parts of a well-typed tree, put together.
-use Rattle.std.proofs.Common.{◌≡◌, ◌↔◌, ℕ, Bool, true, false, true≢false, Result, IfOk, subst, sym, ◌∙◌}
+use Rattle.std.proofs.Common.{◌≡◌, ◌↔◌, ◌&&◌, ℕ, Bool, true, false, true≢false, List, length, Result, IfOk, subst, sym, ap, ◌∙◌}
 use Rattle.std.specs.Prelude.{IsTrue}
 use Rattle.std.specs.List.{list_all}
+use Rattle.sa_core.specs.declared.feature.FeatureCore.{FeatureCore}
+use Rattle.sa_core.specs.declared.feature.SiteCore.{SiteCore}
 use Rattle.sa_core.specs.declared.program.Core.{Core}
+use Rattle.sa_core.specs.declared.stmt.StmtCore.{StmtCore}
+use Rattle.sa_core.specs.Copy.{block_of}
+use Rattle.sa_well.specs.declared.place.Place.{Place}
+use Rattle.sa_well.specs.Places.{Frame, outside}
+use Rattle.sa_well.specs.Sites.{agree_on_types, stmts_sites}
+use Rattle.sa_well.specs.Statements.{well_stmts}
 use Rattle.sa_well.specs.Rows.{Rows}
 use Rattle.sa_well.specs.Types.{well_given, well_types}
 use Rattle.sa_well.specs.Layout.{IsFlat}
 use Rattle.sa_well.specs.Signatures.{well_signatures}
-use Rattle.sa_well.specs.Features.{well_feature, well_main, well_shared}
+use Rattle.sa_well.specs.Features.{feature_frame, has_shape, well_feature, well_main, well_shared}
 use Rattle.sa_well.specs.Well.{AreWell, IsWell, rows_of}
+
+-- the body of a feature, in a scope and at a place that are the feature's and outside
+module _ (w : Rows) (f : FeatureCore) (scope : Frame) (at : Place) (body : List StmtCore) (is_scope : scope ≡ feature_frame w f) (is_at : at ≡ outside) (is_body : body ≡ f.body) (shaped : true ≡ has_shape w f) where
+  same_body : well_stmts scope at (block_of body) ≡ well_stmts (feature_frame w f) outside (block_of f.body)
+  same_body =
+      ap (λ (s : Frame). well_stmts s at (block_of body)) is_scope
+      ∙ ap (λ (p : Place). well_stmts (feature_frame w f) p (block_of body)) is_at
+      ∙ ap (λ (list : List StmtCore). well_stmts (feature_frame w f) outside (block_of list)) is_body
+
+  -- what stands behind the shape of the feature decides, and what stands behind its statements where these are well typed
+  by_body : well_feature w f ≡ (well_stmts scope at (block_of body) && agree_on_types (length f.sites) (stmts_sites (feature_frame w f) outside (block_of f.body)))
+  by_body =
+      ap (λ (b : Bool). b && (well_stmts (feature_frame w f) outside (block_of f.body) && agree_on_types (length f.sites) (stmts_sites (feature_frame w f) outside (block_of f.body)))) (sym shaped)
+      ∙ ap (λ (b : Bool). b && agree_on_types (length f.sites) (stmts_sites (feature_frame w f) outside (block_of f.body))) (sym same_body)
+
+  pub not-stmts : false ≡ well_stmts scope at (block_of body) → false ≡ well_feature w f
+  not-stmts fails =
+      sym (by_body ∙ ap (λ (b : Bool). b && agree_on_types (length f.sites) (stmts_sites (feature_frame w f) outside (block_of f.body))) (sym fails))
+
+  pub by-sites : {E : Type 0} (r : Result Bool E) (sites : List SiteCore) (again : List StmtCore) → true ≡ well_stmts scope at (block_of body) → sites ≡ f.sites → again ≡ f.body → IfOk r (λ well. well ≡ agree_on_types (length sites) (stmts_sites scope outside (block_of again))) → IfOk r (λ well. well ≡ well_feature w f)
+  by-sites r sites again goes is_sites is_again =
+      subst (λ (b : Bool). IfOk r (λ well. well ≡ b))
+      (ap (λ (s : Frame). agree_on_types (length sites) (stmts_sites s outside (block_of again))) is_scope
+      ∙ ap (λ (list : List SiteCore). agree_on_types (length list) (stmts_sites (feature_frame w f) outside (block_of again))) is_sites
+      ∙ ap (λ (list : List StmtCore). agree_on_types (length f.sites) (stmts_sites (feature_frame w f) outside (block_of list))) is_again
+      ∙ sym (by_body ∙ ap (λ (b : Bool). b && agree_on_types (length f.sites) (stmts_sites (feature_frame w f) outside (block_of f.body))) (sym goes)))
 
 -- one part that isn't well is enough
 module _ (w : Rows) (main : ℕ) (r : Bool) (fails : r ≡ false) where

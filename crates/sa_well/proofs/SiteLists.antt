@@ -51,14 +51,14 @@ module _ (known : List (Option ℕ)) (xs : List (ℕ × ℕ)) (i : ℕ) (other :
       ∙ ap (λ (o : Option (Option ℕ)). option_map_or (is_known_as (get_or xs i other).1) o false && agree_with (set known (get_or xs i other).0 (Some (get_or xs i other).1)) (drop (i + 1) xs)) (slice_get-get_or known (get_or xs i other).0 d within ∙ ap (λ (o : Option ℕ). Some o) (sym is))
 
   pub agree_with-another : (r d : Option ℕ) → i < length xs → (get_or xs i other).0 < length known → r ≡ get_or known (get_or xs i other).0 d → false ≡ is_known_as (get_or xs i other).1 r → agree_with known (drop i xs) ≡ false
-  agree_with-another r d h within is no =
+  agree_with-another r d h within is fails =
       agree_with-at r d h within is
-      ∙ ap (λ (b : Bool). b && agree_with (set known (get_or xs i other).0 (Some (get_or xs i other).1)) (drop (i + 1) xs)) (sym no)
+      ∙ ap (λ (b : Bool). b && agree_with (set known (get_or xs i other).0 (Some (get_or xs i other).1)) (drop (i + 1) xs)) (sym fails)
 
   pub agree_with-same : (r d : Option ℕ) → i < length xs → (get_or xs i other).0 < length known → r ≡ get_or known (get_or xs i other).0 d → true ≡ is_known_as (get_or xs i other).1 r → agree_with known (drop i xs) ≡ agree_with (set known (get_or xs i other).0 (Some (get_or xs i other).1)) (drop (i + 1) xs)
-  agree_with-same r d h within is yes =
+  agree_with-same r d h within is goes =
       agree_with-at r d h within is
-      ∙ ap (λ (b : Bool). b && agree_with (set known (get_or xs i other).0 (Some (get_or xs i other).1)) (drop (i + 1) xs)) (sym yes)
+      ∙ ap (λ (b : Bool). b && agree_with (set known (get_or xs i other).0 (Some (get_or xs i other).1)) (drop (i + 1) xs)) (sym goes)
 
 pub ruleset parts = (copies, append_assoc, append-nil)
 

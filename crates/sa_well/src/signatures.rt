@@ -5,6 +5,7 @@ ghost use Rattle.sa_well.specs.Rows.{rows, shape_at};
 ghost use Rattle.sa_well.specs.Signatures.{IsCount, all_implement, are_implementations, is_implementation, is_lower, lower_count};
 ghost use Rattle.sa_well.specs.Signatures.{param_conforms, params_conform, result_conforms, rise_from, type_conforms, well_signature};
 ghost use Rattle.sa_well.specs.Signatures.{well_signatures};
+ghost use Rattle.sa_well.specs.Targets.{target_parameter};
 ghost use Rattle.sa_well.specs.Types.{is_after};
 
 use crate::features::is_concrete_class;
@@ -161,15 +162,22 @@ fn params_conform(view: &View<'_>, params: &[Param], found: ImplCore) -> bool
     ensures { result ≡ params_conform (rows view.now) found 0 params.now }
 {
     for (place, param) in params.iter().enumerate() {
-        if !param_conforms(
-            view,
-            *param,
-            target_parameter(view, found.ty, found.target, place),
-        ) {
+        if !conforms_at(view, found, place, *param) {
             return false;
         }
     }
     true
+}
+
+/// Whether the parameter at a place conforms.
+fn conforms_at(view: &View<'_>, found: ImplCore, place: usize, param: Param) -> bool
+    ensures { result ≡ param_conforms (rows view.now) param (target_parameter (rows view.now) found.ty found.target place) }
+{
+    param_conforms(
+        view,
+        param,
+        target_parameter(view, found.ty, found.target, place),
+    )
 }
 
 fn param_conforms(view: &View<'_>, param: Param, own: Option<Param>) -> bool

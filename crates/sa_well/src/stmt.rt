@@ -164,8 +164,7 @@ fn well_case(scope: &Scope<'_>, at: Place, tested: u32, arm: &ArmCore) -> bool
         ≡ (is_branch_variable (frame scope.now) tested (arm_of arm.now).0 (arm_of arm.now).1
         && well_stmts (frame scope.now) at (arm_of arm.now).2) }
 {
-    is_branch_variable(scope, tested, arm.ty, arm.var)
-        && well_stmts(scope, at, arm.body.as_slice())
+    is_branch_variable(scope, tested, arm.ty, arm.var) && well_stmts(scope, at, arm.body.as_slice())
 }
 
 /// Whether the variable of a branch has the type that it has there.
