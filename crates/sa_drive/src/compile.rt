@@ -9,6 +9,7 @@ ghost use Rattle.sa_drive.specs.Built.{IsTried};
 ghost use Rattle.sa_drive.specs.Files.{ComesOfFiles, ComesOfGenerated, Explains, ExplainsProgram, IsByChecker};
 ghost use Rattle.sa_drive.specs.Files.{IsTakenGenerated, IsTakenProgram, generated_sources};
 ghost use Rattle.sa_drive.specs.Lines.{IsPlaced};
+ghost use Rattle.sa_well.specs.Well.{IsWell};
 
 use crate::accepted::accepted;
 use crate::cause::Cause;
@@ -100,11 +101,12 @@ pub fn compile_generated(alloc: Global, classes: u32) -> Compiled
     compile_checked(alloc, checked, ROOM, Trace::Silent)
 }
 
-/// The module of a program that is accepted, with so many KiB of room for objects.
+/// The module of a program that is accepted, with so many KiB of room for objects. The tree that is lowered is well typed.
 fn compile_checked(alloc: Global, checked: Checked, room: u32, trace: Trace) -> Compiled
     ensures same { result.sources ≡ checked.sources }
     ensures built { IfOk result.«module» IsTried }
     ensures confined { IfOk result.«module» (λ built. IsConfined room built.«module») }
+    ensures well { IfOk result.«module» (λ _. IfOk checked.core IsWell) }
     ensures made { IfOk result.«module» (λ _. IfErr checked.core (λ _. ⊥)) }
     ensures fault { IfErr result.«module» (λ cause. (checked.core ≡ Err cause) ⊎ (cause ≡ Cause.NoMemory)) }
 {
@@ -117,6 +119,7 @@ fn compile_checked(alloc: Global, checked: Checked, room: u32, trace: Trace) -> 
 fn made(alloc: Global, core: Result<Core, Cause>, room: u32, trace: Trace) -> Result<Built, Cause>
     ensures built { IfOk result IsTried }
     ensures confined { IfOk result (λ built. IsConfined room built.«module») }
+    ensures well { IfOk result (λ _. IfOk core IsWell) }
     ensures made { IfOk result (λ _. IfErr core (λ _. ⊥)) }
     ensures fault { IfErr result (λ cause. (core ≡ Err cause) ⊎ (cause ≡ Cause.NoMemory)) }
 {

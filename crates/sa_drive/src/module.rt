@@ -3,6 +3,7 @@
 ghost use Rattle.std.specs.Prelude.{◌<◌, length, IfOk};
 ghost use Rattle.sa_drive.specs.Built.{IsTried};
 ghost use Rattle.sa_statement.specs.Confined.{IsConfined};
+ghost use Rattle.sa_well.specs.Well.{IsWell};
 
 use crate::confined::is_confined;
 use sa_core::{Core, FeatureCore, positions};
@@ -11,6 +12,7 @@ use sa_emit::{emit, emit_traced};
 use sa_flat::FlatProgram;
 use sa_lower::lower;
 use sa_tree::{NoMemory, Pos};
+use sa_well::is_well;
 use sa_words::Trace;
 use sqlite_items::Items;
 use std::alloc::Global;
@@ -30,9 +32,22 @@ pub struct Built {
     pub sites: Items<Pos>,
 }
 
-/// The module of a typed program, traced or not, with so many KiB of room for its objects. Fails where memory runs out, also where a
-/// module of WebAssembly can't be as large as this one, can't be run, or isn't confined.
+/// The module of a typed program, traced or not, with so many KiB of room for its objects. Fails where memory runs out, also where the
+/// tree isn't well typed, and where a module of WebAssembly can't be as large as this one, can't be run, or isn't confined.
 pub fn module_of(alloc: Global, core: Core, room: u32, trace: Trace) -> Result<Built, NoMemory>
+    ensures tried { IfOk result IsTried }
+    ensures confined { IfOk result (λ built. IsConfined room built.«module») }
+    ensures well { IfOk result (λ _. IsWell core) }
+{
+    if !is_well(alloc, &core)? {
+        return Err(NoMemory);
+    }
+    module_of_well(alloc, core, room, trace)
+}
+
+/// The module of a typed program that is well typed: it is lowered and emitted.
+fn module_of_well(alloc: Global, core: Core, room: u32, trace: Trace) -> Result<Built, NoMemory>
+    requires well { IsWell core }
     ensures tried { IfOk result IsTried }
     ensures confined { IfOk result (λ built. IsConfined room built.«module») }
 {
