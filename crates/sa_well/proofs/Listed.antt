@@ -2,7 +2,6 @@
 use Rattle.std.proofs.Common.{◌≡◌, ℕ, ◌+◌, ◌<◌, ◌≤◌, ◌&&◌, ◌||◌, ◌==◌, Bool, true, false, cond, List, [], ◌∷◌, Option, Some, length, get_or, drop, nat_eq, nat_lt, refl, sym, ap, arith, ◌-◌, ◌∙◌, add-one, drop-cons, append_assoc}
 use Rattle.std.proofs.Math.ListN.{drop_of_length-le}
 use Rattle.std.proofs.Math.Seq.{drop-length}
-use Rattle.std.proofs.lemmas.List.Sums.{count_by_more_no, count_by_more_yes}
 use Rattle.std.proofs.lemmas.Option.{slice_get_past, slice_get_read}
 use Rattle.std.specs.List.{list_all}
 use Rattle.std.specs.Option.{option_map_or}
@@ -109,8 +108,6 @@ ends-there body i x h e =
 pub ruleset last = (ends-nowhere, ends-there)
 
 pub ruleset all = (list_all-drop, drop-length)
-
-pub ruleset counts = (count_by_more_no, count_by_more_yes)
 
 pub ruleset rising = (rises_from-drop, rise_from-drop, drop-length)
 
