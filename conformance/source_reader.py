@@ -15,6 +15,7 @@ SYMBOLS = {word: word.decode() for word in WORDS | REFUSED_WORDS}
 NOT_TAKEN = {SYMBOLS[word] for word in REFUSED_WORDS}
 SIGNS = rb'::=|:=|::|/=|<=|>=|->|[()\[\]{},;:.=<>+\-*/%^~#|_]'
 
+MARK = b'\xef\xbb\xbf'       # a byte order mark, which is a blank at the beginning of a file
 GAP = re.compile(rb'(?:[ \t\n\f\r]|--[^\n]*)*')
 NAME = re.compile(rb'[A-Za-z][A-Za-z0-9_]*')
 ITER_NAME = re.compile(rb'(?=[A-Z0-9_]*[a-z])[A-Za-z][A-Za-z0-9_]*!')
@@ -132,7 +133,7 @@ def token_at(text, at):
 @functools.lru_cache(maxsize=1)
 def tokens_of(text):
     """The tokens of a source, which are kept until another is read."""
-    tokens, at = [], GAP.match(text).end()
+    tokens, at = [], GAP.match(text, len(MARK) if text.startswith(MARK) else 0).end()
     while at < len(text):
         token, at = token_at(text, at)
         tokens.append(token)
