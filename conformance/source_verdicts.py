@@ -40,10 +40,17 @@ def as_read(text, refused):
     require(own == read, 'tokens, levels and grammar are as the page tells', 'expected %s' % (read,), 'came %s' % (refused,))
 
 
+def with_above(text):
+    """A text with a comment above, behind its byte order mark, which is a blank at the beginning of a file alone."""
+    mark = source_reader.MARK if text.startswith(source_reader.MARK) else b''
+    return mark + ABOVE + text[len(mark):]
+
+
 def with_a_line_above(host, text, refused, words):
     """A comment above the text moves what is told of it by a line. A program without MAIN is refused at the start of the file."""
-    host.put('f.sa', ABOVE + text)
-    moved = refusal_of(ABOVE + text, host.call(*words))
+    lower = with_above(text)
+    host.put('f.sa', lower)
+    moved = refusal_of(lower, host.call(*words))
     host.put('f.sa', text)
     wanted = refused
     if refused and refused[0] == b'f.sa' and not (refused[2] == 'E24' and moved == refused):
