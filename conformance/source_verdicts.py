@@ -25,7 +25,7 @@ from verdicts import GIVEN, SPENT, require
 
 OLD = b'what the file held'
 ABOVE = b'-- above\n'
-OF_BODIES = (*('E%d' % number for number in range(30, 46)), 'E53', 'E54')
+OF_BODIES = ('E12', *('E%d' % number for number in range(30, 46)), 'E53', 'E54')     # E12 is a rule of heads too
 READ_FIRST = ('E01', 'E02', 'E03', 'E04', 'E05', 'E06', 'E07', 'E08', 'E50')
 FEWEST = 1_000          # steps for a turn, which the bound of each program allows
 INTERPRETED = 200_000   # steps of a run that is interpreted though its source isn't judged in full
