@@ -142,9 +142,9 @@ both_earlier before middle after a b c name bytes (Some (other, text)) ends same
 
 -- and of a module with its sites, reported by this outcome
 pub module_earlier : (before middle after : Option Files) (a b c : ℕ) (name bytes told_bytes : List ℕ) (sites : Option (List ℕ)) (sources told_sources : Sources) (ends told : Cause) → middle ≡ before → a ≤ b → told_bytes ≡ bytes → told_sources ≡ sources → told ≡ ends → WritesModule (part_of middle after b c) name bytes sites sources ends → WritesModule (part_of before after a c) name told_bytes sites told_sources told
-module_earlier before middle after a b c name bytes told_bytes sites sources told_sources ends told same less same_bytes same_sources same_ends (positions, written) =
+module_earlier before middle after a b c name bytes told_bytes sites sources told_sources ends told same less same_bytes same_sources same_ends (positions, placed, written) =
     let earlier : WritesModule (part_of before after a c) name bytes sites sources ends =
-    (positions, both_earlier before middle after a b c name bytes _ ends same less written) in
+    (positions, placed, both_earlier before middle after a b c name bytes _ ends same less written) in
     let of_bytes = subst (λ bytes. WritesModule (part_of before after a c) name bytes sites sources ends) (sym same_bytes) earlier in
     let of_sources = subst (λ sources. WritesModule (part_of before after a c) name told_bytes sites sources ends) (sym same_sources) of_bytes in
     subst (λ ends. WritesModule (part_of before after a c) name told_bytes sites told_sources ends) (sym same_ends) of_sources
@@ -157,7 +157,7 @@ placed_both store name bytes (Some (other, text)) sources ends (inr (between, fa
     placed_write (Failed (since between faults store)) sources ends written.comes
 
 pub placed_module : (store : Part Files) (name bytes : List ℕ) (sites : Option (List ℕ)) (texts sources : Sources) (ends : Cause) → WritesModule store name bytes sites texts ends → IsPlaced sources ends
-placed_module store name bytes sites texts sources ends (positions, written) = placed_both store name bytes _ sources ends written
+placed_module store name bytes sites texts sources ends (positions, placed, written) = placed_both store name bytes _ sources ends written
 
 -- texts of the generated program that give no module
 generated_explained : (classes : ℕ) (sources : Sources) (ends : Cause) → sources ≡ generated_sources classes → Explains sources.texts ends → ComesOfGenerated classes sources ends

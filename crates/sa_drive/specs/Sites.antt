@@ -1,8 +1,10 @@
 -- The positions of faults, as JSON, and the file that gets them behind that of the module.
 use Rattle.std.specs.Prelude.{ℕ, List, [], ◌∷◌, ◌++◌, codes, decimal, flat_map, Option, option_map}
+use Rattle.std.specs.List.{All}
 use Rattle.json.specs.Print.{print}
 use Rattle.json.specs.Token.{Token, begin_array, begin_object, end_array, end_object, key, number, string}
 use Rattle.sa_drive.specs.Ends.{AreWritten}
+use Rattle.sa_drive.specs.Files.{IsPlaceIn}
 use Rattle.sa_drive.specs.Lines.{file_name, line_number}
 use Rattle.sa_drive.specs.Seen.{Part}
 use Rattle.sa_drive.specs.declared.cause.Cause.{Cause}
@@ -26,4 +28,5 @@ sites_text sources positions = print (begin_array ∷ flat_map (site_tokens sour
 -- the file of this name was to get the module, and then the file of the sites, if there is one, positions in these texts
 abbrev pub WritesModule : Part Files → (name bytes : List ℕ) → (sites : Option (List ℕ)) → Sources → Cause → Type 0
 WritesModule store name bytes sites sources ends =
-    (positions : List Pos) × AreWritten store name bytes (option_map (λ file. (file, sites_text sources positions)) sites) ends
+    (positions : List Pos) × All (IsPlaceIn sources.texts) positions
+    × AreWritten store name bytes (option_map (λ file. (file, sites_text sources positions)) sites) ends

@@ -9,7 +9,7 @@ returns-in-None-clause-writes g c =
 
 pub returns-in-Ok-clause-writes : goal.returns-in-Ok-clause-writes
 returns-in-Ok-clause-writes g c =
-    module_with_sites _ _ _ _ _ _ _ _ _ _ (ap (option_map (λ file. file.now)) c.in-Some.is) c.as_slice-bytes.ensures.value (c.as_slice-in-Ok.ensures.value ∙ c.in-Ok.ensures) c.both_written.ensures.written
+    module_with_sites _ _ _ _ _ _ _ _ _ _ (ap (option_map (λ file. file.now)) c.in-Some.is) c.as_slice-bytes.ensures.value (c.as_slice-in-Ok.ensures.value ∙ c.in-Ok.ensures.text) c.in-Ok.ensures.placed c.both_written.ensures.written
 
 pub returns-in-Err-clause-writes : goal.returns-in-Err-clause-writes
 returns-in-Err-clause-writes g c = module_unwritten _ _ _ _ _ _ (ap (option_map (λ file. file.now)) c.in-Some.is) refl
