@@ -149,7 +149,7 @@ function leave(error) {
 function ask(what, counts) {
   Atomics.store(counts, ANSWERED, 0);
   parentPort.postMessage(what);
-  Atomics.wait(counts, ANSWERED, 0);
+  while (Atomics.load(counts, ANSWERED) === 0) Atomics.wait(counts, ANSWERED, 0); // an older answer's notice may wake it early
   return receiveMessageOnPort(parentPort)?.message;
 }
 
