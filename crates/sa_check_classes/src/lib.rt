@@ -16,4 +16,4 @@ mod terms;
 pub use class_table::ClassTable;
 pub use extent::{DEEPEST, depth, size};
 pub use members::{Member, Side};
-pub use numbers::{ABSTRACT_STR, BOOL, CHAR, FAULT, INT, IS_EQ, MAIN, OB, STR};
+pub use numbers::{BOOL, CHAR, FAULT, INT, IS_EQ, MAIN, OB, STR};

@@ -1,5 +1,5 @@
-//! Names: those that nothing has (E30), those that are private (E34), the variable of a typecase (E42), names that are declared twice (E43),
-//! and what a bind leaves open (E45).
+//! Names: those that nothing has (E30), those that are private (E34), the variable of a typecase (E42), names that are declared
+//! twice (E43), and what a bind leaves open (E45).
 
 use crate::calls::begins_list;
 use crate::meant::{Helper, known_elsewhere, library_helper};

@@ -133,7 +133,8 @@ fn try_feature(
     known: &Known,
 ) -> Result<(), NoMemory>
     requires { HasChanges bringing.now.changes.now bringing.now.renaming }
-    ensures { OnOk result (IsBrought bringing.now.changes.now (put_in bringing.now.by) bringing.now.immutable known.now.shapes.keys feature.now) }
+    ensures { OnOk result (IsBrought bringing.now.changes.now (put_in bringing.now.by) bringing.now.immutable
+        known.now.shapes.keys feature.now) }
 {
     let Some(name) = bringing
         .renaming

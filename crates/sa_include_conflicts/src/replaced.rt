@@ -98,7 +98,8 @@ fn mark_brought_bodies(
     written: &Marks,
 ) -> Result<Marks, NoMemory>
     requires grouped { AreGrouped features.now conflicts.now }
-    requires written { AreMarked features.now conflicts.now (spec.written_bodies features.now.immutable features.now.written.now) written.now }
+    requires written { AreMarked features.now conflicts.now
+        (spec.written_bodies features.now.immutable features.now.written.now) written.now }
     ensures { IfOk result (AreMarked features.now conflicts.now
         (spec.brought_bodies features.now.immutable features.now.brought.now features.now.written.now)) }
 {
@@ -120,7 +121,8 @@ fn mark_written_stubs(
     brought: &Marks,
 ) -> Result<Marks, NoMemory>
     requires grouped { AreGrouped features.now conflicts.now }
-    requires written { AreMarked features.now conflicts.now (spec.written_bodies features.now.immutable features.now.written.now) written.now }
+    requires written { AreMarked features.now conflicts.now
+        (spec.written_bodies features.now.immutable features.now.written.now) written.now }
     requires brought { AreMarked features.now conflicts.now
         (spec.brought_bodies features.now.immutable features.now.brought.now features.now.written.now) brought.now }
     ensures { IfOk result (AreMarked features.now conflicts.now

@@ -94,7 +94,8 @@ module _ (classes : List Class) (number : List ℕ → Option ℕ) (arrays : Lis
 
   -- a class may be included: it isn't abstract, and none of those; and an immutable class includes none with an array part
   abbrev pub passes_as_included : List ℕ → ℕ → Class → Bool
-  passes_as_included name k c = is_no_abstract c.kind && not (is_never_included name) && (is_no_immutable including || not (is_set arrays k))
+  passes_as_included name k c =
+      is_no_abstract c.kind && not (is_never_included name) && (is_no_immutable including || not (is_set arrays k))
 
   unfoldable pub may_include : List ℕ → Bool
   may_include name = class_passes (passes_as_included name) (number_seen name)

@@ -13,7 +13,8 @@ use Rattle.sa_tree.specs.declared.ty.Ty.{Ty}
 use Rattle.sa_tree.specs.Types.{BareTy, Named, bare}
 use Rattle.sa_graph.specs.Paths.{HasEdge, IsEdge, IsFirst, node_count}
 use Rattle.sa_graph.specs.declared.graph.Graph.{Graph}
-use Rattle.sa_include_names.specs.Headers.{may_include, may_stand, misused_above, misused_in, misused_include, misused_names, passes_as_included}
+use Rattle.sa_include_names.specs.Headers.{may_include, may_stand, misused_above, misused_in, misused_include, misused_names}
+use Rattle.sa_include_names.specs.Headers.{passes_as_included}
 use Rattle.sa_include_names.specs.declared.graph.Edges.{Edges}
 use Rattle.sa_include_names.specs.declared.header.Scope.{Scope}
 use Rattle.sa_include_names.specs.declared.names.ClassNumbers.{ClassNumbers}

@@ -1,6 +1,6 @@
-//! The adapter of an implementation of a signature, a body that is made for it alone: it takes the arguments as the signature has them, calls the
-//! implementation with them as that has them, and gives back what the signature gives. Its faults are those of the call that
-//! entered it, so its steps tell no position.
+//! The adapter of an implementation of a signature, a body that is made for it alone: it takes the arguments as the signature has
+//! them, calls the implementation with them as that has them, and gives back what the signature gives. Its faults are those of the
+//! call that entered it, so its steps tell no position.
 
 use crate::adapter_iter::adapter_iter;
 use crate::arguments::{Arguments, pass_all, widen_back, widened_value};

@@ -1,5 +1,6 @@
 -- What it means to read words and lines.
-use Rattle.std.specs.Prelude.{◌≡◌, ◌≢◌, ◌⊎◌, ℕ, List, [], ◌∷◌, ◌++◌, ⊤, take, drop, map, Option, Result, MatchOption, MatchResult, codes, ◌==◌}
+use Rattle.std.specs.Prelude.{◌≡◌, ◌≢◌, ◌⊎◌, ℕ, List, [], ◌∷◌, ◌++◌, ⊤, take, drop, map, codes, ◌==◌}
+use Rattle.std.specs.Prelude.{Option, Result, MatchOption, MatchResult}
 use Rattle.std.specs.List.{AllByRecursion, count_by, slice_split}
 use denote.Ref.{Bor}
 use Rattle.wa_syntax.specs.declared.instr.Instr.{Instr}
@@ -122,4 +123,4 @@ abbrev pub behind_first : BlockKind → Option ValTy → (List Instr → Form Li
 behind_first kind.Block t Body i lines = (body : List Instr) × (i ≡ variant.Block t body) × (Body body then end) lines
 behind_first kind.Loop t Body i lines = (body : List Instr) × (i ≡ variant.Loop t body) × (Body body then end) lines
 behind_first kind.If t Body i lines =
-    (body : List Instr) × (branch : List Instr) × (i ≡ variant.If t body branch) × (Body body then else_end Body branch) lines
+    (body : List Instr) × (branch : List Instr) × (i ≡ variant.If t (body, branch)) × (Body body then else_end Body branch) lines
