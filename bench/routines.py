@@ -29,6 +29,7 @@ HERE = os.path.dirname(os.path.abspath(__file__))
 FOLDER = os.path.join(HERE, 'routines')
 PROGRAMS = ['sieve', 'sorting', 'matrix', 'texts', 'shapes']
 RUN_SECONDS = 300               # the longest that one run may take
+CLOCK = time.perf_counter       # gives the seconds of which runs are timed by the difference
 LARGEST = 4 * 1024 * 1024
 NODES = 200_000                 # the most that a program may have
 NODES_SECONDS = 3.0             # the bars
@@ -47,9 +48,9 @@ def best(words, rounds, folder=None):
     """The shortest time of so many runs, in seconds, and the output."""
     shortest = None
     for _ in range(rounds):
-        start = time.perf_counter()
+        start = CLOCK()
         ended = subprocess.run(words, cwd=folder, stdin=subprocess.DEVNULL, capture_output=True, timeout=RUN_SECONDS)
-        taken = time.perf_counter() - start
+        taken = CLOCK() - start
         if ended.returncode != 0:
             said = ended.stderr.decode('latin-1').strip()
             raise Failure('%s ended with status %d: %s' % (' '.join(words[:2]), ended.returncode, said))

@@ -47,7 +47,7 @@ pub(crate) fn add_loop(
     let mut body = Items::new(alloc);
     let level = level_of(dispatch.targets.len());
     add_choice(alloc, &mut body, writer, &dispatch.further_in(1)?, 0, level)?;
-    code.push(Instr::Loop(None, body))?;
+    code.push(Instr::loop_of(alloc, None, body)?)?;
     code.push(Instr::Plain(opcode::UNREACHABLE))?;
     Ok(())
 }
@@ -84,7 +84,7 @@ fn add_choice(
     let mut high = Items::new(alloc);
     add_choice(alloc, &mut high, writer, &inner, middle, level - 1)?;
     add_is_below(code, &dispatch.around, middle)?;
-    code.push(Instr::If(None, low, high))?;
+    code.push(Instr::if_of(alloc, None, low, high)?)?;
     Ok(())
 }
 
@@ -118,11 +118,11 @@ fn add_table(
     for place in 0..last {
         let inner = dispatch.further_in(last - place)?;
         let mut behind = Items::new(alloc);
-        behind.push(Instr::Block(None, before))?;
+        behind.push(Instr::block_of(alloc, None, before)?)?;
         add_superblock(alloc, &mut behind, writer, &inner, sum(first, place)?)?;
         before = behind;
     }
-    code.push(Instr::Block(None, before))?;
+    code.push(Instr::block_of(alloc, None, before)?)?;
     add_superblock(alloc, code, writer, dispatch, sum(first, last)?)
 }
 
@@ -160,7 +160,7 @@ fn choosing(
         code.push(Instr::I32Const(first))?;
         code.push(Instr::Plain(opcode::I32_SUB))?;
     }
-    code.push(Instr::BrTable(labels(alloc, last)?, last))?;
+    code.push(Instr::br_table_of(alloc, labels(alloc, last)?, last)?)?;
     Ok(code)
 }
 

@@ -13,7 +13,7 @@ pub(crate) fn main_function(alloc: Global, body: u32) -> Result<Func, NoMemory> 
     code.push(Instr::I32Const(GREATEST_DEPTH))?;
     code.push(Instr::I32Const(0))?;
     code.push(Instr::Call(body))?;
-    code.push(Instr::If(None, stopping(alloc)?, Items::new(alloc)))?;
+    code.push(Instr::if_of(alloc, None, stopping(alloc)?, Items::new(alloc))?)?;
     code.push(Instr::GlobalGet(RESULT))?;
     code.push(Instr::Plain(opcode::I32_WRAP_I64))?;
     Ok(Func {

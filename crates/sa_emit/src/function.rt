@@ -121,7 +121,7 @@ fn suspending(
         whole.push(Instr::Plain(wa_syntax::opcode::UNREACHABLE))?;
         return Ok(whole);
     }
-    whole.push(Instr::Block(None, code))?;
+    whole.push(Instr::block_of(alloc, None, code)?)?;
     add_suspension(alloc, &mut whole, body, around.keeping)?;
     Ok(whole)
 }

@@ -26,7 +26,7 @@ pub(crate) fn add_before_choice(
         around.keeping,
         only_resume(around)?,
     )?;
-    code.push(Instr::If(None, resumption, start))?;
+    code.push(Instr::if_of(alloc, None, resumption, start)?)?;
     Ok(())
 }
 
@@ -49,7 +49,7 @@ pub(crate) fn add_choice(
             add_table(alloc, &mut resumption, &inner, shaped, None)?;
         }
     }
-    code.push(Instr::If(None, resumption, Items::new(alloc)))?;
+    code.push(Instr::if_of(alloc, None, resumption, Items::new(alloc))?)?;
     add_begun(code, body, around.keeping, only_resume(around)?)
 }
 
@@ -63,7 +63,7 @@ pub(crate) fn add_choice_again(
 ) -> Result<(), NoMemory> {
     let mut table = Items::new(alloc);
     add_table(alloc, &mut table, &around.further_in()?, shaped, behind)?;
-    code.push(Instr::Block(None, table))?;
+    code.push(Instr::block_of(alloc, None, table)?)?;
     Ok(())
 }
 
@@ -82,7 +82,7 @@ fn add_table(
         labels.push(last)?;
     }
     code.push(Instr::LocalGet(around.block()))?;
-    code.push(Instr::BrTable(labels, last))?;
+    code.push(Instr::br_table_of(alloc, labels, last)?)?;
     Ok(())
 }
 

@@ -218,9 +218,10 @@ impl Needed {
         for instr in code {
             match instr {
                 Instr::Call(function) => self.need(*function)?,
-                Instr::Block(_, body) => self.need_called(body.as_slice())?,
-                Instr::Loop(_, body) => self.need_called(body.as_slice())?,
-                Instr::If(_, then, other) => {
+                Instr::Block(_, body) => self.need_called(body.get().as_slice())?,
+                Instr::Loop(_, body) => self.need_called(body.get().as_slice())?,
+                Instr::If(_, arms) => {
+                    let (then, other) = arms.get();
                     self.need_called(then.as_slice())?;
                     self.need_called(other.as_slice())?;
                 }
@@ -293,18 +294,23 @@ fn renumbered_one(
             Instr::Call(held(number)?)
         }
         Instr::Block(result, body) => {
-            Instr::Block(*result, renumbered(alloc, numbers, body.as_slice())?)
+            let body = renumbered(alloc, numbers, body.get().as_slice())?;
+            Instr::block_of(alloc, *result, body)?
         }
         Instr::Loop(result, body) => {
-            Instr::Loop(*result, renumbered(alloc, numbers, body.as_slice())?)
+            let body = renumbered(alloc, numbers, body.get().as_slice())?;
+            Instr::loop_of(alloc, *result, body)?
         }
-        Instr::If(result, then, other) => Instr::If(
-            *result,
-            renumbered(alloc, numbers, then.as_slice())?,
-            renumbered(alloc, numbers, other.as_slice())?,
-        ),
-        Instr::BrTable(labels, last) => {
-            Instr::BrTable(Items::from_slice(alloc, labels.as_slice())?, *last)
+        Instr::If(result, arms) => {
+            let (then, other) = arms.get();
+            let then = renumbered(alloc, numbers, then.as_slice())?;
+            let other = renumbered(alloc, numbers, other.as_slice())?;
+            Instr::if_of(alloc, *result, then, other)?
+        }
+        Instr::BrTable(table) => {
+            let (labels, last) = table.get();
+            let labels = Items::from_slice(alloc, labels.as_slice())?;
+            Instr::br_table_of(alloc, labels, *last)?
         }
         Instr::Plain(opcode) => Instr::Plain(*opcode),
         Instr::Br(label) => Instr::Br(*label),

@@ -77,12 +77,12 @@ fn add_piece(
         Shape::Part(list) => {
             let list = list.as_slice();
             let body = labelled(alloc, list, writer, spot, spot.behind, spot.behind)?;
-            Ok(code.push(Instr::Block(None, body))?)
+            Ok(code.push(Instr::block_of(alloc, None, body)?)?)
         }
         Shape::Loop(list) => {
             let list = list.as_slice();
             let body = labelled(alloc, list, writer, spot, first_of(list), None)?;
-            Ok(code.push(Instr::Loop(None, body))?)
+            Ok(code.push(Instr::loop_of(alloc, None, body)?)?)
         }
         Shape::Choice => add_entries(alloc, code, writer, spot),
     }
@@ -147,7 +147,7 @@ fn add_if(
     };
     add_test(code, &here, test)?;
     let side = inside(alloc, list, writer, spot, None)?;
-    code.push(Instr::If(None, side, Items::new(alloc)))?;
+    code.push(Instr::if_of(alloc, None, side, Items::new(alloc))?)?;
     add_going_on(code, writer, spot, no)
 }
 
@@ -229,7 +229,7 @@ fn add_jump_where(
     }
     let mut jump = Items::new(alloc);
     add_jump(&mut jump, &around.further_in()?, block)?;
-    code.push(Instr::If(None, jump, Items::new(alloc)))?;
+    code.push(Instr::if_of(alloc, None, jump, Items::new(alloc))?)?;
     Ok(())
 }
 

@@ -78,7 +78,7 @@ pub(crate) fn add_repeated_target(
     };
     let mut body = Items::new(alloc);
     add_superblock(alloc, &mut body, writer, spot, block, DEEPEST)?;
-    code.push(Instr::Loop(None, body))?;
+    code.push(Instr::loop_of(alloc, None, body)?)?;
     Ok(())
 }
 
@@ -144,7 +144,7 @@ fn add_side(
     let inner = spot.further_in()?;
     let mut side = Items::new(alloc);
     add_superblock(alloc, &mut side, writer, inner, yes, depth - 1)?;
-    code.push(Instr::If(None, side, Items::new(alloc)))?;
+    code.push(Instr::if_of(alloc, None, side, Items::new(alloc))?)?;
     Ok(())
 }
 
@@ -240,7 +240,7 @@ fn add_jump_where(
     let inner = spot.around.further_in()?;
     let mut jump = Items::new(alloc);
     add_jump(&mut jump, &inner, target)?;
-    code.push(Instr::If(None, jump, Items::new(alloc)))?;
+    code.push(Instr::if_of(alloc, None, jump, Items::new(alloc))?)?;
     Ok(())
 }
 

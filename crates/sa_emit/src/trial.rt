@@ -106,10 +106,11 @@ fn is_table(instr: &Instr) -> bool
     ensures { result ≡ are.is_table (instruction instr.now) }
 {
     match instr {
-        Instr::BrTable(_, _) => true,
-        Instr::Block(_, inside) => holds_table(inside.as_slice()),
-        Instr::Loop(_, inside) => holds_table(inside.as_slice()),
-        Instr::If(_, first, other) => {
+        Instr::BrTable(_) => true,
+        Instr::Block(_, inside) => holds_table(inside.get().as_slice()),
+        Instr::Loop(_, inside) => holds_table(inside.get().as_slice()),
+        Instr::If(_, arms) => {
+            let (first, other) = arms.get();
             holds_table(first.as_slice()) || holds_table(other.as_slice())
         }
         _ => false,

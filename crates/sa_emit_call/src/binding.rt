@@ -205,7 +205,7 @@ pub fn add_widen_for(
     add_marked(alloc, &mut widened, &inner, widening, fail)?;
     let mut same = Items::new(alloc);
     add_move(&mut same, &inner, widening.to, widening.from)?;
-    add_if_else(code, widened, same)
+    add_if_else(alloc, code, widened, same)
 }
 
 /// Adds what widens a value and marks it.

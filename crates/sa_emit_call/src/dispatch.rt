@@ -207,7 +207,7 @@ fn add_place_by_tests(
         add_place_test(alloc, &mut tests, &inner, sig, *ty)?;
     }
     add_line(&mut tests, &[Op::Do(UNREACHABLE)])?;
-    code.push(Instr::Block(Some(ValTy::I32), tests))?;
+    code.push(Instr::block_of(alloc, Some(ValTy::I32), tests)?)?;
     Ok(())
 }
 

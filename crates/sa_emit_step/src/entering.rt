@@ -60,7 +60,7 @@ pub(crate) fn add_enter(
     let mut ended = Items::new(alloc);
     add_ended(alloc, &mut ended, &inner, entering.quit)?;
     add_is_suspended(code)?;
-    add_if_else(code, suspended, ended)
+    add_if_else(alloc, code, suspended, ended)
 }
 
 /// Adds what hands a fault to the caller where the operand isn't 0.
@@ -82,7 +82,7 @@ fn add_frame(alloc: Global, code: &mut Items<Instr>, around: &Around<'_>) -> Res
     let mut resumption = Items::new(alloc);
     trace::add_event(&mut resumption, tracing, frame, Event::Resume)?;
     add_line(code, &[Op::Get(frame), Op::Do(I32_EQZ)])?;
-    add_if_else(code, start, resumption)
+    add_if_else(alloc, code, start, resumption)
 }
 
 /// Adds what follows a suspension: the frame goes to the site.

@@ -108,7 +108,7 @@ fn add_outcome(
     add_quit(&mut ended, &inner, site.quit, Instance::Ended)?;
     add_status(code, around, site, called)?;
     add_is_suspended(code)?;
-    add_if_else(code, suspended, ended)
+    add_if_else(alloc, code, suspended, ended)
 }
 
 /// Adds the end of the instance and the jump behind it, where the status that is the operand says that it isn't suspended.

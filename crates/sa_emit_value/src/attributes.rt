@@ -43,7 +43,7 @@ fn add_get_of_value(
     let mut read = Items::new(alloc);
     add_read(&mut read, &inner, plan, place)?;
     add_line(code, &[around.first_operand(plan.recv), Op::Do(I64_EQZ)])?;
-    code.push(Instr::If(Some(ValTy::I64), void, read))?;
+    code.push(Instr::if_of(alloc, Some(ValTy::I64), void, read)?)?;
     add_line(code, &[around.put(plan.value)])
 }
 

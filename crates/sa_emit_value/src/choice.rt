@@ -6,16 +6,17 @@ use wa_syntax::{Instr, NoMemory};
 
 /// Adds an `if` that does this where the operand isn't 0.
 pub fn add_if(alloc: Global, code: &mut Items<Instr>, then: Items<Instr>) -> Result<(), NoMemory> {
-    code.push(Instr::If(None, then, Items::new(alloc)))?;
+    code.push(Instr::if_of(alloc, None, then, Items::new(alloc))?)?;
     Ok(())
 }
 
 /// Adds an `if` that does `then` where the operand isn't 0, and else `other`.
 pub fn add_if_else(
+    alloc: Global,
     code: &mut Items<Instr>,
     then: Items<Instr>,
     other: Items<Instr>,
 ) -> Result<(), NoMemory> {
-    code.push(Instr::If(None, then, other))?;
+    code.push(Instr::if_of(alloc, None, then, other)?)?;
     Ok(())
 }

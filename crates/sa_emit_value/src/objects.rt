@@ -149,7 +149,7 @@ pub fn add_widen(
     let mut unmarked = Items::new(alloc);
     add_widening(alloc, &mut unmarked, &inner, widening, fail)?;
     add_is_marked(code, around, widening.from)?;
-    add_if_else(code, marked, unmarked)
+    add_if_else(alloc, code, marked, unmarked)
 }
 
 /// Adds the test whether a value is one that a bind has widened, as an operand.

@@ -157,6 +157,6 @@ fn line(alloc: Global, ops: &[Op]) -> Result<Items<Instr>, NoMemory> {
 
 /// Adds what is done where the operand isn't 0.
 fn add_if(alloc: Global, to: &mut Items<Instr>, then: Items<Instr>) -> Result<(), NoMemory> {
-    to.push(Instr::If(None, then, Items::new(alloc)))?;
+    to.push(Instr::if_of(alloc, None, then, Items::new(alloc))?)?;
     Ok(())
 }

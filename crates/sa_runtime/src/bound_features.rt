@@ -148,7 +148,7 @@ pub(crate) fn add_features(
         add_builtin(alloc, tracing, &mut tests, number as u32, function.0)?;
     }
     add_line(&mut tests, &[Do(UNREACHABLE)])?;
-    to.push(Instr::Block(None, tests))?;
+    to.push(Instr::block_of(alloc, None, tests)?)?;
     Ok(())
 }
 
@@ -167,7 +167,7 @@ fn add_builtin(
     add_line(&mut called, &[Call(function), Set(STATUS), Br(1)])?;
     let kind = FIRST_BOUND_BUILTIN.saturating_add(number);
     add_line(to, &[Get(KIND), I32(kind), Do(I32_EQ)])?;
-    to.push(Instr::If(None, called, Items::new(alloc)))?;
+    to.push(Instr::if_of(alloc, None, called, Items::new(alloc))?)?;
     Ok(())
 }
 

@@ -123,20 +123,20 @@ fn add_part(
         Part::Sequence(parts) => add_parts(alloc, parts, tracing, to),
         Part::Block(parts) => {
             let body = instructions(alloc, parts, tracing)?;
-            Ok(to.push(Instr::Block(None, body))?)
+            Ok(to.push(Instr::block_of(alloc, None, body)?)?)
         }
         Part::Loop(parts) => {
             let body = instructions(alloc, parts, tracing)?;
-            Ok(to.push(Instr::Loop(None, body))?)
+            Ok(to.push(Instr::loop_of(alloc, None, body)?)?)
         }
         Part::If(parts) => {
             let body = instructions(alloc, parts, tracing)?;
-            Ok(to.push(Instr::If(None, body, Items::new(alloc)))?)
+            Ok(to.push(Instr::if_of(alloc, None, body, Items::new(alloc))?)?)
         }
         Part::IfElse(parts, others) => {
             let body = instructions(alloc, parts, tracing)?;
             let other = instructions(alloc, others, tracing)?;
-            Ok(to.push(Instr::If(None, body, other))?)
+            Ok(to.push(Instr::if_of(alloc, None, body, other)?)?)
         }
         Part::Put => add_put(to, tracing),
         Part::Tell(frame, event) => add_event(to, tracing, *frame, *event),

@@ -143,11 +143,11 @@ conditional-whole Body t first second s u =
       | inr q ↦ inr (u.0, u.1, u.2, u.3, (u.4.0, u.4.1, u.4.2, u.4.3, (u.4.4.0, u.4.4.1, u.4.4.2, u.4.4.3, q)))
     ]
 
-only-If : (Body : List Instr → Format) (layer : Instr-F Instr) (s : List ℕ) → instr_over Body layer s → Starts 0x04 s → (u : Option ValTy × (List Instr × List Instr)) × (layer ≡ Instr-F.If u.0 u.1.0 u.1.1) × (byte 0x04 then pair blocktype (pair Body (else_end Body)) u) s
-only-If Body (Instr-F.If t first second) s h starts = ((t, (first, second)), refl, conditional-parts Body t first second s h)
+only-If : (Body : List Instr → Format) (layer : Instr-F Instr) (s : List ℕ) → instr_over Body layer s → Starts 0x04 s → (u : Option ValTy × (List Instr × List Instr)) × (layer ≡ Instr-F.If u.0 u.1) × (byte 0x04 then pair blocktype (pair Body (else_end Body)) u) s
+only-If Body (Instr-F.If t branches) s h starts = ((t, branches), refl, conditional-parts Body t branches.0 branches.1 s h)
 only-If Body layer s h starts = absurd (omega (arith, kind_of Body layer 0x04 0x04 s (inr (inr (refl, inl (omega arith, omega arith)))) h starts))
 
-pub arm-If : (Body : List Instr → Format) → Arm (instr_over Body) (pair blocktype (pair Body (else_end Body))) 0x04 (λ (u : Option ValTy × (List Instr × List Instr)). Instr-F.If u.0 u.1.0 u.1.1)
+pub arm-If : (Body : List Instr → Format) → Arm (instr_over Body) (pair blocktype (pair Body (else_end Body))) 0x04 (λ (u : Option ValTy × (List Instr × List Instr)). Instr-F.If u.0 u.1)
 arm-If Body = record { into = λ u s h. conditional-whole Body u.0 u.1.0 u.1.1 s h; only = only-If Body }
 
 -- ---- one level less within
@@ -196,7 +196,7 @@ up_to-no_memory B bytes at = record { found = tt; complete = λ all end s stops.
 no_block : (layer : Instr-F Instr) (op : ℕ) (s : List ℕ) → 0x02 ≤ number layer → number layer ≤ 0x04 → instr_over (λ body bytes. ⊥) layer (op ∷ s) → ⊥
 no_block (Instr-F.Block t body) op s from to h = h.4.4.3
 no_block (Instr-F.Loop t body) op s from to h = h.4.4.3
-no_block (Instr-F.If t first second) op s from to h = elim h [ inl p ↦ p.1.4.4.3 | inr p ↦ p.4.4.3 ]
+no_block (Instr-F.If t branches) op s from to h = elim h [ inl p ↦ p.1.4.4.3 | inr p ↦ p.4.4.3 ]
 no_block layer op s from to h = absurd (omega arith)
 
 opening : (op : ℕ) → 0x02 ≤ op → op ≤ 0x04 → Stands op op
@@ -235,8 +235,8 @@ structured-parts Body (Instr-F.Block t body) op s from to h =
 structured-parts Body (Instr-F.Loop t body) op s from to h =
     let u = behind_byte 0x03 op s h in
     ((t, (body, [])), (u.0, u.1, u.2, u.3, (u.4.0, u.4.1, u.4.2, u.4.3, inl (refl, u.4.4))))
-structured-parts Body (Instr-F.If t first second) op s from to h =
-    ((t, (first, second)), behind_byte 0x04 op s (conditional-parts Body t first second (op ∷ s) h))
+structured-parts Body (Instr-F.If t branches) op s from to h =
+    ((t, branches), behind_byte 0x04 op s (conditional-parts Body t branches.0 branches.1 (op ∷ s) h))
 structured-parts Body layer op s from to h = absurd (omega arith)
 
 pub structured-err : {bytes : List ℕ} {at op : ℕ} {e : DecodeFault} (Body : List Instr → Format) → 0x02 ≤ op → op ≤ 0x04 → Reads (pair blocktype (pair Body (else_end Body))) bytes at (Err e) → Reads (behind op (instr_over Body)) bytes at (Err e)

@@ -78,11 +78,11 @@ only-BrIf Body layer s h starts = absurd (omega (arith, kind_of Body layer 0x0d 
 pub arm-BrIf : (Body : List Instr → Format) → Arm (instr_over Body) u32 0x0d (λ (u : ℕ). Instr-F.BrIf u)
 arm-BrIf Body = record { into = λ u s h. h; only = only-BrIf Body }
 
-only-BrTable : (Body : List Instr → Format) (layer : Instr-F Instr) (s : List ℕ) → instr_over Body layer s → Starts 0x0e s → (u : List ℕ × ℕ) × (layer ≡ Instr-F.BrTable u.0 u.1) × (byte 0x0e then (pair (vec u32) u32) u) s
-only-BrTable Body (Instr-F.BrTable ls l) s h starts = ((ls, l), refl, h)
+only-BrTable : (Body : List Instr → Format) (layer : Instr-F Instr) (s : List ℕ) → instr_over Body layer s → Starts 0x0e s → (u : List ℕ × ℕ) × (layer ≡ Instr-F.BrTable u) × (byte 0x0e then (pair (vec u32) u32) u) s
+only-BrTable Body (Instr-F.BrTable table) s h starts = (table, refl, h)
 only-BrTable Body layer s h starts = absurd (omega (arith, kind_of Body layer 0x0e 0x0e s (inr (inr (refl, inl (omega arith, omega arith)))) h starts))
 
-pub arm-BrTable : (Body : List Instr → Format) → Arm (instr_over Body) (pair (vec u32) u32) 0x0e (λ (u : List ℕ × ℕ). Instr-F.BrTable u.0 u.1)
+pub arm-BrTable : (Body : List Instr → Format) → Arm (instr_over Body) (pair (vec u32) u32) 0x0e (λ (u : List ℕ × ℕ). Instr-F.BrTable u)
 arm-BrTable Body = record { into = λ u s h. h; only = only-BrTable Body }
 
 only-Call : (Body : List Instr → Format) (layer : Instr-F Instr) (s : List ℕ) → instr_over Body layer s → Starts 0x10 s → (u : ℕ) × (layer ≡ Instr-F.Call u) × (byte 0x10 then u32 u) s
@@ -211,10 +211,10 @@ FixedRange n =
 number-range : (layer : Instr-F Instr) → FixedRange (number layer)
 number-range (Instr-F.Block t body) = inl (omega arith, omega arith)
 number-range (Instr-F.Loop t body) = inl (omega arith, omega arith)
-number-range (Instr-F.If t yes_branch no_branch) = inl (omega arith, omega arith)
+number-range (Instr-F.If t branches) = inl (omega arith, omega arith)
 number-range (Instr-F.Br l) = inr (inl (omega arith, omega arith))
 number-range (Instr-F.BrIf l) = inr (inl (omega arith, omega arith))
-number-range (Instr-F.BrTable ls l) = inr (inl (omega arith, omega arith))
+number-range (Instr-F.BrTable table) = inr (inl (omega arith, omega arith))
 number-range (Instr-F.Call x) = inr (inr (inl (omega arith, omega arith)))
 number-range (Instr-F.CallIndirect x) = inr (inr (inl (omega arith, omega arith)))
 number-range (Instr-F.LocalGet x) = inr (inr (inr (inl (omega arith, omega arith))))
@@ -299,8 +299,8 @@ index-of Body (Instr-F.CallIndirect l) op s is h =
 index-of Body (Instr-F.Plain o) op s is h = absurd (indexed-not (number (Instr-F.Plain o)) is (inr (inr (omega arith))))
 index-of Body (Instr-F.Block t body) op s is h = absurd (indexed-not (number (Instr-F.Block t body)) is (inl (omega arith)))
 index-of Body (Instr-F.Loop t body) op s is h = absurd (indexed-not (number (Instr-F.Loop t body)) is (inl (omega arith)))
-index-of Body (Instr-F.If t first second) op s is h = absurd (indexed-not (number (Instr-F.If t first second)) is (inl (omega arith)))
-index-of Body (Instr-F.BrTable ls l) op s is h = absurd (indexed-not (number (Instr-F.BrTable ls l)) is (inr (inl (omega arith, omega arith))))
+index-of Body (Instr-F.If t branches) op s is h = absurd (indexed-not (number (Instr-F.If t branches)) is (inl (omega arith)))
+index-of Body (Instr-F.BrTable table) op s is h = absurd (indexed-not (number (Instr-F.BrTable table)) is (inr (inl (omega arith, omega arith))))
 index-of Body (Instr-F.Memory o a f) op s is h = absurd (indexed-not (number (Instr-F.Memory o a f)) is (inr (inr (omega arith))))
 index-of Body (Instr-F.I32Const n) op s is h = absurd (indexed-not (number (Instr-F.I32Const n)) is (inr (inr (omega arith))))
 index-of Body (Instr-F.I64Const n) op s is h = absurd (indexed-not (number (Instr-F.I64Const n)) is (inr (inr (omega arith))))

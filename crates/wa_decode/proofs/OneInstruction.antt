@@ -76,10 +76,10 @@ number (Instr-F.Plain op) = 0x100
 number (Instr-F.Memory op align offset) = 0x101
 number (Instr-F.Block t body) = 0x02
 number (Instr-F.Loop t body) = 0x03
-number (Instr-F.If t yes_branch no_branch) = 0x04
+number (Instr-F.If t branches) = 0x04
 number (Instr-F.Br l) = 0x0c
 number (Instr-F.BrIf l) = 0x0d
-number (Instr-F.BrTable ls l) = 0x0e
+number (Instr-F.BrTable table) = 0x0e
 number (Instr-F.Call x) = 0x10
 number (Instr-F.CallIndirect x) = 0x11
 number (Instr-F.LocalGet x) = 0x20
@@ -137,7 +137,7 @@ first_of Body (Instr-F.Plain op) s h =
       | inr memory ↦ record { c = op; stands = inl (refl, inr memory.0); starts = byte_starts op s memory.1 }
     ]
 first_of Body (Instr-F.Memory op align offset) s h = record { c = op; stands = inr (inl (refl, h.0)); starts = byte_starts op s h.1 }
-first_of Body (Instr-F.If t yes_branch no_branch) s h =
+first_of Body (Instr-F.If t branches) s h =
     elim h [
       | inl one ↦ first-other 0x04 s (inl (omega arith, omega arith)) one.1
       | inr both ↦ first-other 0x04 s (inl (omega arith, omega arith)) both
@@ -146,7 +146,7 @@ first_of Body (Instr-F.Block t body) s h = first-other 0x02 s (inl (omega arith,
 first_of Body (Instr-F.Loop t body) s h = first-other 0x03 s (inl (omega arith, omega arith)) h
 first_of Body (Instr-F.Br l) s h = first-other 0x0c s (inl (omega arith, omega arith)) h
 first_of Body (Instr-F.BrIf l) s h = first-other 0x0d s (inl (omega arith, omega arith)) h
-first_of Body (Instr-F.BrTable ls l) s h = first-other 0x0e s (inl (omega arith, omega arith)) h
+first_of Body (Instr-F.BrTable table) s h = first-other 0x0e s (inl (omega arith, omega arith)) h
 first_of Body (Instr-F.Call x) s h = first-other 0x10 s (inr (inl (omega arith, omega arith))) h
 first_of Body (Instr-F.CallIndirect x) s h = first-other 0x11 s (inr (inl (omega arith, omega arith))) h
 first_of Body (Instr-F.LocalGet x) s h = first-other 0x20 s (inr (inr (inl (omega arith, omega arith)))) h
@@ -186,10 +186,10 @@ number-stop (Instr-F.Plain op) h = elim h [ inl e ↦ omega (arith, e) | inr e �
 number-stop (Instr-F.Memory op align offset) h = elim h [ inl e ↦ omega (arith, e) | inr e ↦ omega (arith, e) ]
 number-stop (Instr-F.Block t body) h = elim h [ inl e ↦ omega (arith, e) | inr e ↦ omega (arith, e) ]
 number-stop (Instr-F.Loop t body) h = elim h [ inl e ↦ omega (arith, e) | inr e ↦ omega (arith, e) ]
-number-stop (Instr-F.If t yes_branch no_branch) h = elim h [ inl e ↦ omega (arith, e) | inr e ↦ omega (arith, e) ]
+number-stop (Instr-F.If t branches) h = elim h [ inl e ↦ omega (arith, e) | inr e ↦ omega (arith, e) ]
 number-stop (Instr-F.Br l) h = elim h [ inl e ↦ omega (arith, e) | inr e ↦ omega (arith, e) ]
 number-stop (Instr-F.BrIf l) h = elim h [ inl e ↦ omega (arith, e) | inr e ↦ omega (arith, e) ]
-number-stop (Instr-F.BrTable ls l) h = elim h [ inl e ↦ omega (arith, e) | inr e ↦ omega (arith, e) ]
+number-stop (Instr-F.BrTable table) h = elim h [ inl e ↦ omega (arith, e) | inr e ↦ omega (arith, e) ]
 number-stop (Instr-F.Call x) h = elim h [ inl e ↦ omega (arith, e) | inr e ↦ omega (arith, e) ]
 number-stop (Instr-F.CallIndirect x) h = elim h [ inl e ↦ omega (arith, e) | inr e ↦ omega (arith, e) ]
 number-stop (Instr-F.LocalGet x) h = elim h [ inl e ↦ omega (arith, e) | inr e ↦ omega (arith, e) ]
@@ -365,9 +365,9 @@ layers-one {Body = Body} one_Body (Instr-F.Block t v) (Instr-F.Block u w) a b x 
 layers-one {Body = Body} one_Body (Instr-F.Loop t v) (Instr-F.Loop u w) a b x y h k same =
     let both = (one-behind 0x03 (one-pair one-blocktype (one-body one_Body))).one (t, v) (u, w) a b x y h k same in
     (both.0, ap (λ (p : Option ValTy × List Instr). Instr-F.Loop p.0 p.1) both.1)
-layers-one {Body = Body} one_Body (Instr-F.If t v z) (Instr-F.If u w o) a b x y h k same =
-    let both = (one-conditional one_Body).one (t, (v, z)) (u, (w, o)) a b x y h k same in
-    (both.0, ap (λ (p : Option ValTy × (List Instr × List Instr)). Instr-F.If p.0 p.1.0 p.1.1) both.1)
+layers-one {Body = Body} one_Body (Instr-F.If t v) (Instr-F.If u w) a b x y h k same =
+    let both = (one-conditional one_Body).one (t, v) (u, w) a b x y h k same in
+    (both.0, ap (λ (p : Option ValTy × (List Instr × List Instr)). Instr-F.If p.0 p.1) both.1)
 layers-one {Body = Body} one_Body (Instr-F.Br v) (Instr-F.Br w) a b x y h k same =
     let both = (one-behind 0x0c one-u32).one v w a b x y h k same in
     (both.0, ap (λ (n : ℕ). Instr-F.Br n) both.1)
@@ -398,9 +398,9 @@ layers-one {Body = Body} one_Body (Instr-F.I32Const v) (Instr-F.I32Const w) a b 
 layers-one {Body = Body} one_Body (Instr-F.I64Const v) (Instr-F.I64Const w) a b x y h k same =
     let both = (one-behind 0x42 one-i64).one v w a b x y h k same in
     (both.0, ap (λ (n : ℕ). Instr-F.I64Const n) both.1)
-layers-one {Body = Body} one_Body (Instr-F.BrTable ls v) (Instr-F.BrTable ms w) a b x y h k same =
-    let both = (one-behind 0x0e (one-pair (one-vec one-u32) one-u32)).one (ls, v) (ms, w) a b x y h k same in
-    (both.0, ap (λ (p : List ℕ × ℕ). Instr-F.BrTable p.0 p.1) both.1)
+layers-one {Body = Body} one_Body (Instr-F.BrTable v) (Instr-F.BrTable w) a b x y h k same =
+    let both = (one-behind 0x0e (one-pair (one-vec one-u32) one-u32)).one v w a b x y h k same in
+    (both.0, ap (λ (p : List ℕ × ℕ). Instr-F.BrTable p) both.1)
 layers-one {Body = Body} one_Body (Instr-F.CallIndirect v) (Instr-F.CallIndirect w) a b x y h k same =
     let both = (one-behind 0x11 (one-pair one-u32 one-byte)).one (v, 0x00) (w, 0x00) a b x y h k same in
     (both.0, ap (λ (p : ℕ × ℕ). Instr-F.CallIndirect p.0) both.1)

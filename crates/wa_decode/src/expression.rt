@@ -47,14 +47,15 @@ fn sequence(alloc: Global, bytes: &[u8], at: u32, levels: u32) -> Decoded<Items<
     ensures reads { ReadsUpTo (instr levels) bytes.now at result }
     ensures reaches { IfOk result (λ read. ReachesIn bytes.now at read.1) }
 {
-    let mut instrs = Items::new(alloc);
+    let mut instrs = Vec::new(alloc);
     let mut at = at;
     while !stops(bytes, at) {
         let (instr, next) = instruction(alloc, bytes, at, levels)?;
         instrs.push(instr)?;
         at = next;
     }
-    Ok((instrs, at))
+    instrs.shrink_to_fit();
+    Ok((Items::from_vec(instrs), at))
 }
 
 /// An instruction (5.4).
@@ -85,11 +86,11 @@ fn structured(alloc: Global, opcode: u8, bytes: &[u8], at: u32, levels: u32) -> 
     let (ty, at) = block_type(bytes, at)?;
     let (body, at) = sequence(alloc, bytes, at, levels - 1)?;
     match opcode {
-        BLOCK => Ok((Instr::Block(ty, body), expect(bytes, at, END)?)),
-        LOOP => Ok((Instr::Loop(ty, body), expect(bytes, at, END)?)),
+        BLOCK => Ok((Instr::block_of(alloc, ty, body)?, expect(bytes, at, END)?)),
+        LOOP => Ok((Instr::loop_of(alloc, ty, body)?, expect(bytes, at, END)?)),
         _ => {
             let (otherwise, end) = alternative(alloc, bytes, at, levels - 1)?;
-            Ok((Instr::If(ty, body, otherwise), end))
+            Ok((Instr::if_of(alloc, ty, body, otherwise)?, end))
         }
     }
 }

@@ -95,7 +95,7 @@ fn branch_table(alloc: Global, bytes: &[u8], at: u32) -> Decoded<Instr>
 {
     let (labels, at) = vector::<Index>(alloc, bytes, at)?;
     let (default, end) = unsigned(bytes, at)?;
-    Ok((Instr::BrTable(labels, default), end))
+    Ok((Instr::br_table_of(alloc, labels, default)?, end))
 }
 
 /// A variable instruction (5.4.3): the number of a local or a global follows.

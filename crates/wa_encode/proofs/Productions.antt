@@ -240,9 +240,9 @@ Adds-Block i t body old new is h = Adds-holding i (Instr-F.Block t body) old new
 pub Adds-Loop : (i : Instr) (t : Option ValTy) (body : List Instr) (old new : List ℕ) → out-Instr i ≡ Instr-F.Loop t body → ((levels : ℕ) → Adds (byte 0x03 then blocktype t then each (instr levels) body then byte 0x0b) old new) → (levels : ℕ) → Adds (instr levels i) old new
 Adds-Loop i t body old new is h = Adds-holding i (Instr-F.Loop t body) old new is (λ other spelled. spelled.4.4.3) h
 
-pub Adds-If : (i : Instr) (t : Option ValTy) (body branch : List Instr) (old new : List ℕ) → out-Instr i ≡ Instr-F.If t body branch → ((levels : ℕ) → Adds (byte 0x04 then blocktype t then each (instr levels) body then else_end (each (instr levels)) branch) old new) → (levels : ℕ) → Adds (instr levels i) old new
+pub Adds-If : (i : Instr) (t : Option ValTy) (body branch : List Instr) (old new : List ℕ) → out-Instr i ≡ Instr-F.If t (body, branch) → ((levels : ℕ) → Adds (byte 0x04 then blocktype t then each (instr levels) body then else_end (each (instr levels)) branch) old new) → (levels : ℕ) → Adds (instr levels i) old new
 Adds-If i t body branch old new is h =
-    Adds-holding i (Instr-F.If t body branch) old new is
+    Adds-holding i (Instr-F.If t (body, branch)) old new is
     (λ other spelled. elim spelled [ inl none ↦ none.1.4.4.3 | inr some ↦ some.4.4.3 ])
     (λ levels. Adds-conditional (each (instr levels)) t body branch old new (h levels))
 
@@ -271,11 +271,11 @@ Ok-Loop r i t given body old middle new is same h =
     Adds-Loop i t body old new (layer_of i (variant.Loop t body) (Instr-F.Loop t body) is (variant.rolls-Loop t body))
     (λ levels. subst (λ (instrs : List Instr). Adds (byte 0x03 then blocktype t then each (instr levels) instrs then byte 0x0b) old new) same (Adds-behind h (end levels))))
 
-pub Ok-If : {T E : Type 0} (r : Result T E) (i : Instr) (t : Option ValTy) (given body other branch : List Instr) (old middle after new : List ℕ) → i ≡ variant.If t body branch → given ≡ body → other ≡ branch → Adds (byte 0x04 then blocktype t) old middle → ((levels : ℕ) → Adds (each (instr levels) given) middle after) → OnOk r ((levels : ℕ) → Adds (else_end (each (instr levels)) other) after new) → OnOk r ((levels : ℕ) → Adds (instr levels i) old new)
-Ok-If r i t given body other branch old middle after new is same same_branch h k =
+pub Ok-If : {T E : Type 0} (r : Result T E) (i : Instr) (t : Option ValTy) (arms : List Instr × List Instr) (given other : List Instr) (old middle after new : List ℕ) → i ≡ variant.If t arms → given ≡ arms.0 → other ≡ arms.1 → Adds (byte 0x04 then blocktype t) old middle → ((levels : ℕ) → Adds (each (instr levels) given) middle after) → OnOk r ((levels : ℕ) → Adds (else_end (each (instr levels)) other) after new) → OnOk r ((levels : ℕ) → Adds (instr levels i) old new)
+Ok-If r i t arms given other old middle after new is same same_branch h k =
     on_ok_weaker {P = (levels : ℕ) → Adds (else_end (each (instr levels)) other) after new} {Q = (levels : ℕ) → Adds (instr levels i) old new} r (λ end.
-    Adds-If i t body branch old new (layer_of i (variant.If t body branch) (Instr-F.If t body branch) is (variant.rolls-If t body branch))
-    (λ levels. subst (λ (instrs : List Instr). Adds (byte 0x04 then blocktype t then each (instr levels) body then else_end (each (instr levels)) instrs) old new) same_branch
+    Adds-If i t arms.0 arms.1 old new (layer_of i (variant.If t arms) (Instr-F.If t arms) is (variant.rolls-If t arms))
+    (λ levels. subst (λ (instrs : List Instr). Adds (byte 0x04 then blocktype t then each (instr levels) arms.0 then else_end (each (instr levels)) instrs) old new) same_branch
     (subst (λ (instrs : List Instr). Adds (byte 0x04 then blocktype t then each (instr levels) instrs then else_end (each (instr levels)) other) old new) same (Adds-behind h (Adds-then (k levels) (end levels))))))
 
 -- ---- the module

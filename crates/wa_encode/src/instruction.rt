@@ -58,13 +58,14 @@ fn instruction(out: &mut Vec<u8>, instr: &Instr) -> Result<(), NoMemory>
     match instr {
         Instr::Block(ty, body) => {
             begin(out, BLOCK, *ty)?;
-            expression(out, body.as_slice())
+            expression(out, body.get().as_slice())
         }
         Instr::Loop(ty, body) => {
             begin(out, LOOP, *ty)?;
-            expression(out, body.as_slice())
+            expression(out, body.get().as_slice())
         }
-        Instr::If(ty, body, otherwise) => {
+        Instr::If(ty, arms) => {
+            let (body, otherwise) = arms.get();
             begin(out, IF, *ty)?;
             sequence(out, body.as_slice())?;
             else_branch(out, otherwise.as_slice())
@@ -72,7 +73,10 @@ fn instruction(out: &mut Vec<u8>, instr: &Instr) -> Result<(), NoMemory>
         Instr::Plain(opcode) => plain(out, *opcode),
         Instr::Br(label) => indexed(out, BR, *label),
         Instr::BrIf(label) => indexed(out, BR_IF, *label),
-        Instr::BrTable(labels, default) => br_table(out, labels.as_slice(), *default),
+        Instr::BrTable(table) => {
+            let (labels, default) = table.get();
+            br_table(out, labels.as_slice(), *default)
+        }
         Instr::Call(func) => indexed(out, CALL, *func),
         Instr::CallIndirect(ty) => call_indirect(out, *ty),
         Instr::LocalGet(local) => indexed(out, LOCAL_GET, *local),

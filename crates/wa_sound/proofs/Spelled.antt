@@ -72,11 +72,11 @@ layer-constants : (Body : List Instr → Format) (layer : Instr-F Instr) (bytes 
 layer-constants Body (Instr-F.Plain op) bytes held s = subst HasConstants (sym (fold-roll-Instr Instruction instruction_at (Instr-F.Plain op))) (plain-has op).constants
 layer-constants Body (Instr-F.Block t body) bytes held s = subst HasConstants (sym (fold-roll-Instr Instruction instruction_at (Instr-F.Block t body))) (held body s.4.4.0 s.4.4.3)
 layer-constants Body (Instr-F.Loop t body) bytes held s = subst HasConstants (sym (fold-roll-Instr Instruction instruction_at (Instr-F.Loop t body))) (held body s.4.4.0 s.4.4.3)
-layer-constants Body (Instr-F.If t first other) bytes held (inl (none, s)) = subst HasConstants (sym (fold-roll-Instr Instruction instruction_at (Instr-F.If t first other))) (held first s.4.4.0 s.4.4.3, subst (λ (body : List Instr). AreConstants (sequence body)) (sym none) tt)
-layer-constants Body (Instr-F.If t first other) bytes held (inr s) = subst HasConstants (sym (fold-roll-Instr Instruction instruction_at (Instr-F.If t first other))) (held first s.4.4.0 s.4.4.3, held other s.4.4.4.4.0 s.4.4.4.4.3)
+layer-constants Body (Instr-F.If t arms) bytes held (inl (none, s)) = subst HasConstants (sym (fold-roll-Instr Instruction instruction_at (Instr-F.If t arms))) (held arms.0 s.4.4.0 s.4.4.3, subst (λ (body : List Instr). AreConstants (sequence body)) (sym none) tt)
+layer-constants Body (Instr-F.If t arms) bytes held (inr s) = subst HasConstants (sym (fold-roll-Instr Instruction instruction_at (Instr-F.If t arms))) (held arms.0 s.4.4.0 s.4.4.3, held arms.1 s.4.4.4.4.0 s.4.4.4.4.3)
 layer-constants Body (Instr-F.Br label) bytes held s = subst HasConstants (sym (fold-roll-Instr Instruction instruction_at (Instr-F.Br label))) tt
 layer-constants Body (Instr-F.BrIf label) bytes held s = subst HasConstants (sym (fold-roll-Instr Instruction instruction_at (Instr-F.BrIf label))) tt
-layer-constants Body (Instr-F.BrTable labels default) bytes held s = subst HasConstants (sym (fold-roll-Instr Instruction instruction_at (Instr-F.BrTable labels default))) tt
+layer-constants Body (Instr-F.BrTable table) bytes held s = subst HasConstants (sym (fold-roll-Instr Instruction instruction_at (Instr-F.BrTable table))) tt
 layer-constants Body (Instr-F.Call func) bytes held s = subst HasConstants (sym (fold-roll-Instr Instruction instruction_at (Instr-F.Call func))) tt
 layer-constants Body (Instr-F.CallIndirect ty) bytes held s = subst HasConstants (sym (fold-roll-Instr Instruction instruction_at (Instr-F.CallIndirect ty))) tt
 layer-constants Body (Instr-F.LocalGet local) bytes held s = subst HasConstants (sym (fold-roll-Instr Instruction instruction_at (Instr-F.LocalGet local))) tt

@@ -16,8 +16,8 @@ instruction-Block result body = ap instruction (sym (i.rolls-Block result body))
 pub instruction-Loop : (result : Option ValTy) (body : List Instr) → instruction (i.Loop result body) ≡ Loop result (sequence body)
 instruction-Loop result body = ap instruction (sym (i.rolls-Loop result body)) ∙ fold-roll-Instr Instruction instruction_at (Instr-F.Loop result body)
 
-pub instruction-If : (result : Option ValTy) (first other : List Instr) → instruction (i.If result first other) ≡ If result (sequence first) (sequence other)
-instruction-If result first other = ap instruction (sym (i.rolls-If result first other)) ∙ fold-roll-Instr Instruction instruction_at (Instr-F.If result first other)
+pub instruction-If : (result : Option ValTy) (arms : List Instr × List Instr) → instruction (i.If result arms) ≡ If result (sequence arms.0) (sequence arms.1)
+instruction-If result arms = ap instruction (sym (i.rolls-If result arms)) ∙ fold-roll-Instr Instruction instruction_at (Instr-F.If result arms)
 
 pub instruction-Br : (label : ℕ) → instruction (i.Br label) ≡ Br label
 instruction-Br label = ap instruction (sym (i.rolls-Br label)) ∙ fold-roll-Instr Instruction instruction_at (Instr-F.Br label)
@@ -25,8 +25,8 @@ instruction-Br label = ap instruction (sym (i.rolls-Br label)) ∙ fold-roll-Ins
 pub instruction-BrIf : (label : ℕ) → instruction (i.BrIf label) ≡ BrIf label
 instruction-BrIf label = ap instruction (sym (i.rolls-BrIf label)) ∙ fold-roll-Instr Instruction instruction_at (Instr-F.BrIf label)
 
-pub instruction-BrTable : (labels : List ℕ) (default : ℕ) → instruction (i.BrTable labels default) ≡ BrTable labels default
-instruction-BrTable labels default = ap instruction (sym (i.rolls-BrTable labels default)) ∙ fold-roll-Instr Instruction instruction_at (Instr-F.BrTable labels default)
+pub instruction-BrTable : (table : List ℕ × ℕ) → instruction (i.BrTable table) ≡ BrTable table.0 table.1
+instruction-BrTable table = ap instruction (sym (i.rolls-BrTable table)) ∙ fold-roll-Instr Instruction instruction_at (Instr-F.BrTable table)
 
 pub instruction-Call : (func : ℕ) → instruction (i.Call func) ≡ Call func
 instruction-Call func = ap instruction (sym (i.rolls-Call func)) ∙ fold-roll-Instr Instruction instruction_at (Instr-F.Call func)

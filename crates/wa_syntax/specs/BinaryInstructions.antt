@@ -56,10 +56,10 @@ abbrev pub instr_over : (List Instr → Format) → Instr-F Instr → Format
 instr_over Body (Instr-F.Plain op) = plain op
 instr_over Body (Instr-F.Block t body) = byte 0x02 then blocktype t then Body body then byte 0x0b
 instr_over Body (Instr-F.Loop t body) = byte 0x03 then blocktype t then Body body then byte 0x0b
-instr_over Body (Instr-F.If t yes_branch no_branch) = conditional Body t yes_branch no_branch
+instr_over Body (Instr-F.If t branches) = conditional Body t branches.0 branches.1
 instr_over Body (Instr-F.Br l) = byte 0x0c then u32 l
 instr_over Body (Instr-F.BrIf l) = byte 0x0d then u32 l
-instr_over Body (Instr-F.BrTable ls l) = byte 0x0e then vec u32 ls then u32 l
+instr_over Body (Instr-F.BrTable table) = byte 0x0e then vec u32 table.0 then u32 table.1
 instr_over Body (Instr-F.Call x) = byte 0x10 then u32 x
 instr_over Body (Instr-F.CallIndirect x) = byte 0x11 then u32 x then byte 0x00
 instr_over Body (Instr-F.LocalGet x) = byte 0x20 then u32 x

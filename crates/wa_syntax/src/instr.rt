@@ -1,27 +1,33 @@
 //! Instructions (section 2.4).
 
+ghost use Rattle.std.specs.Prelude.{◌≡◌, IfOk};
+ghost use Rattle.wa_syntax.specs.declared.instr.Instr.TheVariants as instr;
+
 use crate::module::ValTy;
-use sqlite_items::Items;
+use sqlite_items::{Boxed, Items};
+use std::alloc::{AllocError, Global};
 
 /// An instruction. Blocks hold their instructions and have the type of their result, if they have one. Labels count the
 /// blocks outwards from 0 (2.4.5).
+///
+/// What an instruction holds stands behind one pointer, so that an instruction takes 16 bytes.
 #[derive(Drop)]
 pub enum Instr {
     /// An instruction that is its opcode alone: `unreachable`, `nop`, `return`, `drop`, `select`, `memory.size`,
     /// `memory.grow` and the numeric instructions (2.4.1, 2.4.2, 2.4.4, 2.4.5).
     Plain(u8),
     /// Instructions whose label is their end (2.4.5).
-    Block(Option<ValTy>, Items<Instr>),
+    Block(Option<ValTy>, Boxed<Items<Instr>>),
     /// Instructions whose label is their beginning (2.4.5).
-    Loop(Option<ValTy>, Items<Instr>),
+    Loop(Option<ValTy>, Boxed<Items<Instr>>),
     /// What is done where the operand isn't 0, and where it is (2.4.5).
-    If(Option<ValTy>, Items<Instr>, Items<Instr>),
+    If(Option<ValTy>, Boxed<(Items<Instr>, Items<Instr>)>),
     /// A branch to a label (2.4.5).
     Br(u32),
     /// A branch to a label where the operand isn't 0 (2.4.5).
     BrIf(u32),
     /// A branch to the label that the operand numbers: the labels, and the label for an operand past them (2.4.5).
-    BrTable(Items<u32>, u32),
+    BrTable(Boxed<(Items<u32>, u32)>),
     /// A call of the function with this number, the imported ones counted first (2.4.5).
     Call(u32),
     /// An indirect call of a function of the type with this number (2.4.5).
@@ -42,4 +48,47 @@ pub enum Instr {
     I32Const(u32),
     /// A constant of 64 bits (2.4.1).
     I64Const(u64),
+}
+
+impl Instr {
+    /// A `block` of these instructions. Fails where memory runs out.
+    pub fn block_of(
+        alloc: Global,
+        ty: Option<ValTy>,
+        body: Items<Instr>,
+    ) -> Result<Instr, AllocError>
+        ensures { IfOk result (λ made. made ≡ instr.Block ty body) }
+    {
+        Ok(Instr::Block(ty, Boxed::new(alloc, body)?))
+    }
+
+    /// A `loop` of these instructions. Fails where memory runs out.
+    pub fn loop_of(
+        alloc: Global,
+        ty: Option<ValTy>,
+        body: Items<Instr>,
+    ) -> Result<Instr, AllocError>
+        ensures { IfOk result (λ made. made ≡ instr.Loop ty body) }
+    {
+        Ok(Instr::Loop(ty, Boxed::new(alloc, body)?))
+    }
+
+    /// An `if` of what is done where the operand isn't 0, and where it is. Fails where memory runs out.
+    pub fn if_of(
+        alloc: Global,
+        ty: Option<ValTy>,
+        then: Items<Instr>,
+        otherwise: Items<Instr>,
+    ) -> Result<Instr, AllocError>
+        ensures { IfOk result (λ made. made ≡ instr.If ty (then, otherwise)) }
+    {
+        Ok(Instr::If(ty, Boxed::new(alloc, (then, otherwise))?))
+    }
+
+    /// A `br_table` with these labels, and the one for an operand past them. Fails where memory runs out.
+    pub fn br_table_of(alloc: Global, labels: Items<u32>, default: u32) -> Result<Instr, AllocError>
+        ensures { IfOk result (λ made. made ≡ instr.BrTable (labels, default)) }
+    {
+        Ok(Instr::BrTable(Boxed::new(alloc, (labels, default))?))
+    }
 }

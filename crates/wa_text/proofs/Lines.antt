@@ -137,26 +137,26 @@ begun_instr kind.Block t n i lines h =
 begun_instr kind.Loop t n i lines h =
     holding n i (Instr-F.Loop t h.4.0) lines (layer_of i (variant.Loop t h.4.0) (Instr-F.Loop t h.4.0) h.4.1 (variant.rolls-Loop t h.4.0)) (h.0, h.1, h.2, h.3, h.4.2)
 begun_instr kind.If t n i lines h =
-    holding n i (Instr-F.If t h.4.0 h.4.1) lines (layer_of i (variant.If t h.4.0 h.4.1) (Instr-F.If t h.4.0 h.4.1) h.4.2 (variant.rolls-If t h.4.0 h.4.1)) (h.0, h.1, h.2, h.3, h.4.3)
+    holding n i (Instr-F.If t (h.4.0, h.4.1)) lines (layer_of i (variant.If t (h.4.0, h.4.1)) (Instr-F.If t (h.4.0, h.4.1)) h.4.2 (variant.rolls-If t (h.4.0, h.4.1))) (h.0, h.1, h.2, h.3, h.4.3)
 
 pub begun : (k : BlockKind) (t : Option ValTy) (levels n : ℕ) (i : Instr) (lines : List Line) → levels ≡ suc n → (begin (kind_word k) t then behind_first k t (each (instr n)) i) lines → instr levels i lines
 begun k t levels n i lines is h = subst (λ (m : ℕ). instr m i lines) (sym is) (begun_instr k t n i lines h)
 
 -- what one holds, by its word
-pub held_Block : (k : BlockKind) (t : Option ValTy) (Body : List Instr → Form Line) (body : List Instr) {text : List ℕ} {at mid last : ℕ} → k ≡ kind.Block → Spelled (Body body) text at mid → Spelled end text mid last → Spelled (behind_first k t Body (variant.Block t body)) text at last
-held_Block k t Body body {text} {at} {mid} {last} is h e =
-    let held : Spelled (behind_first kind.Block t Body (variant.Block t body)) text at last = weaker (λ lines s. (body, refl, s)) (join h e) in
-    subst (λ (b : BlockKind). Spelled (behind_first b t Body (variant.Block t body)) text at last) (sym is) held
+pub held_Block : (k : BlockKind) (t : Option ValTy) (Body : List Instr → Form Line) (i : Instr) (body : List Instr) {text : List ℕ} {at mid last : ℕ} → i ≡ variant.Block t body → k ≡ kind.Block → Spelled (Body body) text at mid → Spelled end text mid last → Spelled (behind_first k t Body i) text at last
+held_Block k t Body i body {text} {at} {mid} {last} made is h e =
+    let held : Spelled (behind_first kind.Block t Body i) text at last = weaker (λ lines s. (body, made, s)) (join h e) in
+    subst (λ (b : BlockKind). Spelled (behind_first b t Body i) text at last) (sym is) held
 
-pub held_Loop : (k : BlockKind) (t : Option ValTy) (Body : List Instr → Form Line) (body : List Instr) {text : List ℕ} {at mid last : ℕ} → k ≡ kind.Loop → Spelled (Body body) text at mid → Spelled end text mid last → Spelled (behind_first k t Body (variant.Loop t body)) text at last
-held_Loop k t Body body {text} {at} {mid} {last} is h e =
-    let held : Spelled (behind_first kind.Loop t Body (variant.Loop t body)) text at last = weaker (λ lines s. (body, refl, s)) (join h e) in
-    subst (λ (b : BlockKind). Spelled (behind_first b t Body (variant.Loop t body)) text at last) (sym is) held
+pub held_Loop : (k : BlockKind) (t : Option ValTy) (Body : List Instr → Form Line) (i : Instr) (body : List Instr) {text : List ℕ} {at mid last : ℕ} → i ≡ variant.Loop t body → k ≡ kind.Loop → Spelled (Body body) text at mid → Spelled end text mid last → Spelled (behind_first k t Body i) text at last
+held_Loop k t Body i body {text} {at} {mid} {last} made is h e =
+    let held : Spelled (behind_first kind.Loop t Body i) text at last = weaker (λ lines s. (body, made, s)) (join h e) in
+    subst (λ (b : BlockKind). Spelled (behind_first b t Body i) text at last) (sym is) held
 
-pub held_If : (k : BlockKind) (t : Option ValTy) (Body : List Instr → Form Line) (body branch : List Instr) {text : List ℕ} {at mid last : ℕ} → k ≡ kind.If → Spelled (Body body) text at mid → Spelled (else_end Body branch) text mid last → Spelled (behind_first k t Body (variant.If t body branch)) text at last
-held_If k t Body body branch {text} {at} {mid} {last} is h e =
-    let held : Spelled (behind_first kind.If t Body (variant.If t body branch)) text at last = weaker (λ lines s. (body, branch, refl, s)) (join h e) in
-    subst (λ (b : BlockKind). Spelled (behind_first b t Body (variant.If t body branch)) text at last) (sym is) held
+pub held_If : (k : BlockKind) (t : Option ValTy) (Body : List Instr → Form Line) (i : Instr) (body branch : List Instr) {text : List ℕ} {at mid last : ℕ} → i ≡ variant.If t (body, branch) → k ≡ kind.If → Spelled (Body body) text at mid → Spelled (else_end Body branch) text mid last → Spelled (behind_first k t Body i) text at last
+held_If k t Body i body branch {text} {at} {mid} {last} made is h e =
+    let held : Spelled (behind_first kind.If t Body i) text at last = weaker (λ lines s. (body, branch, made, s)) (join h e) in
+    subst (λ (b : BlockKind). Spelled (behind_first b t Body i) text at last) (sym is) held
 
 -- a branch behind its `else`
 pub with_else : (Body : List Instr → Form Line) (branch : List Instr) {text : List ℕ} {at mid after last : ℕ} → branch ≢ [] → Spelled (line (word (codes "else"))) text at mid → Spelled (Body branch) text mid after → Spelled end text after last → Spelled (else_end Body branch) text at last

@@ -77,7 +77,7 @@ record FirstRow (s : List Line) : Type 0 where
 row_of : (i : Instr) (layer : Instr-F Instr) (Body : List Instr → Form Line) (s : List Line) → out-Instr i ≡ layer → instr_over Body layer s → FirstRow s
 row_of i (Instr-F.Plain op) Body s is h = record { words = h.0; more = []; lines = h.2; begins = first.Whole i; form = by_layer i (Instr-F.Plain op) (h.0 ∷ []) is (λ other. (h.0, h.1, refl)) }
 row_of i (Instr-F.Memory op align offset) Body s is h = record { words = h.0; more = []; lines = h.2; begins = first.Whole i; form = by_layer i (Instr-F.Memory op align offset) (h.0 ∷ []) is (λ other. (h.0, h.1, refl)) }
-row_of i (Instr-F.BrTable ls l) Body s is h = record { words = h.0; more = []; lines = h.2; begins = first.Whole i; form = by_layer i (Instr-F.BrTable ls l) (h.0 ∷ []) is (λ other. (h.0, h.1, refl)) }
+row_of i (Instr-F.BrTable targets) Body s is h = record { words = h.0; more = []; lines = h.2; begins = first.Whole i; form = by_layer i (Instr-F.BrTable targets) (h.0 ∷ []) is (λ other. (h.0, h.1, refl)) }
 row_of i (Instr-F.I64Const n) Body s is h = record { words = h.0; more = []; lines = h.2; begins = first.Whole i; form = by_layer i (Instr-F.I64Const n) (h.0 ∷ []) is (λ other. (h.0, h.1, refl)) }
 row_of i (Instr-F.Br l) Body s is h = record { words = h.0; more = []; lines = h.2; begins = first.Whole i; form = by_layer i (Instr-F.Br l) (h.0 ∷ []) is (λ other. (h.0, h.1, refl)) }
 row_of i (Instr-F.BrIf l) Body s is h = record { words = h.0; more = []; lines = h.2; begins = first.Whole i; form = by_layer i (Instr-F.BrIf l) (h.0 ∷ []) is (λ other. (h.0, h.1, refl)) }
@@ -91,7 +91,7 @@ row_of i (Instr-F.GlobalSet x) Body s is h = record { words = h.0; more = []; li
 row_of i (Instr-F.I32Const n) Body s is h = record { words = h.0; more = []; lines = h.2; begins = first.Whole i; form = by_layer i (Instr-F.I32Const n) (h.0 ∷ []) is (λ other. (h.0, h.1, refl)) }
 row_of i (Instr-F.Block t body) Body s is h = record { words = h.3.0; more = h.1; lines = h.2 ∙ ap (λ (front : List Line). front ++ h.1) h.3.2; begins = first.Begin kind.Block t; form = h.3.1 }
 row_of i (Instr-F.Loop t body) Body s is h = record { words = h.3.0; more = h.1; lines = h.2 ∙ ap (λ (front : List Line). front ++ h.1) h.3.2; begins = first.Begin kind.Loop t; form = h.3.1 }
-row_of i (Instr-F.If t yes_branch no_branch) Body s is h = record { words = h.3.0; more = h.1; lines = h.2 ∙ ap (λ (front : List Line). front ++ h.1) h.3.2; begins = first.Begin kind.If t; form = h.3.1 }
+row_of i (Instr-F.If t branches) Body s is h = record { words = h.3.0; more = h.1; lines = h.2 ∙ ap (λ (front : List Line). front ++ h.1) h.3.2; begins = first.Begin kind.If t; form = h.3.1 }
 
 first_row : (levels : ℕ) (i : Instr) (s : List Line) → instr levels i s → FirstRow s
 unfolding instr
@@ -130,10 +130,10 @@ by_roll i layer v is rolls = sym (roll-out-Instr i) ∙ ap roll-Instr is ∙ rol
 structured_of : (Body : List Instr → Form Line) (i : Instr) (layer : Instr-F Instr) (s : List Line) → out-Instr i ≡ layer → 2 ≤ number layer → number layer ≤ 4 → instr_over Body layer s → Structured Body i s
 structured_of Body i (Instr-F.Block t body) s is least most h = record { kind = kind.Block; ty = t; words = h.3.0; more = h.1; lines = h.2 ∙ ap (λ (front : List Line). front ++ h.1) h.3.2; begins = h.3.1; held = (body, by_roll i (Instr-F.Block t body) (variant.Block t body) is (variant.rolls-Block t body), h.4) }
 structured_of Body i (Instr-F.Loop t body) s is least most h = record { kind = kind.Loop; ty = t; words = h.3.0; more = h.1; lines = h.2 ∙ ap (λ (front : List Line). front ++ h.1) h.3.2; begins = h.3.1; held = (body, by_roll i (Instr-F.Loop t body) (variant.Loop t body) is (variant.rolls-Loop t body), h.4) }
-structured_of Body i (Instr-F.If t body branch) s is least most h = record { kind = kind.If; ty = t; words = h.3.0; more = h.1; lines = h.2 ∙ ap (λ (front : List Line). front ++ h.1) h.3.2; begins = h.3.1; held = (body, branch, by_roll i (Instr-F.If t body branch) (variant.If t body branch) is (variant.rolls-If t body branch), h.4) }
+structured_of Body i (Instr-F.If t branches) s is least most h = record { kind = kind.If; ty = t; words = h.3.0; more = h.1; lines = h.2 ∙ ap (λ (front : List Line). front ++ h.1) h.3.2; begins = h.3.1; held = (branches.0, branches.1, by_roll i (Instr-F.If t branches) (variant.If t branches) is (variant.rolls-If t branches), h.4) }
 structured_of Body i (Instr-F.Plain op) s is least most h = absurd (omega arith)
 structured_of Body i (Instr-F.Memory op align offset) s is least most h = absurd (omega arith)
-structured_of Body i (Instr-F.BrTable ls l) s is least most h = absurd (omega arith)
+structured_of Body i (Instr-F.BrTable targets) s is least most h = absurd (omega arith)
 structured_of Body i (Instr-F.I64Const n) s is least most h = absurd (omega arith)
 structured_of Body i (Instr-F.Br l) s is least most h = absurd (omega arith)
 structured_of Body i (Instr-F.BrIf l) s is least most h = absurd (omega arith)

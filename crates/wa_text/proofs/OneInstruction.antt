@@ -83,10 +83,10 @@ number (Instr-F.Plain op) = 0
 number (Instr-F.Memory op align offset) = 1
 number (Instr-F.Block t body) = 2
 number (Instr-F.Loop t body) = 3
-number (Instr-F.If t first other) = 4
+number (Instr-F.If t branches) = 4
 number (Instr-F.Br l) = 5
 number (Instr-F.BrIf l) = 6
-number (Instr-F.BrTable ls l) = 7
+number (Instr-F.BrTable targets) = 7
 number (Instr-F.Call x) = 8
 number (Instr-F.CallIndirect x) = 9
 number (Instr-F.LocalGet x) = 10
@@ -145,10 +145,10 @@ layer_begins Body (Instr-F.Memory op align offset) s h =
     begins_name access_names 1 op s h.1.3.0 h.1.1 access_kinds h.1.3.1 (h.2 ∙ ap (λ (words : Line). words ∷ []) (h.1.2 ∙ ap (λ (front : List Word). front ++ h.1.1) h.1.3.2))
 layer_begins Body (Instr-F.Block t body) s h = begins_then s h.0 h.1 h.2 (begins_line h.0 h.3 refl)
 layer_begins Body (Instr-F.Loop t body) s h = begins_then s h.0 h.1 h.2 (begins_line h.0 h.3 refl)
-layer_begins Body (Instr-F.If t first other) s h = begins_then s h.0 h.1 h.2 (begins_line h.0 h.3 refl)
+layer_begins Body (Instr-F.If t branches) s h = begins_then s h.0 h.1 h.2 (begins_line h.0 h.3 refl)
 layer_begins Body (Instr-F.Br l) s h = begins_line s h refl
 layer_begins Body (Instr-F.BrIf l) s h = begins_line s h refl
-layer_begins Body (Instr-F.BrTable ls l) s h = begins_line s h refl
+layer_begins Body (Instr-F.BrTable targets) s h = begins_line s h refl
 layer_begins Body (Instr-F.Call x) s h = begins_line s h refl
 layer_begins Body (Instr-F.CallIndirect x) s h = begins_line s h refl
 layer_begins Body (Instr-F.LocalGet x) s h = begins_line s h refl
@@ -164,10 +164,10 @@ number_below (Instr-F.Plain op) = omega arith
 number_below (Instr-F.Memory op align offset) = omega arith
 number_below (Instr-F.Block t body) = omega arith
 number_below (Instr-F.Loop t body) = omega arith
-number_below (Instr-F.If t first other) = omega arith
+number_below (Instr-F.If t branches) = omega arith
 number_below (Instr-F.Br l) = omega arith
 number_below (Instr-F.BrIf l) = omega arith
-number_below (Instr-F.BrTable ls l) = omega arith
+number_below (Instr-F.BrTable targets) = omega arith
 number_below (Instr-F.Call x) = omega arith
 number_below (Instr-F.CallIndirect x) = omega arith
 number_below (Instr-F.LocalGet x) = omega arith
@@ -243,15 +243,15 @@ one_layer one_Body (Instr-F.Block t v) (Instr-F.Block u w) a b x y h k same =
 one_layer one_Body (Instr-F.Loop t v) (Instr-F.Loop u w) a b x y h k same =
     let both = (one-pair (one_begin (codes "loop")) (one_body one_Body) (λ z s more g follows. tt)).one (t, v) (u, w) a b x y h k tt tt same in
     (both.0, ap (λ (p : Option ValTy × List Instr). Instr-F.Loop p.0 p.1) both.1)
-one_layer {Body} one_Body (Instr-F.If t v z) (Instr-F.If u w o) a b x y h k same =
-    let both = (one-pair (one_begin (codes "if")) (one-pair one_Body (record { one = one_else_end one_Body }) (else_end_stops Body)) (λ q s more g follows. tt)).one (t, (v, z)) (u, (w, o)) a b x y h k tt tt same in
-    (both.0, ap (λ (p : Option ValTy × (List Instr × List Instr)). Instr-F.If p.0 p.1.0 p.1.1) both.1)
+one_layer {Body} one_Body (Instr-F.If t v) (Instr-F.If u w) a b x y h k same =
+    let both = (one-pair (one_begin (codes "if")) (one-pair one_Body (record { one = one_else_end one_Body }) (else_end_stops Body)) (λ q s more g follows. tt)).one (t, v) (u, w) a b x y h k tt tt same in
+    (both.0, ap (λ (p : Option ValTy × (List Instr × List Instr)). Instr-F.If p.0 p.1) both.1)
 one_layer one_Body (Instr-F.Br v) (Instr-F.Br w) a b x y h k same =
     let both = (one_indexed (codes "br")).one v w a b x y h k tt tt same in (both.0, ap (λ (n : ℕ). Instr-F.Br n) both.1)
 one_layer one_Body (Instr-F.BrIf v) (Instr-F.BrIf w) a b x y h k same =
     let both = (one_indexed (codes "br_if")).one v w a b x y h k tt tt same in (both.0, ap (λ (n : ℕ). Instr-F.BrIf n) both.1)
-one_layer one_Body (Instr-F.BrTable ls v) (Instr-F.BrTable ms w) a b x y h k same =
-    let both = (one-line one-labels).one (ls, v) (ms, w) a b x y h k tt tt same in (both.0, ap (λ (p : List ℕ × ℕ). Instr-F.BrTable p.0 p.1) both.1)
+one_layer one_Body (Instr-F.BrTable v) (Instr-F.BrTable w) a b x y h k same =
+    let both = (one-line one-labels).one v w a b x y h k tt tt same in (both.0, ap (λ (targets : List ℕ × ℕ). Instr-F.BrTable targets) both.1)
 one_layer one_Body (Instr-F.Call v) (Instr-F.Call w) a b x y h k same =
     let both = (one_indexed (codes "call")).one v w a b x y h k tt tt same in (both.0, ap (λ (n : ℕ). Instr-F.Call n) both.1)
 one_layer one_Body (Instr-F.CallIndirect v) (Instr-F.CallIndirect w) a b x y h k same =

@@ -86,11 +86,11 @@ Ok-Loop r i t given body old middle new is same h =
     Adds-holding i (Instr-F.Loop t body) old new (layer_of i (variant.Loop t body) (Instr-F.Loop t body) is (variant.rolls-Loop t body)) (λ other spelled. spelled.4.3)
     (λ levels. subst (λ (instrs : List Instr). AddsLines (begin (codes "loop") t then each (instr levels) instrs then end) old new) same (Adds-then h (last levels))))
 
-pub Ok-If : {T E : Type 0} (r : Result T E) (i : Instr) (t : Option ValTy) (given body other branch : List Instr) (old middle after new : List ℕ) → i ≡ variant.If t body branch → given ≡ body → other ≡ branch → AddsLines (begin (codes "if") t) old middle → ((levels : ℕ) → AddsLines (each (instr levels) given) middle after) → OnOk r ((levels : ℕ) → AddsLines (else_end (each (instr levels)) other) after new) → OnOk r ((levels : ℕ) → AddsLines (instr levels i) old new)
-Ok-If r i t given body other branch old middle after new is same same_branch h k =
+pub Ok-If : {T E : Type 0} (r : Result T E) (i : Instr) (t : Option ValTy) (branches : List Instr × List Instr) (given other : List Instr) (old middle after new : List ℕ) → i ≡ variant.If t branches → given ≡ branches.0 → other ≡ branches.1 → AddsLines (begin (codes "if") t) old middle → ((levels : ℕ) → AddsLines (each (instr levels) given) middle after) → OnOk r ((levels : ℕ) → AddsLines (else_end (each (instr levels)) other) after new) → OnOk r ((levels : ℕ) → AddsLines (instr levels i) old new)
+Ok-If r i t branches given other old middle after new is same same_branch h k =
     on_ok_weaker {P = (levels : ℕ) → AddsLines (else_end (each (instr levels)) other) after new} {Q = (levels : ℕ) → AddsLines (instr levels i) old new} r (λ last.
-    Adds-holding i (Instr-F.If t body branch) old new (layer_of i (variant.If t body branch) (Instr-F.If t body branch) is (variant.rolls-If t body branch)) (λ lines spelled. spelled.4.3)
-    (λ levels. subst (λ (instrs : List Instr). AddsLines (begin (codes "if") t then each (instr levels) body then else_end (each (instr levels)) instrs) old new) same_branch
+    Adds-holding i (Instr-F.If t branches) old new (layer_of i (variant.If t branches) (Instr-F.If t branches) is (variant.rolls-If t branches)) (λ lines spelled. spelled.4.3)
+    (λ levels. subst (λ (instrs : List Instr). AddsLines (begin (codes "if") t then each (instr levels) branches.0 then else_end (each (instr levels)) instrs) old new) same_branch
     (subst (λ (instrs : List Instr). AddsLines (begin (codes "if") t then each (instr levels) instrs then else_end (each (instr levels)) other) old new) same (Adds-then h (Adds-then (k levels) (last levels))))))
 
 -- ---- locals

@@ -207,17 +207,17 @@ layer_has Spelled Body held (Instr-F.Block t body) bytes are s =
     has_then (begin_has (codes "block") t refl) (has_then (held body s.4.4.0 (in_front _ _ s.4.4.2 (behind _ _ s.4.2 (behind _ _ s.2 are))) s.4.4.3) end_has)
 layer_has Spelled Body held (Instr-F.Loop t body) bytes are s =
     has_then (begin_has (codes "loop") t refl) (has_then (held body s.4.4.0 (in_front _ _ s.4.4.2 (behind _ _ s.4.2 (behind _ _ s.2 are))) s.4.4.3) end_has)
-layer_has Spelled Body held (Instr-F.If t first other) bytes are (inl (none, s)) =
-    has_then (begin_has (codes "if") t refl) (has_then (held first s.4.4.0 (in_front _ _ s.4.4.2 (behind _ _ s.4.2 (behind _ _ s.2 are))) s.4.4.3) (subst (λ (branch : List Instr). HasLines (else_end Body branch)) (sym none) end_has))
-layer_has Spelled Body held (Instr-F.If t first other) bytes are (inr s) =
+layer_has Spelled Body held (Instr-F.If t branches) bytes are (inl (none, s)) =
+    has_then (begin_has (codes "if") t refl) (has_then (held branches.0 s.4.4.0 (in_front _ _ s.4.4.2 (behind _ _ s.4.2 (behind _ _ s.2 are))) s.4.4.3) (subst (λ (branch : List Instr). HasLines (else_end Body branch)) (sym none) end_has))
+layer_has Spelled Body held (Instr-F.If t branches) bytes are (inr s) =
     let rest = behind _ _ s.4.2 (behind _ _ s.2 are) in
     let branch = behind _ _ s.4.4.4.2 (behind _ _ s.4.4.2 rest) in
-    has_then (begin_has (codes "if") t refl) (has_then (held first s.4.4.0 (in_front _ _ s.4.4.2 rest) s.4.4.3) (else_end_has Body other (held other s.4.4.4.4.0 (in_front _ _ s.4.4.4.4.2 branch) s.4.4.4.4.3)))
+    has_then (begin_has (codes "if") t refl) (has_then (held branches.0 s.4.4.0 (in_front _ _ s.4.4.2 rest) s.4.4.3) (else_end_has Body branches.1 (held branches.1 s.4.4.4.4.0 (in_front _ _ s.4.4.4.4.2 branch) s.4.4.4.4.3)))
 layer_has Spelled Body held (Instr-F.Br l) bytes are s = indexed_has (codes "br") l s.1 refl s.4
 layer_has Spelled Body held (Instr-F.BrIf l) bytes are s = indexed_has (codes "br_if") l s.1 refl s.4
-layer_has Spelled Body held (Instr-F.BrTable ls l) bytes are s =
+layer_has Spelled Body held (Instr-F.BrTable targets) bytes are s =
     let labels = behind _ _ s.4.3.2 (in_front _ _ s.4.2 (behind _ _ s.2 are)) in
-    has_line (has_then (has_word (codes "br_table") refl) (has_then (has_each u32 ls (numbers_have ls s.4.3.1 labels s.4.3.4)) (number_has l s.4.1 s.4.4)))
+    has_line (has_then (has_word (codes "br_table") refl) (has_then (has_each u32 targets.0 (numbers_have targets.0 s.4.3.1 labels s.4.3.4)) (number_has targets.1 s.4.1 s.4.4)))
 layer_has Spelled Body held (Instr-F.Call x) bytes are s = indexed_has (codes "call") x s.1 refl s.4
 layer_has Spelled Body held (Instr-F.CallIndirect x) bytes are s = indexed_has (codes "call_indirect") x s.4.0 refl s.4.3
 layer_has Spelled Body held (Instr-F.LocalGet x) bytes are s = indexed_has (codes "local.get") x s.1 refl s.4

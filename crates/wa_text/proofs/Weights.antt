@@ -13,7 +13,7 @@ total (n ∷ ns) = n + total ns
 abbrev pub weight_at : Instr-F ℕ → ℕ
 weight_at (Instr-F.Block t body) = total body + 1
 weight_at (Instr-F.Loop t body) = total body + 1
-weight_at (Instr-F.If t body branch) = total body + total branch + 1
+weight_at (Instr-F.If t branches) = total branches.0 + total branches.1 + 1
 weight_at _ = 0
 
 pub weight : Instr → ℕ
@@ -30,9 +30,9 @@ pub weight-Loop : (i : Instr) (t : Option ValTy) (body : List Instr) → i ≡ v
 unfolding weight
 weight-Loop i t body is = ap weight (is ∙ sym (variant.rolls-Loop t body)) ∙ fold-roll-Instr ℕ weight_at (Instr-F.Loop t body)
 
-pub weight-If : (i : Instr) (t : Option ValTy) (body branch : List Instr) → i ≡ variant.If t body branch → weight i ≡ weights body + weights branch + 1
+pub weight-If : (i : Instr) (t : Option ValTy) (branches : List Instr × List Instr) → i ≡ variant.If t branches → weight i ≡ weights branches.0 + weights branches.1 + 1
 unfolding weight
-weight-If i t body branch is = ap weight (is ∙ sym (variant.rolls-If t body branch)) ∙ fold-roll-Instr ℕ weight_at (Instr-F.If t body branch)
+weight-If i t branches is = ap weight (is ∙ sym (variant.rolls-If t branches)) ∙ fold-roll-Instr ℕ weight_at (Instr-F.If t branches)
 
 pub weight-item : (instrs : List Instr) (k : ℕ) (d i : Instr) → k < length instrs → i ≡ get_or instrs k d → weight i ≤ weights instrs
 weight-item [] k d i within is = absurd (omega arith)

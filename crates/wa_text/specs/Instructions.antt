@@ -37,10 +37,10 @@ abbrev pub instr_over : (List Instr → Form Line) → Instr-F Instr → Form Li
 instr_over Body (Instr-F.Plain op) = line (named plain_names op)
 instr_over Body (Instr-F.Block t body) = begin (codes "block") t then Body body then end
 instr_over Body (Instr-F.Loop t body) = begin (codes "loop") t then Body body then end
-instr_over Body (Instr-F.If t yes_branch no_branch) = begin (codes "if") t then Body yes_branch then else_end Body no_branch
+instr_over Body (Instr-F.If t branches) = begin (codes "if") t then Body branches.0 then else_end Body branches.1
 instr_over Body (Instr-F.Br l) = indexed (codes "br") l
 instr_over Body (Instr-F.BrIf l) = indexed (codes "br_if") l
-instr_over Body (Instr-F.BrTable ls l) = line (word (codes "br_table") then each u32 ls then u32 l)
+instr_over Body (Instr-F.BrTable targets) = line (word (codes "br_table") then each u32 targets.0 then u32 targets.1)
 instr_over Body (Instr-F.Call x) = indexed (codes "call") x
 instr_over Body (Instr-F.CallIndirect x) = indexed (codes "call_indirect") x
 instr_over Body (Instr-F.LocalGet x) = indexed (codes "local.get") x

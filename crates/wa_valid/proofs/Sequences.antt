@@ -99,10 +99,10 @@ loop-answers c instr result body slice old new r is same typed h =
     subst (λ (x : Instruction). Answers (IsTyped c x) old new r) (sym (ap instruction is ∙ instruction-Loop result body))
     (typed-Loop c result (sequence body) old new r (subst (λ (bs : List Instr). AreTyped (with_label [] c) (sequence bs) [] (option_to_list result)) same typed) h)
 
-pub if-answers : (c : Context) (instr : Instr) (result : Option ValTy) (first other slice slice' : List Instr) (old new : Stack) (r : Result (Unit {0}) Fault) → instr ≡ i.If result first other → slice ≡ first → slice' ≡ other → AreTyped (with_label (option_to_list result) c) (sequence slice) [] (option_to_list result) → AreTyped (with_label (option_to_list result) c) (sequence slice') [] (option_to_list result) → Answers (Gives (I32 ∷ []) (option_to_list result)) old new r → Answers (IsTyped c (instruction instr)) old new r
-if-answers c instr result first other slice slice' old new r is same same' typed typed' h =
-    subst (λ (x : Instruction). Answers (IsTyped c x) old new r) (sym (ap instruction is ∙ instruction-If result first other))
-    (typed-If c result (sequence first) (sequence other) old new r
+pub if-answers : (c : Context) (instr : Instr) (result : Option ValTy) (arms : List Instr × List Instr) (slice slice' : List Instr) (old new : Stack) (r : Result (Unit {0}) Fault) → instr ≡ i.If result arms → slice ≡ arms.0 → slice' ≡ arms.1 → AreTyped (with_label (option_to_list result) c) (sequence slice) [] (option_to_list result) → AreTyped (with_label (option_to_list result) c) (sequence slice') [] (option_to_list result) → Answers (Gives (I32 ∷ []) (option_to_list result)) old new r → Answers (IsTyped c (instruction instr)) old new r
+if-answers c instr result arms slice slice' old new r is same same' typed typed' h =
+    subst (λ (x : Instruction). Answers (IsTyped c x) old new r) (sym (ap instruction is ∙ instruction-If result arms))
+    (typed-If c result (sequence arms.0) (sequence arms.1) old new r
     (subst (λ (bs : List Instr). AreTyped (with_label (option_to_list result) c) (sequence bs) [] (option_to_list result)) same typed)
     (subst (λ (bs : List Instr). AreTyped (with_label (option_to_list result) c) (sequence bs) [] (option_to_list result)) same' typed')
     h)

@@ -38,4 +38,4 @@ abbrev pub HoldsNone : Instr → Type 0
 HoldsNone instr =
     ((result : Option ValTy) (body : List Instr) → instr ≢ i.Block result body)
     × ((result : Option ValTy) (body : List Instr) → instr ≢ i.Loop result body)
-    × ((result : Option ValTy) (first other : List Instr) → instr ≢ i.If result first other)
+    × ((result : Option ValTy) (arms : List Instr × List Instr) → instr ≢ i.If result arms)

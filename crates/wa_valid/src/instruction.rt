@@ -94,14 +94,15 @@ fn instruction(scope: &Scope, labels: &mut Labels, operands: &mut Operands, inst
 {
     match instr {
         Instr::Block(result, body) => {
-            block(scope, labels, *result, *result, body.as_slice())?;
+            block(scope, labels, *result, *result, body.get().as_slice())?;
             operands.push_result(*result)
         }
         Instr::Loop(result, body) => {
-            block(scope, labels, None, *result, body.as_slice())?;
+            block(scope, labels, None, *result, body.get().as_slice())?;
             operands.push_result(*result)
         }
-        Instr::If(result, then, otherwise) => {
+        Instr::If(result, arms) => {
+            let (then, otherwise) = arms.get();
             block(scope, labels, *result, *result, then.as_slice())?;
             block(scope, labels, *result, *result, otherwise.as_slice())?;
             operands.apply(Some(ValTy::I32), None, *result)
@@ -120,7 +121,10 @@ fn simple(scope: &Scope, labels: &[Option<ValTy>], operands: &mut Operands, inst
         Instr::Plain(opcode) => plain(scope, operands, *opcode),
         Instr::Br(label) => br(labels, operands, *label),
         Instr::BrIf(label) => br_if(labels, operands, *label),
-        Instr::BrTable(table, default) => br_table(labels, operands, table.as_slice(), *default),
+        Instr::BrTable(table) => {
+            let (table, default) = table.get();
+            br_table(labels, operands, table.as_slice(), *default)
+        }
         Instr::Call(func) => call(context, operands, *func),
         Instr::CallIndirect(ty) => call_indirect(context, operands, *ty),
         Instr::LocalGet(number) => local_get(scope, operands, *number),

@@ -114,11 +114,17 @@ fn structured(
 {
     let (body, at) = sequence(alloc, text, at, levels)?;
     match kind {
-        BlockKind::Block => Ok((Instr::Block(ty, body), word_line(text, at, b"end")?)),
-        BlockKind::Loop => Ok((Instr::Loop(ty, body), word_line(text, at, b"end")?)),
+        BlockKind::Block => Ok((
+            Instr::block_of(alloc, ty, body)?,
+            word_line(text, at, b"end")?,
+        )),
+        BlockKind::Loop => Ok((
+            Instr::loop_of(alloc, ty, body)?,
+            word_line(text, at, b"end")?,
+        )),
         BlockKind::If => {
             let (otherwise, end) = else_end(alloc, text, at, levels)?;
-            Ok((Instr::If(ty, body, otherwise), end))
+            Ok((Instr::if_of(alloc, ty, body, otherwise)?, end))
         }
     }
 }

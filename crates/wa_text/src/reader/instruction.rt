@@ -86,7 +86,7 @@ fn br_table(alloc: Global, labels: &[&[u8]], default: &[u8]) -> Result<Instr, Li
 {
     let default = index(default)?;
     let labels = indices(alloc, labels)?;
-    Ok(Instr::BrTable(labels, default))
+    Ok(Instr::br_table_of(alloc, labels, default)?)
 }
 
 /// An instruction of a word and a number.

@@ -41,13 +41,14 @@ fn instruction(out: &mut Vec<u8>, instr: &Instr) -> Result<(), NoMemory>
     match instr {
         Instr::Block(ty, body) => {
             begin(out, b"block", *ty)?;
-            expression(out, body.as_slice())
+            expression(out, body.get().as_slice())
         }
         Instr::Loop(ty, body) => {
             begin(out, b"loop", *ty)?;
-            expression(out, body.as_slice())
+            expression(out, body.get().as_slice())
         }
-        Instr::If(ty, body, otherwise) => {
+        Instr::If(ty, arms) => {
+            let (body, otherwise) = arms.get();
             begin(out, b"if", *ty)?;
             sequence(out, body.as_slice())?;
             else_end(out, otherwise.as_slice())
@@ -55,7 +56,10 @@ fn instruction(out: &mut Vec<u8>, instr: &Instr) -> Result<(), NoMemory>
         Instr::Plain(opcode) => plain(out, *opcode),
         Instr::Br(label) => indexed(out, b"br", *label),
         Instr::BrIf(label) => indexed(out, b"br_if", *label),
-        Instr::BrTable(labels, default) => br_table(out, labels.as_slice(), *default),
+        Instr::BrTable(table) => {
+            let (labels, default) = table.get();
+            br_table(out, labels.as_slice(), *default)
+        }
         Instr::Call(func) => indexed(out, b"call", *func),
         Instr::CallIndirect(ty) => indexed(out, b"call_indirect", *ty),
         Instr::LocalGet(local) => indexed(out, b"local.get", *local),

@@ -1,4 +1,4 @@
-use Rattle.std.proofs.Common.{◌-◌, [], arith, rules}
+use Rattle.std.proofs.Common.{◌≡◌, ◌-◌, [], sym, ◌∙◌, arith, rules}
 use Rattle.wa_syntax.specs.declared.instr.Instr.TheOpen.{Instr-F}
 use Rattle.wa_syntax.specs.declared.instr.Instr.TheVariants as i
 use Rattle.wa_syntax.specs.BinaryInstructions.{instr}
@@ -19,7 +19,9 @@ sequence-returns-in_err-instr-clause-reads t c =
     returned-up_to _ c.from_residual.ensures.1 (begun-err (not_true c.stops.result c.stops.ensures.stops (search rules)) c.loop-alloc.invariant.row c.in_err-instr.ensures.reads)
 
 pub sequence-returns-clause-reads : goal.sequence-returns-clause-reads
-sequence-returns-clause-reads t c = begun-done (instr-stops c.args.levels c.args.bytes.now) (search rules) c.loop-alloc.invariant.row
+sequence-returns-clause-reads t c =
+    let whole : c.from_vec.result ≡ c.loop-alloc.instrs.items = c.from_vec.ensures ∙ c.shrink_to_fit.ensures.items in
+    rw whole (begun-done (instr-stops c.args.levels c.args.bytes.now) (search rules) c.loop-alloc.invariant.row)
 
 pub structured-returns-then-levels-eq0-clause-reads : goal.structured-returns-then-levels-eq0-clause-reads
 structured-returns-then-levels-eq0-clause-reads t c = level-none c.args.levels (search rules) c.requires.opcode.0 c.requires.opcode.1
@@ -40,7 +42,7 @@ structured-returns-in_err-body-clause-reads t c =
 
 pub sequence-loop-alloc-preserved : goal.sequence-loop-alloc-preserved
 sequence-loop-alloc-preserved t c =
-    let pushed = c.in_ok-push.ensures.ok in
+    let pushed = c.in_ok-push.ensures.items in
     record {
       forward = omega (arith, c.loop-alloc.invariant.forward, c.in_ok-instr.ensures.ends.0);
       within = c.in_ok-instr.ensures.ends.1;
@@ -66,7 +68,7 @@ structured-returns-in_err-expect-in-2-clause-reads t c =
 pub structured-returns-in_ok-expect-in-2-clause-reads : goal.structured-returns-in_ok-expect-in-2-clause-reads
 structured-returns-in_ok-expect-in-2-clause-reads t c =
     let Body = each (instr (c.args.levels - 1)) in
-    level-ok c.args.levels (Instr-F.Block c.in_ok-ty.ty c.in_ok-body.body) _ (omega arith) (i.rolls-Block c.in_ok-ty.ty c.in_ok-body.body)
+    level-ok c.args.levels (Instr-F.Block c.in_ok-ty.ty c.in_ok-body.body) _ (omega arith) (i.rolls-Block c.in_ok-ty.ty c.in_ok-body.body ∙ sym c.in_ok-block_of-in-2.ensures)
     (behind-ok 2 (λ u. Instr-F.Block u.0 u.1.0) (arm-Block Body) c.in-2.is
     (pair-ok c.in_ok-ty.ensures.reads (stopped-ok end-stops_first c.in_ok-body.ensures.reads (end-ok c.in_ok-expect-in-2.ensures.reads))))
 
@@ -81,7 +83,7 @@ structured-returns-in_err-expect-in-3-clause-reads t c =
 pub structured-returns-in_ok-expect-in-3-clause-reads : goal.structured-returns-in_ok-expect-in-3-clause-reads
 structured-returns-in_ok-expect-in-3-clause-reads t c =
     let Body = each (instr (c.args.levels - 1)) in
-    level-ok c.args.levels (Instr-F.Loop c.in_ok-ty.ty c.in_ok-body.body) _ (omega arith) (i.rolls-Loop c.in_ok-ty.ty c.in_ok-body.body)
+    level-ok c.args.levels (Instr-F.Loop c.in_ok-ty.ty c.in_ok-body.body) _ (omega arith) (i.rolls-Loop c.in_ok-ty.ty c.in_ok-body.body ∙ sym c.in_ok-loop_of-in-3.ensures)
     (behind-ok 3 (λ u. Instr-F.Loop u.0 u.1.0) (arm-Loop Body) c.in-3.is
     (pair-ok c.in_ok-ty.ensures.reads (stopped-ok end-stops_first c.in_ok-body.ensures.reads (end-ok c.in_ok-expect-in-3.ensures.reads))))
 
@@ -93,13 +95,13 @@ structured-returns-in_err-otherwise-in_default-clause-reads t c =
     (structured-err Body c.requires.opcode.0 c.requires.opcode.1
     (pair-err c.in_ok-ty.ensures.reads (stopped-err (else_end-stops_first Body) c.in_ok-body.ensures.reads c.in_err-otherwise-in_default.ensures.reads))))
 
-pub structured-returns-in_ok-otherwise-in_default-clause-reads : goal.structured-returns-in_ok-otherwise-in_default-clause-reads
-structured-returns-in_ok-otherwise-in_default-clause-reads t c =
+pub structured-returns-in_ok-if_of-in_default-clause-reads : goal.structured-returns-in_ok-if_of-in_default-clause-reads
+structured-returns-in_ok-if_of-in_default-clause-reads t c =
     let Body = each (instr (c.args.levels - 1)) in
     let is = if_opcode c.args.opcode c.requires.opcode.0 c.requires.opcode.1 (λ e. search rules) (λ e. search rules) in
-    level-ok c.args.levels (Instr-F.If c.in_ok-ty.ty c.in_ok-body.body c.in_ok-otherwise-in_default.otherwise) _ (omega arith)
-    (i.rolls-If c.in_ok-ty.ty c.in_ok-body.body c.in_ok-otherwise-in_default.otherwise)
-    (behind-ok 4 (λ u. Instr-F.If u.0 u.1.0 u.1.1) (arm-If Body) is
+    level-ok c.args.levels (Instr-F.If c.in_ok-ty.ty (c.in_ok-body.body, c.in_ok-otherwise-in_default.otherwise)) _ (omega arith)
+    (i.rolls-If c.in_ok-ty.ty (c.in_ok-body.body, c.in_ok-otherwise-in_default.otherwise) ∙ sym c.in_ok-if_of-in_default.ensures)
+    (behind-ok 4 (λ u. Instr-F.If u.0 u.1) (arm-If Body) is
     (pair-ok c.in_ok-ty.ensures.reads (stopped-ok (else_end-stops_first Body) c.in_ok-body.ensures.reads c.in_ok-otherwise-in_default.ensures.reads)))
 
 pub alternative-returns-in_err-mark-clause-reads : goal.alternative-returns-in_err-mark-clause-reads

@@ -20,7 +20,7 @@ abbrev pub invariant-sequence-loop-alloc : goal.invariant-sequence-loop-alloc
 invariant-sequence-loop-alloc l = record {
   forward : l.fn.at ≤ l.at;
   within : l.at ≤ length l.bytes;
-  row : Begun (instr l.levels) l.bytes l.fn.at l.instrs l.at;
+  row : Begun (instr l.levels) l.bytes l.fn.at l.instrs.items l.at;
 }
 
 abbrev pub decreases-sequence-loop-alloc : goal.decreases-sequence-loop-alloc

@@ -1,6 +1,7 @@
 use Rattle.std.proofs.Common.{◌≡◌, ◌≢◌, ℕ, ◌+◌, List, [], ◌∷◌, drop, sym, ap, subst, ◌∙◌, arith}
 use Rattle.std.proofs.lemmas.Grind.{common_steps}
 use Rattle.std.proofs.lemmas.List.{drop_more, at_drop_all}
+use Rattle.wa_syntax.specs.declared.instr.Instr.{Instr}
 use Rattle.wa_syntax.specs.declared.instr.Instr.TheOpen.{Instr-F}
 use Rattle.wa_syntax.specs.declared.instr.Instr.TheVariants as variant
 use Rattle.wa_syntax.specs.Formats.{◌then◌, byte, vec, u32}
@@ -38,15 +39,17 @@ sequence-returns t c = λ levels.
 
 pub instruction-returns-in_ok-begin-in-Block : goal.instruction-returns-in_ok-begin-in-Block
 instruction-returns-in_ok-begin-in-Block t c =
-    Ok-Block _ _ _ _ _ _ _ _ c.in-Block.is c.as_slice.ensures c.in_ok-begin-in-Block.ensures c.expression.ensures
+    Ok-Block _ _ _ _ _ _ _ _ c.in-Block.is (c.as_slice.ensures ∙ c.get.ensures) c.in_ok-begin-in-Block.ensures c.expression.ensures
 
 pub instruction-returns-in_ok-begin-in-Loop : goal.instruction-returns-in_ok-begin-in-Loop
 instruction-returns-in_ok-begin-in-Loop t c =
-    Ok-Loop _ _ _ _ _ _ _ _ c.in-Loop.is c.as_slice-in-Loop.ensures c.in_ok-begin-in-Loop.ensures c.expression-in-Loop.ensures
+    Ok-Loop _ _ _ _ _ _ _ _ c.in-Loop.is (c.as_slice-in-Loop.ensures ∙ c.get-in-Loop.ensures) c.in_ok-begin-in-Loop.ensures c.expression-in-Loop.ensures
 
 pub instruction-returns-in_ok-sequence-in-If : goal.instruction-returns-in_ok-sequence-in-If
 instruction-returns-in_ok-sequence-in-If t c =
-    Ok-If _ _ _ _ _ _ _ _ _ _ _ c.in-If.is c.as_slice-in-If.ensures c.as_slice-in-If-2.ensures c.in_ok-begin-in-If.ensures c.in_ok-sequence-in-If.ensures c.else_branch.ensures
+    let first : c.as_slice-in-If.result.now ≡ c.in-If.arms.0 = c.as_slice-in-If.ensures ∙ ap (λ (arms : List Instr × List Instr). arms.0) c.get-in-If.ensures in
+    let second : c.as_slice-in-If-2.result.now ≡ c.in-If.arms.1 = c.as_slice-in-If-2.ensures ∙ ap (λ (arms : List Instr × List Instr). arms.1) c.get-in-If.ensures in
+    Ok-If _ _ _ _ _ _ _ _ _ _ c.in-If.is first second c.in_ok-begin-in-If.ensures c.in_ok-sequence-in-If.ensures c.else_branch.ensures
 
 pub sequence-instruction-requires : goal.sequence-instruction-requires
 sequence-instruction-requires t c =
@@ -54,19 +57,21 @@ sequence-instruction-requires t c =
 
 pub instruction-expression-requires : goal.instruction-expression-requires
 instruction-expression-requires t c =
-    (omega (arith, weight-Block _ _ _ c.in-Block.is, ap weights c.as_slice.ensures), tt)
+    (omega (arith, weight-Block _ _ _ c.in-Block.is, ap weights (c.as_slice.ensures ∙ c.get.ensures)), tt)
 
 pub instruction-expression-requires-in-Loop : goal.instruction-expression-requires-in-Loop
 instruction-expression-requires-in-Loop t c =
-    (omega (arith, weight-Loop _ _ _ c.in-Loop.is, ap weights c.as_slice-in-Loop.ensures), tt)
+    (omega (arith, weight-Loop _ _ _ c.in-Loop.is, ap weights (c.as_slice-in-Loop.ensures ∙ c.get-in-Loop.ensures)), tt)
 
 pub instruction-sequence-requires : goal.instruction-sequence-requires
 instruction-sequence-requires t c =
-    (omega (arith, weight-If _ _ _ _ c.in-If.is, ap weights c.as_slice-in-If.ensures), tt)
+    let first : c.as_slice-in-If.result.now ≡ c.in-If.arms.0 = c.as_slice-in-If.ensures ∙ ap (λ (arms : List Instr × List Instr). arms.0) c.get-in-If.ensures in
+    (omega (arith, weight-If _ _ _ c.in-If.is, ap weights first), tt)
 
 pub instruction-else_branch-requires : goal.instruction-else_branch-requires
 instruction-else_branch-requires t c =
-    (omega (arith, weight-If _ _ _ _ c.in-If.is, ap weights c.as_slice-in-If-2.ensures), tt)
+    let second : c.as_slice-in-If-2.result.now ≡ c.in-If.arms.1 = c.as_slice-in-If-2.ensures ∙ ap (λ (arms : List Instr × List Instr). arms.1) c.get-in-If.ensures in
+    (omega (arith, weight-If _ _ _ c.in-If.is, ap weights second), tt)
 
 pub instruction-returns-in-Plain : goal.instruction-returns-in-Plain
 instruction-returns-in-Plain t c = Ok-instr _ _ _ _ (Instr-F.Plain c.in-Plain.opcode) _ _ c.in-Plain.is (variant.rolls-Plain c.in-Plain.opcode) (λ Body k. k) c.plain.ensures
@@ -109,5 +114,8 @@ instruction-returns-in-I64Const t c = Ok-instr _ _ _ _ (Instr-F.I64Const c.in-I6
 
 pub instruction-returns-in-BrTable : goal.instruction-returns-in-BrTable
 instruction-returns-in-BrTable t c =
-    Ok-instr _ _ _ _ (Instr-F.BrTable c.in-BrTable.labels c.in-BrTable.default) _ _ c.in-BrTable.is (variant.rolls-BrTable c.in-BrTable.labels c.in-BrTable.default)
-    (λ Body k. subst (λ (labels : List ℕ). Adds (byte 0x0e then vec u32 labels then u32 c.in-BrTable.default) c.args.out.now.items c.br_table.new.out.items) c.as_slice-in-BrTable.ensures k) c.br_table.ensures
+    Ok-instr _ _ _ _ (Instr-F.BrTable c.in-BrTable.table) _ _ c.in-BrTable.is (variant.rolls-BrTable c.in-BrTable.table)
+    (λ Body k.
+    subst (λ (table : List ℕ × ℕ). Adds (byte 0x0e then vec u32 table.0 then u32 table.1) c.args.out.now.items c.br_table.new.out.items) c.get-in-BrTable.ensures
+    (subst (λ (labels : List ℕ). Adds (byte 0x0e then vec u32 labels then u32 c.get-in-BrTable.result.now.1) c.args.out.now.items c.br_table.new.out.items) c.as_slice-in-BrTable.ensures k))
+    c.br_table.ensures

@@ -1,5 +1,6 @@
-use Rattle.std.proofs.Common.{◌≡◌, List, [], Err, refl, subst, ◌∙◌, rules}
+use Rattle.std.proofs.Common.{◌≡◌, List, [], Err, refl, ap, subst, ◌∙◌, rules}
 use Rattle.std.specs.Prelude.{Option, option_to_list}
+use Rattle.wa_syntax.specs.declared.instr.Instr.{Instr}
 use Rattle.wa_syntax.specs.declared.module.ValTy.{ValTy}
 use Rattle.wa_syntax.specs.Instructions.{sequence}
 use Rattle.wa_syntax.specs.Validity.{AreTyped, with_label}
@@ -11,16 +12,17 @@ use Rattle.wa_valid.proofs.instruction.+instructions.Goals as goal
 
 pub instruction-returns-in_ok-block-in-Block-clause-answers : goal.instruction-returns-in_ok-block-in-Block-clause-answers
 instruction-returns-in_ok-block-in-Block-clause-answers t c =
-    block-answers (names_in c.args.scope.now c.args.labels.now) c.args.instr.now c.in-Block.result c.in-Block.body c.as_slice.result.now (stack c.args.operands.now) (stack c.push_result.new.self) c.push_result.result c.in-Block.is c.as_slice.ensures (c.in_ok-block-in-Block.ensures.says.0 refl) c.push_result.ensures
+    block-answers (names_in c.args.scope.now c.args.labels.now) c.args.instr.now c.in-Block.result c.in-Block.body c.as_slice.result.now (stack c.args.operands.now) (stack c.push_result.new.self) c.push_result.result c.in-Block.is (c.as_slice.ensures ∙ c.get.ensures) (c.in_ok-block-in-Block.ensures.says.0 refl) c.push_result.ensures
 
 pub instruction-returns-in_ok-block-in-Loop-clause-answers : goal.instruction-returns-in_ok-block-in-Loop-clause-answers
 instruction-returns-in_ok-block-in-Loop-clause-answers t c =
-    loop-answers (names_in c.args.scope.now c.args.labels.now) c.args.instr.now c.in-Loop.result c.in-Loop.body c.as_slice-in-Loop.result.now (stack c.args.operands.now) (stack c.push_result-in-Loop.new.self) c.push_result-in-Loop.result c.in-Loop.is c.as_slice-in-Loop.ensures (c.in_ok-block-in-Loop.ensures.says.0 refl) c.push_result-in-Loop.ensures
+    loop-answers (names_in c.args.scope.now c.args.labels.now) c.args.instr.now c.in-Loop.result c.in-Loop.body c.as_slice-in-Loop.result.now (stack c.args.operands.now) (stack c.push_result-in-Loop.new.self) c.push_result-in-Loop.result c.in-Loop.is (c.as_slice-in-Loop.ensures ∙ c.get-in-Loop.ensures) (c.in_ok-block-in-Loop.ensures.says.0 refl) c.push_result-in-Loop.ensures
 
 pub instruction-returns-in_ok-block-in-If-2-clause-answers : goal.instruction-returns-in_ok-block-in-If-2-clause-answers
 instruction-returns-in_ok-block-in-If-2-clause-answers t c =
-    let result = c.in-If.result in
-    if-answers (names_in c.args.scope.now c.args.labels.now) c.args.instr.now c.in-If.result c.in-If.then c.in-If.otherwise c.as_slice-in-If.result.now c.as_slice-in-If-2.result.now (stack c.args.operands.now) (stack c.apply.new.self) c.apply.result c.in-If.is c.as_slice-in-If.ensures c.as_slice-in-If-2.ensures
+    if-answers (names_in c.args.scope.now c.args.labels.now) c.args.instr.now c.in-If.result c.in-If.arms c.as_slice-in-If.result.now c.as_slice-in-If-2.result.now (stack c.args.operands.now) (stack c.apply.new.self) c.apply.result c.in-If.is
+    (c.as_slice-in-If.ensures ∙ ap (λ (arms : List Instr × List Instr). arms.0) c.get-in-If.ensures)
+    (c.as_slice-in-If-2.ensures ∙ ap (λ (arms : List Instr × List Instr). arms.1) c.get-in-If.ensures)
     (c.in_ok-block-in-If.ensures.says.0 refl)
     (subst (λ (labels : List (Option ValTy)). AreTyped (with_label (option_to_list c.in-If.result) (names_in c.args.scope.now labels)) (sequence c.as_slice-in-If-2.result.now) [] (option_to_list c.in-If.result)) c.in_ok-block-in-If.ensures.labels (c.in_ok-block-in-If-2.ensures.says.0 refl))
     c.apply.ensures

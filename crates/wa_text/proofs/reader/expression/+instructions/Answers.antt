@@ -37,15 +37,15 @@ instruction-returns-else-levels-eq0-clause-found t c =
 
 pub structured-returns-in_ok-word_line-in-Block-clause-found : goal.structured-returns-in_ok-word_line-in-Block-clause-found
 structured-returns-in_ok-word_line-in-Block-clause-found t c =
-    held_Block _ _ (each (instr c.args.levels)) _ c.in-Block.is c.in_ok-body.ensures.found c.in_ok-word_line-in-Block.ensures.found
+    held_Block _ _ (each (instr c.args.levels)) _ _ c.in_ok-block_of-in-Block.ensures c.in-Block.is c.in_ok-body.ensures.found c.in_ok-word_line-in-Block.ensures.found
 
 pub structured-returns-in_ok-word_line-in-Loop-clause-found : goal.structured-returns-in_ok-word_line-in-Loop-clause-found
 structured-returns-in_ok-word_line-in-Loop-clause-found t c =
-    held_Loop _ _ (each (instr c.args.levels)) _ c.in-Loop.is c.in_ok-body.ensures.found c.in_ok-word_line-in-Loop.ensures.found
+    held_Loop _ _ (each (instr c.args.levels)) _ _ c.in_ok-loop_of-in-Loop.ensures c.in-Loop.is c.in_ok-body.ensures.found c.in_ok-word_line-in-Loop.ensures.found
 
-pub structured-returns-in_ok-otherwise-in-If-clause-found : goal.structured-returns-in_ok-otherwise-in-If-clause-found
-structured-returns-in_ok-otherwise-in-If-clause-found t c =
-    held_If _ _ (each (instr c.args.levels)) _ _ c.in-If.is c.in_ok-body.ensures.found c.in_ok-otherwise-in-If.ensures.found
+pub structured-returns-in_ok-if_of-in-If-clause-found : goal.structured-returns-in_ok-if_of-in-If-clause-found
+structured-returns-in_ok-if_of-in-If-clause-found t c =
+    held_If _ _ (each (instr c.args.levels)) _ _ _ c.in_ok-if_of-in-If.ensures c.in-If.is c.in_ok-body.ensures.found c.in_ok-otherwise-in-If.ensures.found
 
 pub sequence-returns-in_err-instr-clause-refused : goal.sequence-returns-in_err-instr-clause-refused
 sequence-returns-in_err-instr-clause-refused t c =

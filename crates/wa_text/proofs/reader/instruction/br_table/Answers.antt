@@ -1,6 +1,6 @@
 use Rattle.wa_text.specs.Forms.{each}
 use Rattle.wa_text.specs.Words.{u32}
-use Rattle.std.proofs.Common.{[], ◌∷◌, ◌++◌, refl}
+use Rattle.std.proofs.Common.{ℕ, List, [], ◌∷◌, ◌++◌, refl, sym, ◌∙◌}
 use Rattle.std.specs.Prelude.{codes}
 use Rattle.wa_syntax.specs.declared.instr.Instr.TheOpen.{Instr-F}
 use Rattle.wa_syntax.specs.declared.instr.Instr.TheVariants as variant
@@ -16,7 +16,8 @@ returns c =
     let labels = texts c.args.labels.now in
     let last = c.args.default.now ∷ [] in
     let name = codes "br_table" in
-    single _ (Instr-F.BrTable c.in_ok-labels.labels c.in_ok-default.default) ((name ∷ labels ++ last) ∷ []) (variant.rolls-BrTable c.in_ok-labels.labels c.in_ok-default.default)
+    let targets : List ℕ × ℕ = (c.in_ok-labels.labels, c.in_ok-default.default) in
+    single _ (Instr-F.BrTable targets) ((name ∷ labels ++ last) ∷ []) (variant.rolls-BrTable targets ∙ sym c.in_ok-br_table_of.ensures)
     (λ Body. (name ∷ labels ++ last, (name ∷ [], labels ++ last, refl, refl, (labels, last, refl, c.in_ok-labels.ensures, c.in_ok-default.ensures)), refl))
 
 pub returns-in_err-default : goal.returns-in_err-default
