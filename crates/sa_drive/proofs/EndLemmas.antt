@@ -1,9 +1,10 @@
 -- The ends of commands.
-use Rattle.std.proofs.Common.{◌≡◌, ◌≤◌, ◌⊎◌, ℕ, List, [], length, Option, None, Some, Result, Ok, Err, IfOk, inl, inr, refl, subst, sym}
+use Rattle.std.proofs.Common.{◌≡◌, ◌∙◌, ◌≤◌, ◌⊎◌, ℕ, List, [], length, Option, None, Some, Result, Ok, Err, IfOk, inl, inr, refl, subst, sym}
 use Rattle.std.specs.Prelude.{IfErr, MatchResult}
 use Rattle.sa_outside.specs.Faults.{Rose}
 use Rattle.sa_outside.specs.Files.{Files, Writes}
 use Rattle.sa_outside.proofs.Counts.{Rose-earlier}
+use Rattle.sa_tree.specs.declared.pos.Pos.{Pos}
 use Rattle.sa_tree.specs.declared.pos.Sources.{Sources}
 use Rattle.sa_read.specs.Front.{IsTakenUpTo}
 use Rattle.sa_read.specs.Program.{IsReadAs}
@@ -22,7 +23,7 @@ use Rattle.sa_drive.specs.Ends.{AreWritten, IsWritten, PrintEnds, WriteEnds, sin
 use Rattle.sa_drive.specs.Files.{ComesOfFiles, ComesOfGenerated, Explains, ExplainsProgram, IsTakenGenerated, IsTakenProgram, generated_sources}
 use Rattle.sa_drive.specs.Lines.{IsPlaced}
 use Rattle.sa_drive.specs.Seen.{Failed, Part}
-use Rattle.sa_drive.specs.Sites.{WritesModule}
+use Rattle.sa_drive.specs.Sites.{WritesModule, sites_text}
 use Rattle.sa_drive.specs.declared.cause.Cause.{Cause}
 use Rattle.sa_drive.specs.declared.cause.Cause.TheVariants as cause
 use Rattle.sa_drive.specs.declared.module.Built.{Built}
@@ -133,31 +134,39 @@ written_earlier before middle after a b c name bytes told_bytes ends told same l
     })
 
 -- so of two files
-both_earlier : (before middle after : Option Files) (a b c : ℕ) (name bytes : List ℕ) (other : Option (List ℕ × List ℕ)) (ends : Cause) → middle ≡ before → a ≤ b → AreWritten (part_of middle after b c) name bytes other ends → AreWritten (part_of before after a c) name bytes other ends
-both_earlier before middle after a b c name bytes None ends same less written = written_earlier before middle after a b c name bytes bytes ends ends same less refl refl written
-both_earlier before middle after a b c name bytes (Some (other, text)) ends same less (inl (written, undone)) =
+both_earlier : (before middle after : Option Files) (a b c : ℕ) (name bytes other text : List ℕ) (ends : Cause) → middle ≡ before → a ≤ b → AreWritten (part_of middle after b c) name bytes other text ends → AreWritten (part_of before after a c) name bytes other text ends
+both_earlier before middle after a b c name bytes other text ends same less (inl (written, undone)) =
     inl (written_earlier before middle after a b c name bytes bytes ends ends same less refl refl written, undone)
-both_earlier before middle after a b c name bytes (Some (other, text)) ends same less (inr (between, faults, whole, written)) =
+both_earlier before middle after a b c name bytes other text ends same less (inr (between, faults, whole, written)) =
     inr (between, faults, subst (λ files. Writes files between name bytes) same whole, written)
 
--- and of a module with its sites, reported by this outcome
-pub module_earlier : (before middle after : Option Files) (a b c : ℕ) (name bytes told_bytes : List ℕ) (sites : Option (List ℕ)) (sources told_sources : Sources) (ends told : Cause) → middle ≡ before → a ≤ b → told_bytes ≡ bytes → told_sources ≡ sources → told ≡ ends → WritesModule (part_of middle after b c) name bytes sites sources ends → WritesModule (part_of before after a c) name told_bytes sites told_sources told
-module_earlier before middle after a b c name bytes told_bytes sites sources told_sources ends told same less same_bytes same_sources same_ends (positions, written) =
-    let earlier : WritesModule (part_of before after a c) name bytes sites sources ends =
-    (positions, both_earlier before middle after a b c name bytes _ ends same less written) in
-    let of_bytes = subst (λ bytes. WritesModule (part_of before after a c) name bytes sites sources ends) (sym same_bytes) earlier in
-    let of_sources = subst (λ sources. WritesModule (part_of before after a c) name told_bytes sites sources ends) (sym same_sources) of_bytes in
-    subst (λ ends. WritesModule (part_of before after a c) name told_bytes sites told_sources ends) (sym same_ends) of_sources
+-- so of a module with the positions of its faults
+all_earlier : (before middle after : Option Files) (a b c : ℕ) (name bytes : List ℕ) (sites : Option (List ℕ)) (sources : Sources) (positions : List Pos) (ends : Cause) → middle ≡ before → a ≤ b → WritesModule (part_of middle after b c) name bytes sites sources positions ends → WritesModule (part_of before after a c) name bytes sites sources positions ends
+all_earlier before middle after a b c name bytes None sources positions ends same less written = written_earlier before middle after a b c name bytes bytes ends ends same less refl refl written
+all_earlier before middle after a b c name bytes (Some file) sources positions ends same less (inl (kept, memory)) = inl (kept ∙ same, memory)
+all_earlier before middle after a b c name bytes (Some file) sources positions ends same less (inr (placed, written)) =
+    inr (placed, both_earlier before middle after a b c name bytes file (sites_text sources positions) ends same less written)
+
+-- and reported by an outcome, in other words
+pub module_earlier : (before middle after : Option Files) (a b c : ℕ) (name bytes told_bytes : List ℕ) (sites : Option (List ℕ)) (sources told_sources : Sources) (positions told_positions : List Pos) (ends told : Cause) → middle ≡ before → a ≤ b → told_bytes ≡ bytes → told_sources ≡ sources → told_positions ≡ positions → told ≡ ends → WritesModule (part_of middle after b c) name bytes sites sources positions ends → WritesModule (part_of before after a c) name told_bytes sites told_sources told_positions told
+module_earlier before middle after a b c name bytes told_bytes sites sources told_sources positions told_positions ends told same less same_bytes same_sources same_positions same_ends written =
+    let earlier = all_earlier before middle after a b c name bytes sites sources positions ends same less written in
+    let of_bytes = subst (λ bytes. WritesModule (part_of before after a c) name bytes sites sources positions ends) (sym same_bytes) earlier in
+    let of_sources = subst (λ sources. WritesModule (part_of before after a c) name told_bytes sites sources positions ends) (sym same_sources) of_bytes in
+    let of_positions = subst (λ (positions : List Pos). WritesModule (part_of before after a c) name told_bytes sites told_sources positions ends) (sym same_positions) of_sources in
+    subst (λ ends. WritesModule (part_of before after a c) name told_bytes sites told_sources told_positions ends) (sym same_ends) of_positions
 
 -- the end of a command that writes them names no position
-placed_both : (store : Part Files) (name bytes : List ℕ) (other : Option (List ℕ × List ℕ)) (sources : Sources) (ends : Cause) → AreWritten store name bytes other ends → IsPlaced sources ends
-placed_both store name bytes None sources ends written = placed_write (Failed store) sources ends written.comes
-placed_both store name bytes (Some (other, text)) sources ends (inl (written, undone)) = placed_write (Failed store) sources ends written.comes
-placed_both store name bytes (Some (other, text)) sources ends (inr (between, faults, whole, written)) =
+placed_both : (store : Part Files) (name bytes other text : List ℕ) (sources : Sources) (ends : Cause) → AreWritten store name bytes other text ends → IsPlaced sources ends
+placed_both store name bytes other text sources ends (inl (written, undone)) = placed_write (Failed store) sources ends written.comes
+placed_both store name bytes other text sources ends (inr (between, faults, whole, written)) =
     placed_write (Failed (since between faults store)) sources ends written.comes
 
-pub placed_module : (store : Part Files) (name bytes : List ℕ) (sites : Option (List ℕ)) (texts sources : Sources) (ends : Cause) → WritesModule store name bytes sites texts ends → IsPlaced sources ends
-placed_module store name bytes sites texts sources ends (positions, written) = placed_both store name bytes _ sources ends written
+pub placed_module : (store : Part Files) (name bytes : List ℕ) (sites : Option (List ℕ)) (texts sources : Sources) (positions : List Pos) (ends : Cause) → WritesModule store name bytes sites texts positions ends → IsPlaced sources ends
+placed_module store name bytes None texts sources positions ends written = placed_write (Failed store) sources ends written.comes
+placed_module store name bytes (Some file) texts sources positions ends (inl (kept, memory)) = subst (IsPlaced sources) (sym memory) tt
+placed_module store name bytes (Some file) texts sources positions ends (inr (placed, written)) =
+    placed_both store name bytes file (sites_text texts positions) sources ends written
 
 -- texts of the generated program that give no module
 generated_explained : (classes : ℕ) (sources : Sources) (ends : Cause) → sources ≡ generated_sources classes → Explains sources.texts ends → ComesOfGenerated classes sources ends

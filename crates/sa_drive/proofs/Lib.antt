@@ -1,6 +1,9 @@
 pub mod EndLemmas
+pub mod FurtherLemmas
 pub mod ListingLemmas
+pub mod ModuleLemmas
 pub mod OutputLemmas
 pub mod QuietLemmas
 pub mod RunLemmas
 pub mod SiteLemmas
+pub mod StopLemmas

@@ -1,5 +1,7 @@
 -- What commands show of runs.
 use Rattle.std.proofs.Common.{◌≡◌, ◌∙◌, ap, ℕ, List, [], Some, subst, sym, inl, inr, refl}
+use Rattle.sa_core.specs.PositionList.{core_positions}
+use Rattle.sa_core.specs.declared.program.Core.{Core}
 use Rattle.sa_outside.specs.Input.{Input}
 use Rattle.sa_trace_run.specs.Traced.{AreTold}
 use Rattle.sa_tree.specs.declared.pos.Pos.{Pos}
@@ -17,7 +19,7 @@ use Rattle.sa_statement.specs.Confined.{IsConfined}
 use Rattle.sa_words.specs.Line.{Line}
 use Rattle.std.specs.Prelude.{Option, None}
 use Rattle.sa_drive.specs.Answer.{DoesNothing, Obeys, empty_input, own_sink}
-use Rattle.sa_drive.specs.Built.{IsTried}
+use Rattle.sa_drive.specs.Built.{IsNumbered, IsTried, core_sites}
 use Rattle.sa_drive.specs.Ends.{IsOfModule, cause_of}
 use Rattle.sa_drive.specs.Runs.{IsRunBounded, IsRunOf, IsRunOfModule, Ran, RanBuilt, RanTraced, Shows, done_of, ended_of, framed_output, sinks_of}
 use Rattle.sa_drive.specs.Seen.{Outside, Part}
@@ -31,9 +33,11 @@ use Rattle.sa_drive.specs.declared.outcome.Outcome.{Outcome}
 abbrev pub sure : {T : Type 0} → T → T → Part T
 sure old new = record { before = Some old; after = Some new; faults_before = 0; faults_after = 0 }
 
--- the texts of the outcome are these
-pub ran_of : (input : Part Input) (out : Part (List ℕ)) (room fuel : ℕ) (sources : Sources) (outcome : Outcome) → outcome.sources ≡ sources → RanBuilt input out room fuel (IsOfModule sources) outcome → RanBuilt input out room fuel (IsOfModule outcome.sources) outcome
-ran_of input out room fuel sources outcome same ran = subst (λ told. RanBuilt input out room fuel (IsOfModule told) outcome) (sym same) ran
+-- the positions of the module are those of this tree, and these are the texts of a report
+pub ran_of : (input : Part Input) (out : Part (List ℕ)) (room fuel : ℕ) (core : Core) (built : Built) (sources told : Sources) (outcome : Outcome) → IsNumbered core built → told ≡ sources → RanBuilt input out room fuel (IsOfModule built.positions sources) outcome → RanBuilt input out room fuel (IsOfModule (core_positions core) told) outcome
+ran_of input out room fuel core built sources told outcome numbered same ran =
+    subst (λ (texts : Sources). RanBuilt input out room fuel (IsOfModule (core_positions core) texts) outcome) (sym same)
+    (subst (λ (positions : List Pos). RanBuilt input out room fuel (IsOfModule positions sources) outcome) numbered.positions ran)
 
 -- what ended so shows of the run
 shows_of : (IsCause : Cause → Cause → Type 0) (fuel : ℕ) (ended : Ended) (run : Run) (outcome : Outcome) → ended ≡ ended_of fuel run → IsCause ended.cause outcome.cause → outcome.done ≡ ended.done → ((steps : ℕ) → outcome.steps ≡ Some steps → steps ≡ ended.steps) → Shows fuel IsCause outcome run
@@ -91,9 +95,10 @@ shown_built input out IsCause built fuel ended run outcome tried is ran same cau
     }
 
 -- the outcome of a traced module that was tried is that of its run
-pub traced : (input : Part Input) (out err : Part (List ℕ)) (IsCause : Cause → Cause → Type 0) (built : Built) (sources : Sources) (sites : List Pos) (fuel : ℕ) (run : Run) (framed : List ℕ) (outcome : Outcome) → IsTried built → IsRunOfModule input (framed_output out framed) built.«module» fuel run → AreTold sites sources framed (sinks_of out err outcome.listening) run.answer → outcome.sources ≡ sources → outcome.«module».items ≡ built.bytes.items → IsCause (cause_of fuel run.answer) outcome.cause → outcome.done ≡ done_of run.answer → ((steps : ℕ) → outcome.steps ≡ Some steps → steps ≡ run.steps) → (room : ℕ) → IsConfined room built.«module» → RanTraced input out err room fuel IsCause outcome
-traced input out err IsCause built sources sites fuel run framed outcome tried ran told same_sources same cause done steps room confined =
+pub traced : (input : Part Input) (out err : Part (List ℕ)) (IsCause : Cause → Cause → Type 0) (built : Built) (sources : Sources) (given sites : List Pos) (fuel : ℕ) (run : Run) (framed : List ℕ) (outcome : Outcome) → IsTried built → IsRunOfModule input (framed_output out framed) built.«module» fuel run → given ≡ sites → AreTold given sources framed (sinks_of out err outcome.listening) run.answer → outcome.sources ≡ sources → outcome.«module».items ≡ built.bytes.items → IsCause (cause_of fuel run.answer) outcome.cause → outcome.done ≡ done_of run.answer → ((steps : ℕ) → outcome.steps ≡ Some steps → steps ≡ run.steps) → (room : ℕ) → IsConfined room built.«module» → RanTraced input out err room fuel IsCause sites outcome
+traced input out err IsCause built sources given sites fuel run framed outcome tried ran same_sites told same_sources same cause done steps room confined =
     let spelled : SpellsModule outcome.«module».items built.«module» = rw same tried.spelled in
+    let of_sites = subst (λ (positions : List Pos). AreTold positions sources framed (sinks_of out err outcome.listening) run.answer) same_sites told in
     record {
       framed = framed;
       ran = record {
@@ -106,20 +111,21 @@ traced input out err IsCause built sources sites fuel run framed outcome tried r
         of_bytes = run_spelled input (framed_output out framed) outcome.«module».items built.«module» fuel run spelled tried.runnable.valid ran;
         shows = shows_of IsCause fuel (ended_of fuel run) run outcome refl cause done steps;
       };
-      sites = sites;
-      told = subst (λ (texts : Sources). AreTold sites texts framed (sinks_of out err outcome.listening) run.answer) (sym same_sources) told;
+      told = subst (λ (texts : Sources). AreTold sites texts framed (sinks_of out err outcome.listening) run.answer) (sym same_sources) of_sites;
     }
 
--- the texts of the outcome are these
-pub traced_of : (input : Part Input) (out err : Part (List ℕ)) (room fuel : ℕ) (sources : Sources) (outcome : Outcome) → outcome.sources ≡ sources → RanTraced input out err room fuel (IsOfModule sources) outcome → RanTraced input out err room fuel (IsOfModule outcome.sources) outcome
-traced_of input out err room fuel sources outcome same ran = subst (λ told. RanTraced input out err room fuel (IsOfModule told) outcome) (sym same) ran
+-- the positions and the sites of the module are those of this tree, and these are the texts of a report
+pub traced_of : (input : Part Input) (out err : Part (List ℕ)) (room fuel : ℕ) (core : Core) (built : Built) (sources told : Sources) (outcome : Outcome) → IsNumbered core built → told ≡ sources → RanTraced input out err room fuel (IsOfModule built.positions sources) built.sites outcome → RanTraced input out err room fuel (IsOfModule (core_positions core) told) (core_sites core) outcome
+traced_of input out err room fuel core built sources told outcome numbered same ran =
+    subst (λ (texts : Sources). RanTraced input out err room fuel (IsOfModule (core_positions core) texts) (core_sites core) outcome) (sym same)
+    (subst (λ (sites : List Pos). RanTraced input out err room fuel (IsOfModule (core_positions core) sources) sites outcome) numbered.sites
+    (subst (λ (positions : List Pos). RanTraced input out err room fuel (IsOfModule positions sources) built.sites outcome) numbered.positions ran))
 
--- a run with an input of no bytes and a sink of its own, of the texts of a report
-pub apart : (sources told : Sources) (room fuel : ℕ) (given left : Input) (had output : List ℕ) (outcome : Outcome) → told ≡ sources → given ≡ record { left = []; ends = 0 } → had ≡ [] → RanBuilt (sure given left) (sure had output) room fuel (IsOfModule sources) outcome → RanBuilt (empty_input left) (own_sink output) room fuel (IsOfModule told) outcome
-apart sources told room fuel given left had output outcome same empty none ran =
-    subst (λ texts. RanBuilt (empty_input left) (own_sink output) room fuel (IsOfModule texts) outcome) (sym same)
-    (subst (λ input. RanBuilt (sure input left) (own_sink output) room fuel (IsOfModule sources) outcome) empty
-    (subst (λ taken. RanBuilt (sure given left) (sure taken output) room fuel (IsOfModule sources) outcome) none ran))
+-- a run with an input of no bytes and a sink of its own
+pub apart : (IsCause : Cause → Cause → Type 0) (room fuel : ℕ) (given left : Input) (had output : List ℕ) (outcome : Outcome) → given ≡ record { left = []; ends = 0 } → had ≡ [] → RanBuilt (sure given left) (sure had output) room fuel IsCause outcome → RanBuilt (empty_input left) (own_sink output) room fuel IsCause outcome
+apart IsCause room fuel given left had output outcome empty none ran =
+    subst (λ input. RanBuilt (sure input left) (own_sink output) room fuel IsCause outcome) empty
+    (subst (λ taken. RanBuilt (sure given left) (sure taken output) room fuel IsCause outcome) none ran)
 
 -- where memory runs out before the words are read nothing is done, whatever they are
 pub idle : (outside : Outside) (line : Option Line) (outcome : Outcome) → DoesNothing outside outcome cause.NoMemory → Obeys outside line outcome

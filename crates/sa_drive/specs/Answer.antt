@@ -1,6 +1,8 @@
 -- What the outcome of each command says of the outside.
 use Rattle.std.specs.Prelude.{codes, ◌≡◌, ◌≢◌, ◌≤◌, ◌^◌, ◌-◌, ◌⊎◌, ◌&&◌, ⊤, ℕ, Bool}
 use Rattle.std.specs.Prelude.{true, false, List, [], length, Option, None, Some, is_some}
+use Rattle.sa_core.specs.PositionList.{core_positions}
+use Rattle.sa_core.specs.declared.program.Core.{Core}
 use Rattle.sa_gen.specs.Generated.{generated}
 use Rattle.sa_help.specs.Texts.{help_text, version_text}
 use Rattle.sa_outside.specs.Files.{Files, Lacks}
@@ -13,6 +15,7 @@ use Rattle.sa_words.specs.Line.{Assemble, Build, Check, Exec, Explain, Gen, Help
 use Rattle.sa_words.specs.declared.command.Extent.{Extent}
 use Rattle.sa_words.specs.declared.command.Extent.TheVariants as extent
 use Rattle.sa_words.specs.declared.command.Trace.TheVariants as tracing
+use Rattle.sa_drive.specs.Built.{IsSound, core_sites}
 use Rattle.sa_drive.specs.Ends.{IsOfModule, IsPrinted}
 use Rattle.sa_drive.specs.Files.{ComesOfFiles, ComesOfGenerated, IsTakenGenerated, IsTakenProgram}
 use Rattle.sa_drive.specs.Further.{MayTellFurther}
@@ -35,31 +38,33 @@ pub record GivesNone (store : Part Files) (names : List (List ℕ)) (outcome : O
   pub bytes : HasNoModule outcome
   pub files : IsKept store
 
--- the module of the program in these files can be run, and was, or there is none
+-- the module of the program in these files can be run, and was, or there is none; a stop of it is at a position of its typed tree
 abbrev pub IsRun : Part Files → Part Input → Part (List ℕ) → (room fuel : ℕ) → List (List ℕ) → Outcome → Type 0
 IsRun store input out room fuel names outcome =
     (GivesNone store names outcome × IsKept input × IsKept out)
-    ⊎ (IsTakenProgram store.before names outcome.sources × RanBuilt input out room fuel (IsOfModule outcome.sources) outcome)
+    ⊎ ((core : Core) × IsSound core × IsTakenProgram store.before names outcome.sources
+    × RanBuilt input out room fuel (IsOfModule (core_positions core) outcome.sources) outcome)
 
 -- err has taken nothing, and takes the lines of the end
 abbrev pub IsSilent : (err : Part (List ℕ)) → Outcome → Type 0
 IsSilent err outcome = IsUntouched err × (outcome.listening ≡ listening.Yes)
 
--- the traced module of the program in these files can be run, and was, or there is none
+-- the traced module of the program in these files can be run, and was, with the sites of its typed tree, or there is none
 abbrev pub IsTraced : Outside → (room fuel : ℕ) → List (List ℕ) → Outcome → Type 0
 IsTraced outside room fuel names outcome =
     (GivesNone outside.store names outcome × IsKept outside.input × IsKept outside.out × IsSilent outside.err outcome)
-    ⊎ (IsTakenProgram outside.store.before names outcome.sources
-    × RanTraced outside.input outside.out outside.err room fuel (IsOfModule outcome.sources) outcome)
+    ⊎ ((core : Core) × IsSound core × IsTakenProgram outside.store.before names outcome.sources
+    × RanTraced outside.input outside.out outside.err room fuel (IsOfModule (core_positions core) outcome.sources)
+    (core_sites core) outcome)
 
--- the module of the program in these files can be run, and was written under this name, and then its sites, where they have a file,
--- as positions in the texts; or there is none, and nothing is written
+-- the module of the program in these files can be run, and was written under this name, and then the positions of its typed tree, where
+-- they have a file; or there is none, and nothing is written
 abbrev pub IsBuilt : Part Files → (room : ℕ) → List ℕ → (sites : Option (List ℕ)) → List (List ℕ) → Outcome → Type 0
 IsBuilt store room name sites names outcome =
     GivesNone store names outcome
-    ⊎ (IsTakenProgram store.before names outcome.sources
+    ⊎ ((core : Core) × IsSound core × IsTakenProgram store.before names outcome.sources
     × SpellsRunnable room outcome.«module».items
-    × WritesModule store name outcome.«module».items sites outcome.sources outcome.cause)
+    × WritesModule store name outcome.«module».items sites outcome.sources (core_positions core) outcome.cause)
 
 -- out took that the program in these files is accepted, or it isn't, and further refusals are told, if all are asked for
 abbrev pub IsChecked : Part Files → Part (List ℕ) → Extent → List (List ℕ) → Outcome → Type 0
@@ -153,13 +158,16 @@ pub record TellsRun (out : Part (List ℕ)) (classes : ℕ) (ran : Outcome) (out
 abbrev pub default_room : ℕ
 default_room = 65536
 
--- the generated program was run with the greatest fuel, apart from the input and out of the call, and reported
+-- the generated program was run with the greatest fuel, apart from the input and out of the call, and reported; a stop of its module is
+-- at a position of its typed tree
 pub record IsRunApart (out : Part (List ℕ)) (classes : ℕ) (outcome : Outcome) : Type 0 where
   pub taken : IsTakenGenerated classes outcome.sources
+  pub core : Core
+  pub sound : IsSound core
   pub ran : Outcome
   pub left : Input
   pub output : List ℕ
-  pub runs : RanBuilt (empty_input left) (own_sink output) default_room (2 ^ 64 - 1) (IsOfModule ran.sources) ran
+  pub runs : RanBuilt (empty_input left) (own_sink output) default_room (2 ^ 64 - 1) (IsOfModule (core_positions core) ran.sources) ran
   pub tells : TellsRun out classes ran output outcome
 
 -- the generated program was run, or it has no module

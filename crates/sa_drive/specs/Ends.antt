@@ -1,11 +1,14 @@
 -- What a cause says of the outside, once there is something to write, to print or to run.
-use Rattle.std.specs.Prelude.{◌≡◌, ◌≢◌, ◌⊎◌, ⊤, ℕ, List, Option, None, Some}
+use Rattle.std.specs.Prelude.{◌≡◌, ◌≢◌, ◌⊎◌, ⊤, ℕ, List, Option, Some, slice_get}
 use Rattle.sa_outside.specs.Files.{Files, Writes, WritesFront}
 use Rattle.sa_outside.specs.Output.{Took, TookFront}
 use Rattle.sa_tree.specs.Faults.{fault_number}
+use Rattle.sa_tree.specs.declared.fault_kind.FaultKind.{FaultKind}
+use Rattle.sa_tree.specs.declared.pos.Pos.{Pos}
 use Rattle.sa_tree.specs.declared.pos.Sources.{Sources}
 use Rattle.wa_run.specs.declared.answer.Answer.{Answer}
 use Rattle.wa_run.specs.declared.answer.Answer.TheVariants as answer
+use Rattle.sa_drive.specs.Files.{IsPlaceIn}
 use Rattle.sa_drive.specs.Lines.{IsInside}
 use Rattle.sa_drive.specs.Seen.{Failed, Part}
 use Rattle.sa_drive.specs.declared.cause.Cause.{Cause}
@@ -28,12 +31,12 @@ pub record IsWritten (store : Part Files) (name bytes : List ℕ) (ends : Cause)
 abbrev pub since : (middle : Option Files) → (faults : ℕ) → Part Files → Part Files
 since middle faults store = record store { before = middle; faults_before = faults }
 
--- the file of this name was to get these bytes, and once it has got them another file, if there is one, what belongs to that
-abbrev pub AreWritten : Part Files → (name bytes : List ℕ) → (other : Option (List ℕ × List ℕ)) → Cause → Type 0
-AreWritten store name bytes None ends = IsWritten store name bytes ends
-AreWritten store name bytes (Some (other, text)) ends =
+-- the file of this name was to get these bytes, and once it has got them another file a text
+abbrev pub AreWritten : Part Files → (name bytes : List ℕ) → (other text : List ℕ) → Cause → Type 0
+AreWritten store name bytes other text ends =
     (IsWritten store name bytes ends × (ends ≢ cause.Done))
-    ⊎ ((middle : Option Files) × (faults : ℕ) × Writes store.before middle name bytes × IsWritten (since middle faults store) other text ends)
+    ⊎ ((middle : Option Files) × (faults : ℕ) × Writes store.before middle name bytes
+    × IsWritten (since middle faults store) other text ends)
 
 -- the end of a command that puts a text on out
 abbrev pub PrintEnds : (out_failed : Type 0) → Cause → Type 0
@@ -77,11 +80,21 @@ cause_of fuel answer.InFault = cause.InFault
 cause_of fuel answer.OutFault = cause.OutFault
 cause_of fuel answer.NoMemory = cause.NoMemory
 
--- a stop of a module is the fault of the program: its first number is that of the kind, and the place is in one of these texts
-abbrev pub IsFaultOf : Sources → (of_module : Cause) → (of_program : Cause) → Type 0
-IsFaultOf sources (cause.Stopped code site) (cause.Fault kind pos) = (fault_number kind ≡ code) × IsInside sources pos
-IsFaultOf sources _ _ = ⊥
+-- the two numbers of a stop name this fault: the first is that of its kind, and the second that of its position among these, which is in
+-- these texts, of which the lines can be counted
+pub record NameFault (positions : List Pos) (sources : Sources) (code site : ℕ) (kind : FaultKind) (pos : Pos) : Type 0 where
+  pub number : fault_number kind ≡ code
+  pub position : slice_get positions site ≡ Some pos
+  pub place : IsPlaceIn sources.texts pos
+  pub inside : IsInside sources pos
 
--- the cause of a program of these texts is that of its module, or the fault that a stop of the module is
-abbrev pub IsOfModule : Sources → (of_module : Cause) → (of_program : Cause) → Type 0
-IsOfModule sources of_module of_program = (of_program ≡ of_module) ⊎ IsFaultOf sources of_module of_program
+-- a stop of a module is the fault that its numbers name, or told as out of memory where they name none
+abbrev pub IsFaultOf : (positions : List Pos) → Sources → (code site : ℕ) → (of_program : Cause) → Type 0
+IsFaultOf positions sources code site (cause.Fault kind pos) = NameFault positions sources code site kind pos
+IsFaultOf positions sources code site cause.NoMemory = (kind : FaultKind) (pos : Pos) → NameFault positions sources code site kind pos → ⊥
+IsFaultOf positions sources code site _ = ⊥
+
+-- the cause of a program of these texts, which carries these positions, is that of its module, or the fault that a stop of the module is
+abbrev pub IsOfModule : (positions : List Pos) → Sources → (of_module : Cause) → (of_program : Cause) → Type 0
+IsOfModule positions sources (cause.Stopped code site) of_program = IsFaultOf positions sources code site of_program
+IsOfModule positions sources of_module of_program = of_program ≡ of_module

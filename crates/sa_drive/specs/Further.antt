@@ -1,5 +1,5 @@
 -- The refusals that are told behind the first one.
-use Rattle.std.specs.Prelude.{◌≡◌, ◌⊎◌, ℕ, List, [], IsTrue, flat_map}
+use Rattle.std.specs.Prelude.{◌≡◌, ◌≢◌, ◌⊎◌, ⊤, ℕ, List, [], IsTrue, flat_map}
 use Rattle.std.specs.List.{All}
 use Rattle.sa_tree.specs.Rules.{rule_text}
 use Rattle.sa_tree.specs.declared.pos.Sources.{Sources}
@@ -8,6 +8,7 @@ use Rattle.sa_words.specs.declared.command.Extent.{Extent}
 use Rattle.sa_words.specs.declared.command.Extent.TheVariants as extent
 use Rattle.sa_drive.specs.Files.{IsPlaceIn, is_of_checker}
 use Rattle.sa_drive.specs.Lines.{about_place}
+use Rattle.sa_drive.specs.declared.cause.Cause.{Cause}
 use Rattle.sa_drive.specs.declared.cause.Cause.TheVariants as cause
 use Rattle.sa_drive.specs.declared.outcome.Outcome.{Outcome}
 
@@ -36,3 +37,9 @@ pub record TellsFurther (outcome : Outcome) : Type 0 where
 abbrev pub MayTellFurther : Extent → Outcome → Type 0
 MayTellFurther extent.Needed outcome = outcome.further.items ≡ []
 MayTellFurther extent.All outcome = (outcome.further.items ≡ []) ⊎ TellsFurther outcome
+
+-- behind a refusal each of these is told where all are asked for, unless memory ran out
+abbrev pub TellsEach : Extent → Cause → List Refusal → Outcome → Type 0
+TellsEach extent.All (cause.Refused first) refusals outcome =
+    outcome.cause ≢ cause.NoMemory → outcome.further.items ≡ refusal_lines outcome.sources refusals
+TellsEach _ _ refusals outcome = ⊤

@@ -67,7 +67,8 @@ pub record Shows (fuel : ℕ) (IsCause : (of_module : Cause) → (told : Cause) 
   pub steps : (steps : ℕ) → outcome.steps ≡ Some steps → steps ≡ run.steps
 
 -- the module of the outcome was run with this bound of its memory and this fuel, and the outcome is that of the run
-abbrev pub Ran : Part Input → Part (List ℕ) → (pages : Option ℕ) → (fuel : ℕ) → ((of_module : Cause) → (told : Cause) → Type 0) → Outcome → Type 0
+abbrev pub Ran : Part Input → Part (List ℕ) → (pages : Option ℕ) → (fuel : ℕ)
+    → ((of_module : Cause) → (told : Cause) → Type 0) → Outcome → Type 0
 Ran input out pages fuel IsCause outcome =
     (run : Run) × IsRunBounded input out pages outcome.«module».items fuel run × Shows fuel IsCause outcome run
 
@@ -98,8 +99,7 @@ sinks_of out err listening =
 -- the module of the outcome, a traced one, was run so: the bytes of its output are frames, where the sites of the program have these
 -- positions, and out and err took what the frames say
 pub record RanTraced (input : Part Input) (out err : Part (List ℕ)) (room fuel : ℕ)
-    (IsCause : (of_module : Cause) → (told : Cause) → Type 0) (outcome : Outcome) : Type 0 where
+    (IsCause : (of_module : Cause) → (told : Cause) → Type 0) (sites : List Pos) (outcome : Outcome) : Type 0 where
   pub framed : List ℕ
   pub ran : RanBuilt input (framed_output out framed) room fuel IsCause outcome
-  pub sites : List Pos
   pub told : AreTold sites outcome.sources framed (sinks_of out err outcome.listening) ran.run.answer

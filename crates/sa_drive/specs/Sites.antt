@@ -1,11 +1,14 @@
 -- The positions of faults, as JSON, and the file that gets them behind that of the module.
-use Rattle.std.specs.Prelude.{ℕ, List, [], ◌∷◌, ◌++◌, codes, decimal, flat_map, Option, option_map}
+use Rattle.std.specs.Prelude.{ℕ, ◌≡◌, ◌⊎◌, List, [], ◌∷◌, ◌++◌, codes, decimal, flat_map, Option, None, Some}
+use Rattle.std.specs.List.{All}
 use Rattle.json.specs.Print.{print}
 use Rattle.json.specs.Token.{Token, begin_array, begin_object, end_array, end_object, key, number, string}
-use Rattle.sa_drive.specs.Ends.{AreWritten}
+use Rattle.sa_drive.specs.Ends.{AreWritten, IsWritten}
+use Rattle.sa_drive.specs.Files.{IsPlaceIn}
 use Rattle.sa_drive.specs.Lines.{file_name, line_number}
-use Rattle.sa_drive.specs.Seen.{Part}
+use Rattle.sa_drive.specs.Seen.{IsKept, Part}
 use Rattle.sa_drive.specs.declared.cause.Cause.{Cause}
+use Rattle.sa_drive.specs.declared.cause.Cause.TheVariants as cause
 use Rattle.sa_outside.specs.Files.{Files}
 use Rattle.sa_tree.specs.declared.pos.Pos.{Pos}
 use Rattle.sa_tree.specs.declared.pos.Sources.{Sources}
@@ -23,7 +26,10 @@ site_tokens sources pos = begin_object ∷ site_members sources pos ++ end_objec
 abbrev pub sites_text : Sources → List Pos → List ℕ
 sites_text sources positions = print (begin_array ∷ flat_map (site_tokens sources) positions ++ end_array ∷ [])
 
--- the file of this name was to get the module, and then the file of the sites, if there is one, positions in these texts
-abbrev pub WritesModule : Part Files → (name bytes : List ℕ) → (sites : Option (List ℕ)) → Sources → Cause → Type 0
-WritesModule store name bytes sites sources ends =
-    (positions : List Pos) × AreWritten store name bytes (option_map (λ file. (file, sites_text sources positions)) sites) ends
+-- the file of this name was to get the module; and then the file of the sites, if there is one, these positions, which are in these
+-- texts, unless memory ran out before anything was written
+abbrev pub WritesModule : Part Files → (name bytes : List ℕ) → (sites : Option (List ℕ)) → Sources → (positions : List Pos) → Cause → Type 0
+WritesModule store name bytes None sources positions ends = IsWritten store name bytes ends
+WritesModule store name bytes (Some file) sources positions ends =
+    (IsKept store × (ends ≡ cause.NoMemory))
+    ⊎ (All (IsPlaceIn sources.texts) positions × AreWritten store name bytes file (sites_text sources positions) ends)

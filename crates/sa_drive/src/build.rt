@@ -1,6 +1,6 @@
 //! The command `build`: the module of a program is written to a file, and the positions of its faults to another one.
 
-ghost use Rattle.std.specs.Prelude.{◌≡◌, ◌≤◌, [], None, Some, map, option_map};
+ghost use Rattle.std.specs.Prelude.{◌≡◌, ◌≤◌, [], None, map, option_map};
 ghost use Rattle.sa_trace.specs.declared.sinks.Listening.TheVariants as listening;
 ghost use Rattle.sa_drive.specs.Answer.{IsBuilt};
 ghost use Rattle.sa_drive.specs.Sites.{WritesModule};
@@ -55,7 +55,7 @@ fn write_built<S: WriteFiles>(
     store: &mut S,
 ) -> Cause
     ensures writes { WritesModule (part S.files S.faults store.old store.new) line.now.out.now built.now.bytes.items
-        (option_map (λ file. file.now) line.now.sites) sources.now result }
+        (option_map (λ file. file.now) line.now.sites) sources.now built.now.positions result }
     ensures count { S.faults store.old ≤ S.faults store.new }
 {
     let bytes = built.bytes.as_slice();
@@ -76,7 +76,7 @@ fn both_written<S: WriteFiles>(
     other: &str,
     text: &[u8],
 ) -> Cause
-    ensures written { AreWritten (part S.files S.faults store.old store.new) out.now «module».now (Some (other.now, text.now)) result }
+    ensures written { AreWritten (part S.files S.faults store.old store.new) out.now «module».now other.now text.now result }
     ensures count { S.faults store.old ≤ S.faults store.new }
 {
     match written(store, out, module) {

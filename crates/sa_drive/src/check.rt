@@ -5,7 +5,7 @@ ghost use Rattle.sa_outside.specs.Output.{Grew};
 ghost use Rattle.sa_trace.specs.declared.sinks.Listening.TheVariants as listening;
 ghost use Rattle.sa_drive.specs.Answer.{IsChecked};
 ghost use Rattle.sa_drive.specs.Ends.{ComesBeforeOutput};
-ghost use Rattle.sa_drive.specs.Further.{MayTellFurther};
+ghost use Rattle.sa_drive.specs.Further.{MayTellFurther, TellsEach};
 ghost use Rattle.sa_drive.specs.Lines.{IsPlaced};
 ghost use Rattle.sa_drive.specs.Seen.{part};
 
@@ -72,6 +72,7 @@ fn unaccepted<'a>(
     ensures placed { IsPlaced result.sources result.cause }
     ensures bytes { result.«module».items ≡ [] }
     ensures may_tell { MayTellFurther extent result }
+    ensures each { TellsEach extent cause further.items result }
     ensures further { extent ≡ Extent.Needed → result.further.items ≡ [] }
     ensures steps { result.steps ≡ None }
     ensures file { result.file.now ≡ [] }
@@ -100,6 +101,7 @@ fn all_refused<'a>(
     ensures placed { IsPlaced result.sources result.cause }
     ensures bytes { result.«module».items ≡ [] }
     ensures may_tell { MayTellFurther Extent.All result }
+    ensures each { TellsEach Extent.All (Cause.Refused first) further.items result }
     ensures steps { result.steps ≡ None }
     ensures file { result.file.now ≡ [] }
     ensures listening { result.listening ≡ listening.Yes }

@@ -5,10 +5,10 @@ ghost use Rattle.sa_outside.specs.Faults.{Rose};
 ghost use Rattle.sa_read.specs.Front.{IsRefusalOf, IsTakenUpTo};
 ghost use Rattle.sa_statement.specs.Confined.{IsConfined};
 ghost use Rattle.sa_drive.specs.Answer.{default_room};
-ghost use Rattle.sa_drive.specs.Built.{IsTried};
+ghost use Rattle.sa_drive.specs.Built.{IsMade, IsNumbered, IsTried};
 ghost use Rattle.sa_drive.specs.Files.{ComesOfFiles, ComesOfGenerated, Explains, ExplainsProgram, IsByChecker};
-ghost use Rattle.sa_drive.specs.Files.{IsTakenGenerated, IsTakenProgram, generated_sources};
-ghost use Rattle.sa_drive.specs.Lines.{IsPlaced};
+ghost use Rattle.sa_drive.specs.Files.{IsPlaceIn, IsTakenGenerated, IsTakenProgram, generated_sources};
+ghost use Rattle.sa_drive.specs.Lines.{IsInText, IsPlaced};
 ghost use Rattle.sa_well.specs.Well.{IsWell};
 
 use crate::accepted::accepted;
@@ -82,6 +82,7 @@ pub fn compile_files<S: ReadFiles>(
         (map (λ file. file.now) files.now) result.sources) }
     ensures built { IfOk result.«module» IsTried }
     ensures confined { IfOk result.«module» (λ built. IsConfined room built.«module») }
+    ensures tree { IfOk result.«module» IsMade }
     ensures placed { IfErr result.«module» (IsPlaced result.sources) }
     ensures files { S.files store.new ≡ S.files store.old }
     ensures count { S.faults store.old ≤ S.faults store.new }
@@ -95,6 +96,7 @@ pub fn compile_generated(alloc: Global, classes: u32) -> Compiled
     ensures module { MatchResult result.«module» (λ _. IsTakenGenerated classes result.sources) (ComesOfGenerated classes result.sources) }
     ensures built { IfOk result.«module» IsTried }
     ensures confined { IfOk result.«module» (λ built. IsConfined default_room built.«module») }
+    ensures tree { IfOk result.«module» IsMade }
     ensures placed { IfErr result.«module» (IsPlaced result.sources) }
 {
     let checked = check_generated(alloc, classes);
@@ -107,6 +109,7 @@ fn compile_checked(alloc: Global, checked: Checked, room: u32, trace: Trace) -> 
     ensures built { IfOk result.«module» IsTried }
     ensures confined { IfOk result.«module» (λ built. IsConfined room built.«module») }
     ensures well { IfOk result.«module» (λ _. IfOk checked.core IsWell) }
+    ensures numbered { IfOk result.«module» (λ built. IfOk checked.core (λ core. IsNumbered core built)) }
     ensures made { IfOk result.«module» (λ _. IfErr checked.core (λ _. ⊥)) }
     ensures fault { IfErr result.«module» (λ cause. (checked.core ≡ Err cause) ⊎ (cause ≡ Cause.NoMemory)) }
 {
@@ -120,6 +123,7 @@ fn made(alloc: Global, core: Result<Core, Cause>, room: u32, trace: Trace) -> Re
     ensures built { IfOk result IsTried }
     ensures confined { IfOk result (λ built. IsConfined room built.«module») }
     ensures well { IfOk result (λ _. IfOk core IsWell) }
+    ensures numbered { IfOk result (λ built. IfOk core (λ core. IsNumbered core built)) }
     ensures made { IfOk result (λ _. IfErr core (λ _. ⊥)) }
     ensures fault { IfErr result (λ cause. (core ≡ Err cause) ⊎ (cause ≡ Cause.NoMemory)) }
 {
@@ -260,7 +264,8 @@ pub(crate) fn typed(
 /// The cause of the refusal of these texts. A refusal at no place in them, which no phase gives, is answered as out of memory.
 fn refused(refusal: Refusal, texts: &[Items<u8>]) -> Cause
     requires { IsRefusalOf texts.now refusal ⊎ IsByChecker texts.now refusal }
-    ensures { Explains texts.now result }
+    ensures explains { Explains texts.now result }
+    ensures told { IsPlaceIn texts.now refusal.pos → IsInText texts.now refusal.pos → result ≡ Cause.Refused refusal }
 {
     if is_place_in(texts, refusal.pos) {
         return Cause::Refused(refusal);

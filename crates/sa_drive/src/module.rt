@@ -1,12 +1,12 @@
 //! The module of a typed program, which is tried before it is given: it is valid, it is linked, its segments fit, and it is confined.
 
-ghost use Rattle.std.specs.Prelude.{◌<◌, length, IfOk};
-ghost use Rattle.sa_drive.specs.Built.{IsTried};
+ghost use Rattle.std.specs.Prelude.{◌≡◌, ◌++◌, ◌<◌, flat_map, length, map, IfOk, OnOk};
+ghost use Rattle.sa_drive.specs.Built.{IsNumbered, IsTried, feature_sites};
 ghost use Rattle.sa_statement.specs.Confined.{IsConfined};
 ghost use Rattle.sa_well.specs.Well.{IsWell};
 
 use crate::confined::is_confined;
-use sa_core::{Core, FeatureCore, positions};
+use sa_core::{Core, FeatureCore, SiteCore, positions};
 use sa_dispatch::{Rows, rows};
 use sa_emit::{emit, emit_traced};
 use sa_flat::FlatProgram;
@@ -38,6 +38,7 @@ pub fn module_of(alloc: Global, core: Core, room: u32, trace: Trace) -> Result<B
     ensures tried { IfOk result IsTried }
     ensures confined { IfOk result (λ built. IsConfined room built.«module») }
     ensures well { IfOk result (λ _. IsWell core) }
+    ensures numbered { IfOk result (IsNumbered core) }
 {
     if !is_well(alloc, &core)? {
         return Err(NoMemory);
@@ -50,9 +51,10 @@ fn module_of_well(alloc: Global, core: Core, room: u32, trace: Trace) -> Result<
     requires well { IsWell core }
     ensures tried { IfOk result IsTried }
     ensures confined { IfOk result (λ built. IsConfined room built.«module») }
+    ensures numbered { IfOk result (IsNumbered core) }
 {
     let positions = positions(alloc, &core)?;
-    let sites = sites(alloc, &core)?;
+    let sites = sites(alloc, core.features.as_slice())?;
     let flat = lower(alloc, &core, positions)?;
     let rows = rows(alloc, &core)?;
     drop(core);
@@ -79,18 +81,23 @@ fn emitted(
     emitted.map_err(|_| NoMemory)
 }
 
-/// The positions of the sites of a program, feature by feature.
-fn sites(alloc: Global, core: &Core) -> Result<Items<Pos>, NoMemory> {
+/// The positions of the sites of features, one feature after the other.
+#[tactic(auto, using(crate::proofs::ModuleLemmas::sites_from))]
+fn sites(alloc: Global, features: &[FeatureCore]) -> Result<Items<Pos>, NoMemory>
+    ensures { IfOk result (λ sites. sites ≡ flat_map feature_sites features.now) }
+{
     let mut sites = Items::new(alloc);
-    for feature in core.features.as_slice() {
-        add_sites(&mut sites, feature)?;
+    for feature in features {
+        add_sites(&mut sites, feature.sites.as_slice())?;
     }
     Ok(sites)
 }
 
-/// Adds the positions of the sites of a feature.
-fn add_sites(to: &mut Items<Pos>, feature: &FeatureCore) -> Result<(), NoMemory> {
-    for site in feature.sites.as_slice() {
+/// Adds the positions of sites.
+fn add_sites(to: &mut Items<Pos>, sites: &[SiteCore]) -> Result<(), NoMemory>
+    ensures { OnOk result (to.new ≡ to.old ++ map (λ site. site.pos) sites.now) }
+{
+    for site in sites {
         to.push(site.pos)?;
     }
     Ok(())
@@ -107,6 +114,8 @@ fn tried(
     requires { length bytes.items < 4294967295 }
     ensures tried { IfOk result IsTried }
     ensures confined { IfOk result (λ built. IsConfined room built.«module») }
+    ensures positions { IfOk result (λ built. built.positions ≡ positions) }
+    ensures sites { IfOk result (λ built. built.sites ≡ sites) }
 {
     match runnable(alloc, bytes.as_slice()) {
         Ok(module) if is_confined(module.module(), room) => Ok(Built {

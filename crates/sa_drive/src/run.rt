@@ -73,7 +73,7 @@ pub fn run_built<'a, I: Source, O: Sink>(
 ) -> Outcome<'a>
     requires tried { IsTried built }
     ensures ran { (room : ℕ) → IsConfined room built.«module» → RanBuilt (part I.input I.faults input.old input.new)
-        (part O.output O.faults out.old out.new) room fuel (IsOfModule sources) result }
+        (part O.output O.faults out.old out.new) room fuel (IsOfModule built.positions sources) result }
     ensures sources { result.sources ≡ sources }
     ensures placed { IsPlaced result.sources result.cause }
     ensures steps { is_some result.steps ≡ (stats && has_steps result.cause) }
@@ -121,7 +121,7 @@ fn run_valid<I: Source, O: Sink>(
 /// The cause of a program whose module ended with this one: where the module stopped, the fault at the position whose number
 /// it gave.
 pub fn at_place(cause: Cause, positions: &[Pos], sources: &Sources) -> Cause
-    ensures of_module { IsOfModule sources.now cause result }
+    ensures of_module { IsOfModule positions.now sources.now cause result }
     ensures placed { IsPlaced sources.now cause → IsPlaced sources.now result }
     ensures untouched { ComesBeforeOutput result → ComesBeforeOutput cause }
 {
@@ -132,17 +132,20 @@ pub fn at_place(cause: Cause, positions: &[Pos], sources: &Sources) -> Cause
 }
 
 /// The fault of this kind at the position with this number. A stop that names no kind of a fault or no position of the
-/// program, which no module of a program makes, stays as it is.
+/// program, which no module of a program makes, is answered as out of memory.
 fn fault_at(code: u32, place: u32, positions: &[Pos], sources: &Sources) -> Cause
-    ensures of_module { IsOfModule sources.now (Cause.Stopped code place) result }
+    ensures of_module { IsOfModule positions.now sources.now (Cause.Stopped code place) result }
     ensures placed { IsPlaced sources.now result }
     ensures later { ComesBeforeOutput result → ⊥ }
 {
     let Some(kind) = FaultKind::of_number(code) else {
-        return Cause::Stopped(code, place);
+        return Cause::NoMemory;
     };
-    match positions.get(place as usize) {
-        Some(pos) if is_place_in(sources.texts.as_slice(), *pos) => Cause::Fault(kind, *pos),
-        _ => Cause::Stopped(code, place),
+    let Some(pos) = positions.get(place as usize) else {
+        return Cause::NoMemory;
+    };
+    if !is_place_in(sources.texts.as_slice(), *pos) {
+        return Cause::NoMemory;
     }
+    Cause::Fault(kind, *pos)
 }

@@ -5,7 +5,7 @@ ghost use Rattle.sa_outside.specs.Output.{Grew};
 ghost use Rattle.sa_trace.specs.declared.sinks.Listening.TheVariants as listening;
 ghost use Rattle.sa_statement.specs.Confined.{IsConfined};
 ghost use Rattle.sa_drive.specs.Answer.{IsRunApart, IsTested, default_room};
-ghost use Rattle.sa_drive.specs.Built.{IsTried};
+ghost use Rattle.sa_drive.specs.Built.{IsMade, IsTried};
 ghost use Rattle.sa_drive.specs.Ends.{ComesBeforeOutput, IsPrinted};
 ghost use Rattle.sa_drive.specs.Files.{IsTakenGenerated};
 ghost use Rattle.sa_drive.specs.Lines.{IsPlaced, selftest_line};
@@ -52,6 +52,7 @@ fn run_apart<'a, O: Sink>(
 ) -> Outcome<'a>
     requires tried { IsTried built }
     requires confined { IsConfined default_room built.«module» }
+    requires tree { IsMade built }
     requires taken { IsTakenGenerated classes sources }
     ensures ran { IsRunApart (part O.output O.faults out.old out.new) classes result }
     ensures placed { IsPlaced result.sources result.cause }

@@ -1,6 +1,8 @@
 //! The positions of faults by their numbers, as JSON.
 
 ghost use Rattle.std.specs.Prelude.{◌≡◌, ◌++◌, IfOk, OnOk, flat_map};
+ghost use Rattle.std.specs.List.{All};
+ghost use Rattle.sa_drive.specs.Files.{IsPlaceIn};
 ghost use Rattle.sa_drive.specs.Lines.{file_name};
 ghost use Rattle.sa_drive.specs.Sites.{site_tokens, sites_text};
 
@@ -12,7 +14,8 @@ use std::alloc::Global;
 /// An array with an object for each position, in order, that has the name of its file and its line, from 1. A position that is in none of
 /// the texts, or in one whose name is no UTF-8, which no program has, is answered as out of memory.
 pub fn sites_text(alloc: Global, sources: &Sources, positions: &[Pos]) -> Result<Vec<u8>, NoMemory>
-    ensures { IfOk result (λ text. text.items ≡ sites_text sources.now positions.now) }
+    ensures text { IfOk result (λ text. text.items ≡ sites_text sources.now positions.now) }
+    ensures placed { OnOk result (All (IsPlaceIn sources.now.texts) positions.now) }
 {
     let mut writer = Writer::new(Vec::new(alloc));
     writer.begin_array()?;
@@ -25,6 +28,7 @@ pub fn sites_text(alloc: Global, sources: &Sources, positions: &[Pos]) -> Result
 fn add_sites(writer: &mut Writer, sources: &Sources, positions: &[Pos]) -> Result<(), NoMemory>
     ensures tokens { OnOk result (writer.new.tokens ≡ writer.old.tokens ++ flat_map (site_tokens sources.now) positions.now) }
     ensures before { OnOk result (writer.new.before ≡ writer.old.before) }
+    ensures placed { OnOk result (All (IsPlaceIn sources.now.texts) positions.now) }
 {
     for pos in positions {
         add_site(writer, sources, *pos)?;
@@ -36,6 +40,7 @@ fn add_sites(writer: &mut Writer, sources: &Sources, positions: &[Pos]) -> Resul
 fn add_site(writer: &mut Writer, sources: &Sources, pos: Pos) -> Result<(), NoMemory>
     ensures tokens { OnOk result (writer.new.tokens ≡ writer.old.tokens ++ site_tokens sources.now pos) }
     ensures before { OnOk result (writer.new.before ≡ writer.old.before) }
+    ensures placed { OnOk result (IsPlaceIn sources.now.texts pos) }
 {
     if !is_place_in(sources.texts.as_slice(), pos) {
         return Err(NoMemory);

@@ -70,7 +70,8 @@ fn run_built_told<'a, I: Source, O: Sink, E: Sink>(
 ) -> Outcome<'a>
     requires tried { IsTried built }
     ensures ran { (room : ℕ) → IsConfined room built.«module» → RanTraced (part I.input I.faults input.old input.new)
-        (part O.output O.faults out.old out.new) (part E.output E.faults err.old err.new) room fuel (IsOfModule sources) result }
+        (part O.output O.faults out.old out.new) (part E.output E.faults err.old err.new) room fuel
+        (IsOfModule built.positions sources) built.sites result }
     ensures sources { result.sources ≡ sources }
     ensures placed { IsPlaced result.sources result.cause }
     ensures steps { is_some result.steps ≡ (stats && has_steps result.cause) }

@@ -44,9 +44,10 @@ pub fn sather<S: WriteFiles, I: Source, O: Sink, E: Sink>(
     out: &mut O,
     err: &mut E,
 ) -> Exit
-    // What the words ask for was done with an outcome, by the definition of each command, up to some state of err. The exit has its
-    // cause, or out of memory, its status and its module, and from there on err took its lines, and behind them an explanation
-    // where the words ask for one.
+    // What the words ask for was done with an outcome, by the definition of each command, up to some state of err. Wherever a program
+    // has a module there is a typed tree that is well typed and never gets stuck, and whose positions the module's numbers name. The
+    // exit has the outcome's cause, or out of memory, its status and its module, and from there on err took its lines, and behind
+    // them an explanation where the words ask for one.
     ensures answer { (outcome : Outcomes) × (middle : Taken) × (told : Taken) ×
         Obeys (outside (part S.files S.faults store.old store.new) (part I.input I.faults input.old input.new)
         (part O.output O.faults out.old out.new) (between (sink (E.output err.old) (E.faults err.old)) middle))

@@ -13,7 +13,12 @@ use Rattle.sa_statement.specs.Bound.{steps_for}
 use Rattle.sa_statement.specs.Ends.{IsOrderly, Same}
 use Rattle.sa_statement.specs.Runnable.{IsRunnable}
 
--- `room` are the bytes that the program's objects may take
+-- `room` are the bytes that the program's objects may take, here and below.
+
+-- The program never gets stuck.
+abbrev pub NeverStuck : (core : Core) → (room : ℕ) → Type 0
+NeverStuck core room = (input : Input) (turns : ℕ) → run core input room turns ≢ Stuck
+
 module _ (core : Core) (room : ℕ) (m : Module) where
   -- the most machine steps for so many turns of this program
   abbrev pub steps_within : (turns : ℕ) → ℕ
@@ -41,10 +46,6 @@ module _ (core : Core) (room : ℕ) (m : Module) where
   abbrev pub PutsNothingElse : Type 0
   PutsNothingElse = (input : Input) (steps : ℕ) → IsPrefix (machine_run m input steps).output (output core input room steps)
 
-  -- The program never gets stuck.
-  abbrev pub NeverStuck : Type 0
-  NeverStuck = (input : Input) (turns : ℕ) → run core input room turns ≢ Stuck
-
   -- Its module never traps, goes too deep or gets stuck.
   abbrev pub NeverTraps : Type 0
   NeverTraps = (input : Input) (steps : ℕ) → IsOrderly (machine_run m input steps).halt
@@ -56,7 +57,7 @@ module _ (core : Core) (room : ℕ) (m : Module) where
     pub gives_only : GivesNothingElse
     pub puts : PutsTheOutput
     pub puts_only : PutsNothingElse
-    pub never_stuck : NeverStuck
+    pub never_stuck : NeverStuck core room
     pub never_traps : NeverTraps
 
 -- the bytes spell a module that does what the program means

@@ -13,3 +13,9 @@ returns-in-Ok-clause-may_tell c =
       further = subst (λ sources. All (IsFurther sources) c.as_slice.result.now) same c.in-Ok.ensures.further;
       lines = c.in-Ok.ensures.lines ∙ ap (λ sources. refusal_lines sources c.as_slice.result.now) same;
     })
+
+pub returns-in-Ok-clause-each : goal.returns-in-Ok-clause-each
+returns-in-Ok-clause-each c = λ other.
+    c.in-Ok.ensures.lines
+    ∙ ap (refusal_lines c.args.sources) c.as_slice.ensures.value
+    ∙ ap (λ sources. refusal_lines sources c.args.further.items) (sym c.without_module-outcome.ensures.sources)

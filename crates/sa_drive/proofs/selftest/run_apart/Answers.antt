@@ -4,16 +4,18 @@ use Rattle.sa_drive.specs.Files.{IsTakenGenerated}
 use Rattle.sa_drive.specs.Lines.{IsPlaced, selftest_line}
 use Rattle.sa_drive.specs.Seen.{part}
 use Rattle.sa_drive.proofs.EndLemmas.{placed_print}
-use Rattle.sa_drive.proofs.RunLemmas.{apart}
+use Rattle.sa_drive.proofs.RunLemmas.{apart, ran_of}
 use Rattle.sa_drive.proofs.selftest.run_apart.Goals as goal
 
 pub returns-in-Done-clause-ran : goal.returns-in-Done-clause-ran
 returns-in-Done-clause-ran g c = record {
   taken = subst (IsTakenGenerated c.args.classes) (sym (c.without_run.ensures.sources ∙ c.run_built-ran.ensures.sources)) c.requires.taken;
+  core = c.requires.tree.core;
+  sound = c.requires.tree.sound;
   ran = c.run_built-ran.result;
   left = c.run_built-ran.new.input;
   output = c.run_built-ran.new.out;
-  runs = apart _ _ _ _ _ _ _ _ _ c.run_built-ran.ensures.sources (search rules) (search rules) (c.run_built-ran.ensures.ran _ c.requires.confined);
+  runs = apart _ _ _ _ _ _ _ _ (search rules) (search rules) (ran_of _ _ _ _ _ _ _ _ _ c.requires.tree.numbered c.run_built-ran.ensures.sources (c.run_built-ran.ensures.ran _ c.requires.confined));
   tells = record {
     sources = c.without_run.ensures.sources;
     bytes = c.without_run.ensures.bytes;
@@ -29,10 +31,12 @@ returns-in-Done-clause-placed g c =
 pub returns-clause-ran : goal.returns-clause-ran
 returns-clause-ran g c = record {
   taken = subst (IsTakenGenerated c.args.classes) (sym c.run_built-ran.ensures.sources) c.requires.taken;
+  core = c.requires.tree.core;
+  sound = c.requires.tree.sound;
   ran = c.run_built-ran.result;
   left = c.run_built-ran.new.input;
   output = c.run_built-ran.new.out;
-  runs = apart _ _ _ _ _ _ _ _ _ c.run_built-ran.ensures.sources (search rules) (search rules) (c.run_built-ran.ensures.ran _ c.requires.confined);
+  runs = apart _ _ _ _ _ _ _ _ (search rules) (search rules) (ran_of _ _ _ _ _ _ _ _ _ c.requires.tree.numbered c.run_built-ran.ensures.sources (c.run_built-ran.ensures.ran _ c.requires.confined));
   tells = record {
     sources = refl;
     bytes = refl;

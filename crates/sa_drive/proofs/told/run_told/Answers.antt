@@ -1,13 +1,17 @@
 use Rattle.std.proofs.Common.{inl, inr, refl}
-use Rattle.sa_drive.proofs.EndLemmas.{given_none, confined_of, taken_of}
+use Rattle.sa_drive.specs.Built.{IsMade}
+use Rattle.sa_drive.proofs.EndLemmas.{given_none, confined_of, made_is, taken_of}
 use Rattle.sa_drive.proofs.RunLemmas.{traced_of}
 use Rattle.sa_drive.proofs.told.run_told.Goals as goal
 
 pub returns-in-Ok-clause-does : goal.returns-in-Ok-clause-does
 returns-in-Ok-clause-does g c =
+    let made : IsMade c.in-Ok.built = made_is _ _ IsMade c.in-Ok.is c.compile_files-sources.ensures.tree in
     rw (← c.as_slice.ensures.value) (inr (
+      made.core,
+      made.sound,
       taken_of _ _ _ _ _ _ _ c.in-Ok.is c.compile_files-sources.ensures.«module» c.run_built_told.ensures.sources,
-      traced_of _ _ _ _ _ _ _ c.run_built_told.ensures.sources (c.run_built_told.ensures.ran _ (confined_of _ _ _ c.in-Ok.is c.compile_files-sources.ensures.confined)),
+      traced_of _ _ _ _ _ _ _ _ _ _ made.numbered c.run_built_told.ensures.sources (c.run_built_told.ensures.ran _ (confined_of _ _ _ c.in-Ok.is c.compile_files-sources.ensures.confined)),
     ))
 
 pub returns-in-Err-clause-does : goal.returns-in-Err-clause-does
