@@ -6,15 +6,20 @@ use Rattle.sa_lex.specs.declared.word.Word.{Word}
 use Rattle.sa_tree.specs.declared.stmt.Stmt.{Stmt}
 use Rattle.sa_tree.specs.declared.refusal.FrontFault.{FrontFault}
 use Rattle.sa_parse_expr.specs.declared.tokens.Tokens.{Tokens}
+use Rattle.sa_parse_expr.specs.Lexemes.{between}
 use Rattle.sa_parse_expr.specs.Places.{IsBehind, IsUnexpected}
+use Rattle.sa_parse.specs.Statements.{IsBody}
 
--- it may be called at each place behind this one, and reads at least one token there or refuses one
+-- it may be called at each place behind this one, and reads at least one token there, which spell the body, or refuses one
 pub record NestsBodies (from : ℕ) (pre : Global → Bor Tokens → Word → ℕ → Type 0)
     (post : Global → Bor Tokens → Word → ℕ → Result (List Stmt × ℕ) FrontFault → Type 0) : Type 0 where
   pub callable : (alloc : Global) (tokens : Bor Tokens) (word : Word) (at : ℕ) → from < at → pre alloc tokens word at
   pub next : (alloc : Global) (tokens : Bor Tokens) (word : Word) (at : ℕ) (r : Result (List Stmt × ℕ) FrontFault)
       → post alloc tokens word at r
       → IfOk r (λ read. IsBehind tokens.now.list.now at read.1)
+  pub spelled : (alloc : Global) (tokens : Bor Tokens) (word : Word) (at : ℕ) (r : Result (List Stmt × ℕ) FrontFault)
+      → post alloc tokens word at r
+      → IfOk r (λ read. IsBody word (between tokens.now at read.1) read.0)
   pub refused : (alloc : Global) (tokens : Bor Tokens) (word : Word) (at : ℕ) (r : Result (List Stmt × ℕ) FrontFault)
       → post alloc tokens word at r
       → IfErr r (IsUnexpected tokens.now.file)

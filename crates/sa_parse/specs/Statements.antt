@@ -29,20 +29,20 @@ IsValue ls e = IsArg Plain ls (Value In e)
 
 -- expr {"," expr}
 pub data IsValues : List Lexeme → List Expr → Type 0 where
-  last : {ls : List Lexeme} {e : Expr} → IsValue ls e → IsValues ls (e ∷ [])
-  more : {ls ms : List Lexeme} {comma : Lexeme} {e : Expr} {others : List Expr}
+  last_value : {ls : List Lexeme} {e : Expr} → IsValue ls e → IsValues ls (e ∷ [])
+  more_values : {ls ms : List Lexeme} {comma : Lexeme} {e : Expr} {others : List Expr}
       → IsValue ls e → IsSign sign.Comma comma → IsValues ms others
       → IsValues (ls ++ comma ∷ ms) (e ∷ others)
 
 -- [":=" expr]
 pub data IsAssigned : List Lexeme → Option Expr → Type 0 where
-  absent : IsAssigned [] None
-  given : {gets : Lexeme} {ls : List Lexeme} {e : Expr} → IsSign sign.Assign gets → IsValue ls e → IsAssigned (gets ∷ ls) (Some e)
+  not_assigned : IsAssigned [] None
+  assigned : {gets : Lexeme} {ls : List Lexeme} {e : Expr} → IsSign sign.Assign gets → IsValue ls e → IsAssigned (gets ∷ ls) (Some e)
 
 -- [expr]
 pub data IsOptionalExpr : List Lexeme → Option Expr → Type 0 where
-  absent : IsOptionalExpr [] None
-  given : {ls : List Lexeme} {e : Expr} → IsValue ls e → IsOptionalExpr ls (Some e)
+  no_expr : IsOptionalExpr [] None
+  of_expr : {ls : List Lexeme} {e : Expr} → IsValue ls e → IsOptionalExpr ls (Some e)
 
 -- simple = LNAME {"," LNAME} ":" type [":=" expr] | LNAME "::=" expr | expr [":=" expr]. An assignment stands at its `:=`
 pub data IsSimple : List Lexeme → Stmt → Type 0 where
@@ -74,8 +74,8 @@ mutual
 
   -- stmts = [stmt] {";" [stmt]}
   pub data IsStmts : List Lexeme → List Stmt → Type 0 where
-    last : {ls : List Lexeme} {list : List Stmt} → IsOptionalStmt ls list → IsStmts ls list
-    more : {ls ms : List Lexeme} {semicolon : Lexeme} {first others : List Stmt}
+    last_stmt : {ls : List Lexeme} {list : List Stmt} → IsOptionalStmt ls list → IsStmts ls list
+    more_stmts : {ls ms : List Lexeme} {semicolon : Lexeme} {first others : List Stmt}
         → IsOptionalStmt ls first → IsSign sign.Semicolon semicolon → IsStmts ms others
         → IsStmts (ls ++ semicolon ∷ ms) (first ++ others)
 

@@ -21,8 +21,12 @@
 //!
 //! Each of the statements stands at its word.
 
-ghost use Rattle.std.specs.Prelude.{◌<◌, ◌≤◌, IfErr, IfOk, length};
+ghost use Rattle.std.specs.Prelude.{◌≡◌, ◌<◌, ◌≤◌, IfErr, IfOk, length};
+ghost use Rattle.sa_tree.specs.declared.stmt.Stmt.TheVariants as tree;
 ghost use Rattle.sa_parse.specs.Bodies.{NestsBodies};
+ghost use Rattle.sa_parse.specs.Statements.{IsArm, IsArms, IsBranch, IsBranches, IsCaseArm, IsCaseArms, IsCaseChoice};
+ghost use Rattle.sa_parse.specs.Statements.{IsElse, IsEnding, IsStmt, IsTypeChoice, IsValues};
+ghost use Rattle.sa_parse_expr.specs.Lexemes.{between};
 ghost use Rattle.sa_parse_expr.specs.Places.{IsBehind, IsFrom, IsUnexpected};
 
 use crate::body::Stmts;
@@ -47,15 +51,21 @@ struct TypeChoice {
     rest: Option<Items<Stmt>>,
 }
 
-fn case_of(tested: Expr, choice: CaseChoice, pos: Pos) -> Stmt {
+fn case_of(tested: Expr, choice: CaseChoice, pos: Pos) -> Stmt
+    ensures { result ≡ tree.Case tested choice.arms choice.rest pos }
+{
     Stmt::Case(tested, choice.arms, choice.rest, pos)
 }
 
-fn typecase_of(tested: Local, choice: TypeChoice, pos: Pos) -> Stmt {
+fn typecase_of(tested: Local, choice: TypeChoice, pos: Pos) -> Stmt
+    ensures { result ≡ tree.TypeCase tested choice.branches choice.rest pos }
+{
     Stmt::TypeCase(tested, choice.branches, choice.rest, pos)
 }
 
-fn protect_of(body: Items<Stmt>, choice: TypeChoice, pos: Pos) -> Stmt {
+fn protect_of(body: Items<Stmt>, choice: TypeChoice, pos: Pos) -> Stmt
+    ensures { result ≡ tree.Protect body choice.branches choice.rest pos }
+{
     Stmt::Protect(body, choice.branches, choice.rest, pos)
 }
 
@@ -65,6 +75,7 @@ impl<F: Fn(Global, &Tokens<'_>, Word, u32) -> Result<(Items<Stmt>, u32), FrontFa
         requires nested { NestsBodies self.now.from (F.pre self.now.nested) (F.post self.now.nested) }
         requires from { self.now.from < from }
         ensures next { IfOk result (λ read. IsBehind self.now.tokens.list.now from read.1) }
+        ensures spelled { IfOk result (λ read. IsStmt (between self.now.tokens from read.1) read.0) }
         ensures refused { IfErr result (IsUnexpected self.now.tokens.file) }
     {
         let next = self.tokens.after_word(from, Word::If)?;
@@ -79,6 +90,7 @@ impl<F: Fn(Global, &Tokens<'_>, Word, u32) -> Result<(Items<Stmt>, u32), FrontFa
         requires nested { NestsBodies self.now.from (F.pre self.now.nested) (F.post self.now.nested) }
         requires from { self.now.from < from }
         ensures next { IfOk result (λ read. IsBehind self.now.tokens.list.now from read.1) }
+        ensures spelled { IfOk result (λ read. IsArms (between self.now.tokens from read.1) read.0) }
         ensures refused { IfErr result (IsUnexpected self.now.tokens.file) }
     {
         let (first, mut next) = self.arm(from)?;
@@ -98,6 +110,7 @@ impl<F: Fn(Global, &Tokens<'_>, Word, u32) -> Result<(Items<Stmt>, u32), FrontFa
         requires nested { NestsBodies self.now.from (F.pre self.now.nested) (F.post self.now.nested) }
         requires from { self.now.from < from }
         ensures next { IfOk result (λ read. IsBehind self.now.tokens.list.now from read.1) }
+        ensures spelled { IfOk result (λ read. IsArm (between self.now.tokens from read.1) read.0) }
         ensures refused { IfErr result (IsUnexpected self.now.tokens.file) }
     {
         let (test, next) = read_expr(self.alloc, &self.tokens, from)?;
@@ -111,6 +124,7 @@ impl<F: Fn(Global, &Tokens<'_>, Word, u32) -> Result<(Items<Stmt>, u32), FrontFa
         requires from { self.now.from < from }
         requires within { from ≤ length self.now.tokens.list.now }
         ensures next { IfOk result (λ read. IsBehind self.now.tokens.list.now from read.1) }
+        ensures spelled { IfOk result (λ read. IsEnding (between self.now.tokens from read.1) read.0) }
         ensures refused { IfErr result (IsUnexpected self.now.tokens.file) }
     {
         let (rest, next) = self.else_part(from)?;
@@ -123,6 +137,7 @@ impl<F: Fn(Global, &Tokens<'_>, Word, u32) -> Result<(Items<Stmt>, u32), FrontFa
         requires from { self.now.from < from }
         requires within { from ≤ length self.now.tokens.list.now }
         ensures next { IfOk result (λ read. IsFrom self.now.tokens.list.now from read.1) }
+        ensures spelled { IfOk result (λ read. IsElse (between self.now.tokens from read.1) read.0) }
         ensures refused { IfErr result (IsUnexpected self.now.tokens.file) }
     {
         if !self.tokens.is_word(from, Word::Else) {
@@ -137,6 +152,7 @@ impl<F: Fn(Global, &Tokens<'_>, Word, u32) -> Result<(Items<Stmt>, u32), FrontFa
         requires nested { NestsBodies self.now.from (F.pre self.now.nested) (F.post self.now.nested) }
         requires from { self.now.from < from }
         ensures next { IfOk result (λ read. IsBehind self.now.tokens.list.now from read.1) }
+        ensures spelled { IfOk result (λ read. IsStmt (between self.now.tokens from read.1) read.0) }
         ensures refused { IfErr result (IsUnexpected self.now.tokens.file) }
     {
         let (body, next) = self.body(Word::Loop, from)?;
@@ -149,6 +165,7 @@ impl<F: Fn(Global, &Tokens<'_>, Word, u32) -> Result<(Items<Stmt>, u32), FrontFa
         requires nested { NestsBodies self.now.from (F.pre self.now.nested) (F.post self.now.nested) }
         requires from { self.now.from < from }
         ensures next { IfOk result (λ read. IsBehind self.now.tokens.list.now from read.1) }
+        ensures spelled { IfOk result (λ read. IsStmt (between self.now.tokens from read.1) read.0) }
         ensures refused { IfErr result (IsUnexpected self.now.tokens.file) }
     {
         let next = self.tokens.after_word(from, Word::Case)?;
@@ -163,6 +180,7 @@ impl<F: Fn(Global, &Tokens<'_>, Word, u32) -> Result<(Items<Stmt>, u32), FrontFa
         requires from { self.now.from < from }
         requires within { from ≤ length self.now.tokens.list.now }
         ensures next { IfOk result (λ read. IsBehind self.now.tokens.list.now from read.1) }
+        ensures spelled { IfOk result (λ read. IsCaseChoice (between self.now.tokens from read.1) read.0) }
         ensures refused { IfErr result (IsUnexpected self.now.tokens.file) }
     {
         let (arms, next) = self.case_arms(from)?;
@@ -176,6 +194,7 @@ impl<F: Fn(Global, &Tokens<'_>, Word, u32) -> Result<(Items<Stmt>, u32), FrontFa
         requires from { self.now.from < from }
         requires within { from ≤ length self.now.tokens.list.now }
         ensures next { IfOk result (λ read. IsFrom self.now.tokens.list.now from read.1) }
+        ensures spelled { IfOk result (λ read. IsCaseArms (between self.now.tokens from read.1) read.0) }
         ensures refused { IfErr result (IsUnexpected self.now.tokens.file) }
     {
         let mut arms = Items::new(self.alloc);
@@ -193,6 +212,7 @@ impl<F: Fn(Global, &Tokens<'_>, Word, u32) -> Result<(Items<Stmt>, u32), FrontFa
         requires nested { NestsBodies self.now.from (F.pre self.now.nested) (F.post self.now.nested) }
         requires from { self.now.from < from }
         ensures next { IfOk result (λ read. IsBehind self.now.tokens.list.now from read.1) }
+        ensures spelled { IfOk result (λ read. IsCaseArm (between self.now.tokens from read.1) read.0) }
         ensures refused { IfErr result (IsUnexpected self.now.tokens.file) }
     {
         let (values, next) = values(self.alloc, &self.tokens, from)?;
@@ -205,6 +225,7 @@ impl<F: Fn(Global, &Tokens<'_>, Word, u32) -> Result<(Items<Stmt>, u32), FrontFa
         requires nested { NestsBodies self.now.from (F.pre self.now.nested) (F.post self.now.nested) }
         requires from { self.now.from < from }
         ensures next { IfOk result (λ read. IsBehind self.now.tokens.list.now from read.1) }
+        ensures spelled { IfOk result (λ read. IsStmt (between self.now.tokens from read.1) read.0) }
         ensures refused { IfErr result (IsUnexpected self.now.tokens.file) }
     {
         let next = self.tokens.after_word(from, Word::Typecase)?;
@@ -218,6 +239,7 @@ impl<F: Fn(Global, &Tokens<'_>, Word, u32) -> Result<(Items<Stmt>, u32), FrontFa
         requires nested { NestsBodies self.now.from (F.pre self.now.nested) (F.post self.now.nested) }
         requires from { self.now.from < from }
         ensures next { IfOk result (λ read. IsBehind self.now.tokens.list.now from read.1) }
+        ensures spelled { IfOk result (λ read. IsStmt (between self.now.tokens from read.1) read.0) }
         ensures refused { IfErr result (IsUnexpected self.now.tokens.file) }
     {
         let (body, next) = self.body(Word::Protect, from)?;
@@ -231,6 +253,7 @@ impl<F: Fn(Global, &Tokens<'_>, Word, u32) -> Result<(Items<Stmt>, u32), FrontFa
         requires from { self.now.from < from }
         requires within { from ≤ length self.now.tokens.list.now }
         ensures next { IfOk result (λ read. IsBehind self.now.tokens.list.now from read.1) }
+        ensures spelled { IfOk result (λ read. IsTypeChoice (between self.now.tokens from read.1) read.0) }
         ensures refused { IfErr result (IsUnexpected self.now.tokens.file) }
     {
         let (branches, next) = self.branches(from)?;
@@ -244,6 +267,7 @@ impl<F: Fn(Global, &Tokens<'_>, Word, u32) -> Result<(Items<Stmt>, u32), FrontFa
         requires from { self.now.from < from }
         requires within { from ≤ length self.now.tokens.list.now }
         ensures next { IfOk result (λ read. IsFrom self.now.tokens.list.now from read.1) }
+        ensures spelled { IfOk result (λ read. IsBranches (between self.now.tokens from read.1) read.0) }
         ensures refused { IfErr result (IsUnexpected self.now.tokens.file) }
     {
         let mut branches = Items::new(self.alloc);
@@ -261,6 +285,7 @@ impl<F: Fn(Global, &Tokens<'_>, Word, u32) -> Result<(Items<Stmt>, u32), FrontFa
         requires nested { NestsBodies self.now.from (F.pre self.now.nested) (F.post self.now.nested) }
         requires from { self.now.from < from }
         ensures next { IfOk result (λ read. IsBehind self.now.tokens.list.now from read.1) }
+        ensures spelled { IfOk result (λ read. IsBranch (between self.now.tokens from read.1) read.0) }
         ensures refused { IfErr result (IsUnexpected self.now.tokens.file) }
     {
         let (ty, next) = read_type(self.alloc, &self.tokens, from)?;
@@ -272,6 +297,7 @@ impl<F: Fn(Global, &Tokens<'_>, Word, u32) -> Result<(Items<Stmt>, u32), FrontFa
 /// `expr {"," expr}`
 fn values(alloc: Global, tokens: &Tokens<'_>, from: u32) -> Result<(Items<Expr>, u32), FrontFault>
     ensures next { IfOk result (λ read. IsBehind tokens.now.list.now from read.1) }
+    ensures spelled { IfOk result (λ read. IsValues (between tokens.now from read.1) read.0) }
     ensures refused { IfErr result (IsUnexpected tokens.now.file) }
 {
     let (first, mut next) = read_expr(alloc, tokens, from)?;

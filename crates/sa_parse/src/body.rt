@@ -7,6 +7,8 @@
 
 ghost use Rattle.std.specs.Prelude.{◌<◌, IfErr, IfOk};
 ghost use Rattle.sa_parse.specs.Bodies.{NestsBodies};
+ghost use Rattle.sa_parse.specs.Statements.{IsBody};
+ghost use Rattle.sa_parse_expr.specs.Lexemes.{between};
 ghost use Rattle.sa_parse_expr.specs.Places.{IsBehind, IsUnexpected};
 
 use sa_lex::Word;
@@ -31,6 +33,7 @@ impl<F: Fn(Global, &Tokens<'_>, Word, u32) -> Result<(Items<Stmt>, u32), FrontFa
         requires nested { NestsBodies self.now.from (F.pre self.now.nested) (F.post self.now.nested) }
         requires from { self.now.from < from }
         ensures next { IfOk result (λ read. IsBehind self.now.tokens.list.now from read.1) }
+        ensures spelled { IfOk result (λ read. IsBody word (between self.now.tokens from read.1) read.0) }
         ensures refused { IfErr result (IsUnexpected self.now.tokens.file) }
     {
         (self.nested)(self.alloc, &self.tokens, word, from)
@@ -45,6 +48,7 @@ pub(crate) fn read_body(
     from: u32,
 ) -> Result<(Items<Stmt>, u32), FrontFault>
     ensures next { IfOk result (λ read. IsBehind tokens.now.list.now from read.1) }
+    ensures spelled { IfOk result (λ read. IsBody word (between tokens.now from read.1) read.0) }
     ensures refused { IfErr result (IsUnexpected tokens.now.file) }
 {
     let next = tokens.after_word(from, word)?;

@@ -1,6 +1,10 @@
 //! Names where they are declared, changed or tested.
 
-ghost use Rattle.std.specs.Prelude.{◌+◌, ◌≤◌, IfErr, IfOk, vec_len};
+ghost use Rattle.std.specs.Prelude.{◌≡◌, ◌+◌, ◌≤◌, IfErr, IfOk, vec_len};
+ghost use Rattle.sa_parse.specs.Classes.{IsAbstractName, IsClassName};
+ghost use Rattle.sa_parse.specs.Conditions.{IsBool};
+ghost use Rattle.sa_parse.specs.Names.{IsLower, IsName, IsNames, name_at};
+ghost use Rattle.sa_parse_expr.specs.Lexemes.{IsFeature, Stands, between};
 ghost use Rattle.sa_parse_expr.specs.Places.{IsBehind, IsUnexpected};
 
 use sa_lex::{Sign, TokenKind};
@@ -9,7 +13,9 @@ use sa_tree::{FrontFault, Local};
 use std::alloc::{AllocError, Global};
 
 /// The token at a place as a name.
-fn local(alloc: Global, tokens: &Tokens<'_>, at: u32) -> Result<Local, AllocError> {
+fn local(alloc: Global, tokens: &Tokens<'_>, at: u32) -> Result<Local, AllocError>
+    ensures { IfOk result (λ local. local ≡ name_at tokens.now at) }
+{
     Ok(Local {
         name: tokens.name(alloc, at)?,
         pos: tokens.pos(at),
@@ -23,6 +29,8 @@ pub(crate) fn lower_name(
     from: u32,
 ) -> Result<(Local, u32), FrontFault>
     ensures next { IfOk result (λ read. IsBehind tokens.now.list.now from read.1) }
+    ensures alone { IfOk result (λ read. read.1 ≡ from + 1) }
+    ensures spelled { IfOk result (λ read. IsName IsLower (between tokens.now from read.1) read.0) }
     ensures refused { IfErr result (IsUnexpected tokens.now.file) }
 {
     if !tokens.is_lower(from) {
@@ -38,6 +46,8 @@ pub(crate) fn feature_name(
     from: u32,
 ) -> Result<(Local, u32), FrontFault>
     ensures next { IfOk result (λ read. IsBehind tokens.now.list.now from read.1) }
+    ensures alone { IfOk result (λ read. read.1 ≡ from + 1) }
+    ensures spelled { IfOk result (λ read. IsName IsFeature (between tokens.now from read.1) read.0) }
     ensures refused { IfErr result (IsUnexpected tokens.now.file) }
 {
     if !tokens.is_feature_name(from) {
@@ -53,6 +63,8 @@ pub(crate) fn class_name(
     from: u32,
 ) -> Result<(Local, u32), FrontFault>
     ensures next { IfOk result (λ read. IsBehind tokens.now.list.now from read.1) }
+    ensures alone { IfOk result (λ read. read.1 ≡ from + 1) }
+    ensures spelled { IfOk result (λ read. IsName IsClassName (between tokens.now from read.1) read.0) }
     ensures refused { IfErr result (IsUnexpected tokens.now.file) }
 {
     let Some(TokenKind::ClassName) = tokens.kind(from) else {
@@ -68,6 +80,8 @@ pub(crate) fn abstract_name(
     from: u32,
 ) -> Result<(Local, u32), FrontFault>
     ensures next { IfOk result (λ read. IsBehind tokens.now.list.now from read.1) }
+    ensures alone { IfOk result (λ read. read.1 ≡ from + 1) }
+    ensures spelled { IfOk result (λ read. IsName IsAbstractName (between tokens.now from read.1) read.0) }
     ensures refused { IfErr result (IsUnexpected tokens.now.file) }
 {
     let Some(TokenKind::AbstractName) = tokens.kind(from) else {
@@ -79,6 +93,8 @@ pub(crate) fn abstract_name(
 /// The place behind the class name `BOOL`.
 pub(crate) fn after_bool(tokens: &Tokens<'_>, from: u32) -> Result<u32, FrontFault>
     ensures next { IfOk result (IsBehind tokens.now.list.now from) }
+    ensures alone { IfOk result (λ next. next ≡ from + 1) }
+    ensures spelled { IfOk result (λ _. Stands IsBool tokens.now from) }
     ensures refused { IfErr result (IsUnexpected tokens.now.file) }
 {
     match tokens.kind(from) {
@@ -95,6 +111,7 @@ pub(crate) fn lower_names(
 ) -> Result<(Vec<Local>, u32), FrontFault>
     ensures count { IfOk result (λ read. from + vec_len read.0 ≤ read.1) }
     ensures next { IfOk result (λ read. IsBehind tokens.now.list.now from read.1) }
+    ensures spelled { IfOk result (λ read. IsNames (between tokens.now from read.1) read.0.items) }
     ensures refused { IfErr result (IsUnexpected tokens.now.file) }
 {
     let (first, mut next) = lower_name(alloc, tokens, from)?;

@@ -11,8 +11,10 @@
 //!
 //! An assignment stands at its `:=`, and a declaration at its first name. What may be assigned isn't decided here.
 
-ghost use Rattle.std.specs.Prelude.{◌<◌, ◌≤◌, IfErr, IfOk, length};
+ghost use Rattle.std.specs.Prelude.{◌≡◌, ◌<◌, ◌≤◌, ◌++◌, IfErr, IfOk, OnOk, length, option_to_list};
 ghost use Rattle.sa_parse.specs.Bodies.{NestsBodies};
+ghost use Rattle.sa_parse.specs.Statements.{IsAssigned, IsLeave, IsOptionalExpr, IsOptionalStmt, IsSimple, IsStmt, IsStmts};
+ghost use Rattle.sa_parse_expr.specs.Lexemes.{between};
 ghost use Rattle.sa_parse_expr.specs.Places.{IsBehind, IsFrom, IsUnexpected};
 
 use crate::body::Stmts;
@@ -22,7 +24,7 @@ use sa_lex::{Sign, TokenKind, Word};
 use sa_parse_expr::{Tokens, begins_expression, read_expr, read_type};
 use sa_tree::{Expr, FrontFault, Stmt};
 use sqlite_items::Items;
-use std::alloc::Global;
+use std::alloc::{AllocError, Global};
 
 impl<F: Fn(Global, &Tokens<'_>, Word, u32) -> Result<(Items<Stmt>, u32), FrontFault>> Stmts<'_, F> {
     /// `[stmt] {";" [stmt]}`
@@ -31,18 +33,15 @@ impl<F: Fn(Global, &Tokens<'_>, Word, u32) -> Result<(Items<Stmt>, u32), FrontFa
         requires from { self.now.from < from }
         requires within { from ≤ length self.now.tokens.list.now }
         ensures next { IfOk result (λ read. IsFrom self.now.tokens.list.now from read.1) }
+        ensures spelled { IfOk result (λ read. IsStmts (between self.now.tokens from read.1) read.0) }
         ensures refused { IfErr result (IsUnexpected self.now.tokens.file) }
     {
         let (first, mut next) = self.optional_stmt(from)?;
         let mut list = Vec::new(self.alloc);
-        if let Some(stmt) = first {
-            list.push(stmt)?;
-        }
+        push_some(&mut list, first)?;
         'more: while self.tokens.is_sign(next, Sign::Semicolon) {
             let (one, end) = self.optional_stmt(next + 1)?;
-            if let Some(stmt) = one {
-                list.push(stmt)?;
-            }
+            push_some(&mut list, one)?;
             next = end;
         }
         list.shrink_to_fit();
@@ -55,6 +54,7 @@ impl<F: Fn(Global, &Tokens<'_>, Word, u32) -> Result<(Items<Stmt>, u32), FrontFa
         requires from { self.now.from < from }
         requires within { from ≤ length self.now.tokens.list.now }
         ensures next { IfOk result (λ read. IsFrom self.now.tokens.list.now from read.1) }
+        ensures spelled { IfOk result (λ read. IsOptionalStmt (between self.now.tokens from read.1) (option_to_list read.0)) }
         ensures refused { IfErr result (IsUnexpected self.now.tokens.file) }
     {
         if !begins_statement(self.tokens.kind(from)) {
@@ -69,6 +69,7 @@ impl<F: Fn(Global, &Tokens<'_>, Word, u32) -> Result<(Items<Stmt>, u32), FrontFa
         requires nested { NestsBodies self.now.from (F.pre self.now.nested) (F.post self.now.nested) }
         requires from { self.now.from < from }
         ensures next { IfOk result (λ read. IsBehind self.now.tokens.list.now from read.1) }
+        ensures spelled { IfOk result (λ read. IsStmt (between self.now.tokens from read.1) read.0) }
         ensures refused { IfErr result (IsUnexpected self.now.tokens.file) }
     {
         match self.tokens.kind(from) {
@@ -87,9 +88,23 @@ impl<F: Fn(Global, &Tokens<'_>, Word, u32) -> Result<(Items<Stmt>, u32), FrontFa
     }
 }
 
+/// Puts a statement behind these, if there is one.
+fn push_some(list: &mut Vec<Stmt>, stmt: Option<Stmt>) -> Result<(), AllocError>
+    ensures { OnOk result (list.new.items ≡ list.old.items ++ option_to_list stmt) }
+{
+    match stmt {
+        Some(stmt) => {
+            list.push(stmt)?;
+            Ok(())
+        }
+        None => Ok(()),
+    }
+}
+
 /// `declare | assign`. Where a lower name stands first, the token behind it tells which.
 fn simple(alloc: Global, tokens: &Tokens<'_>, from: u32) -> Result<(Stmt, u32), FrontFault>
     ensures next { IfOk result (λ read. IsBehind tokens.now.list.now from read.1) }
+    ensures spelled { IfOk result (λ read. IsSimple (between tokens.now from read.1) read.0) }
     ensures refused { IfErr result (IsUnexpected tokens.now.file) }
 {
     if !tokens.is_lower(from) {
@@ -105,6 +120,7 @@ fn simple(alloc: Global, tokens: &Tokens<'_>, from: u32) -> Result<(Stmt, u32), 
 /// `LNAME {"," LNAME} ":" type [":=" expr]`
 fn declare(alloc: Global, tokens: &Tokens<'_>, from: u32) -> Result<(Stmt, u32), FrontFault>
     ensures next { IfOk result (λ read. IsBehind tokens.now.list.now from read.1) }
+    ensures spelled { IfOk result (λ read. IsSimple (between tokens.now from read.1) read.0) }
     ensures refused { IfErr result (IsUnexpected tokens.now.file) }
 {
     let (names, next) = lower_names(alloc, tokens, from)?;
@@ -123,6 +139,7 @@ pub(crate) fn assigned(
 ) -> Result<(Option<Expr>, u32), FrontFault>
     requires { from ≤ length tokens.now.list.now }
     ensures next { IfOk result (λ read. IsFrom tokens.now.list.now from read.1) }
+    ensures spelled { IfOk result (λ read. IsAssigned (between tokens.now from read.1) read.0) }
     ensures refused { IfErr result (IsUnexpected tokens.now.file) }
 {
     if !tokens.is_sign(from, Sign::Assign) {
@@ -139,6 +156,7 @@ fn declare_by_value(
     from: u32,
 ) -> Result<(Stmt, u32), FrontFault>
     ensures next { IfOk result (λ read. IsBehind tokens.now.list.now from read.1) }
+    ensures spelled { IfOk result (λ read. IsSimple (between tokens.now from read.1) read.0) }
     ensures refused { IfErr result (IsUnexpected tokens.now.file) }
 {
     let (name, next) = lower_name(alloc, tokens, from)?;
@@ -152,6 +170,7 @@ fn declare_by_value(
 /// `expr [":=" expr]`
 fn assign(alloc: Global, tokens: &Tokens<'_>, from: u32) -> Result<(Stmt, u32), FrontFault>
     ensures next { IfOk result (λ read. IsBehind tokens.now.list.now from read.1) }
+    ensures spelled { IfOk result (λ read. IsSimple (between tokens.now from read.1) read.0) }
     ensures refused { IfErr result (IsUnexpected tokens.now.file) }
 {
     let (target, next) = read_expr(alloc, tokens, from)?;
@@ -165,6 +184,7 @@ fn assign(alloc: Global, tokens: &Tokens<'_>, from: u32) -> Result<(Stmt, u32), 
 /// `"return" [expr] | "yield" [expr] | "quit" | "raise" expr | "assert" expr`
 fn leave(alloc: Global, tokens: &Tokens<'_>, from: u32) -> Result<(Stmt, u32), FrontFault>
     ensures next { IfOk result (λ read. IsBehind tokens.now.list.now from read.1) }
+    ensures spelled { IfOk result (λ read. IsLeave (between tokens.now from read.1) read.0) }
     ensures refused { IfErr result (IsUnexpected tokens.now.file) }
 {
     let pos = tokens.pos(from);
@@ -198,6 +218,7 @@ fn optional_expr(
 ) -> Result<(Option<Expr>, u32), FrontFault>
     requires { from ≤ length tokens.now.list.now }
     ensures next { IfOk result (λ read. IsFrom tokens.now.list.now from read.1) }
+    ensures spelled { IfOk result (λ read. IsOptionalExpr (between tokens.now from read.1) read.0) }
     ensures refused { IfErr result (IsUnexpected tokens.now.file) }
 {
     if !begins_expression(tokens.kind(from)) {

@@ -2,5 +2,5 @@ mod Innermost
 mod Precedences
 mod SpelledExpressions
 mod SpelledTypes
-mod Stretches
+pub mod Stretches
 mod Taken

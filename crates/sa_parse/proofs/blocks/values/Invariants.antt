@@ -1,9 +1,14 @@
 use Rattle.std.proofs.Common.{length, ◌-◌}
+use Rattle.sa_parse_expr.specs.Lexemes.{between}
 use Rattle.sa_parse_expr.specs.Places.{IsBehind}
+use Rattle.sa_parse.specs.Statements.{IsValues}
 use Rattle.sa_parse.proofs.blocks.values.Given as goal
 
 abbrev pub invariant-more : goal.invariant-more
-invariant-more l = IsBehind l.tokens.list.now l.from l.next
+invariant-more l = record {
+  behind : IsBehind l.tokens.list.now l.from l.next;
+  spelled : IsValues (between l.tokens l.from l.next) l.values;
+}
 
 abbrev pub decreases-more : goal.decreases-more
 decreases-more l = length l.tokens.list.now - l.next

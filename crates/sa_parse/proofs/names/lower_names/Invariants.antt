@@ -1,9 +1,15 @@
 use Rattle.std.proofs.Common.{length, ◌+◌, ◌-◌, ◌≤◌, vec_len}
+use Rattle.sa_parse_expr.specs.Lexemes.{between}
 use Rattle.sa_parse_expr.specs.Places.{IsBehind}
+use Rattle.sa_parse.specs.Names.{IsNames}
 use Rattle.sa_parse.proofs.names.lower_names.Given as goal
 
 abbrev pub invariant-more : goal.invariant-more
-invariant-more l = (IsBehind l.tokens.list.now l.from l.next) × (l.from + vec_len l.names ≤ l.next)
+invariant-more l = record {
+  behind : IsBehind l.tokens.list.now l.from l.next;
+  count : l.from + vec_len l.names ≤ l.next;
+  spelled : IsNames (between l.tokens l.from l.next) l.names.items;
+}
 
 abbrev pub decreases-more : goal.decreases-more
 decreases-more l = length l.tokens.list.now - l.next

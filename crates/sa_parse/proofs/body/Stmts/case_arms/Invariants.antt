@@ -1,9 +1,14 @@
 use Rattle.std.proofs.Common.{length, ◌-◌}
+use Rattle.sa_parse_expr.specs.Lexemes.{between}
 use Rattle.sa_parse_expr.specs.Places.{IsFrom}
+use Rattle.sa_parse.specs.Statements.{IsCaseArms}
 use Rattle.sa_parse.proofs.body.Stmts.case_arms.Given as goal
 
 abbrev pub invariant-more : goal.invariant-more
-invariant-more g l = IsFrom l.self.tokens.list.now l.from l.next
+invariant-more g l = record {
+  behind : IsFrom l.self.tokens.list.now l.from l.next;
+  spelled : IsCaseArms (between l.self.tokens l.from l.next) l.arms;
+}
 
 abbrev pub decreases-more : goal.decreases-more
 decreases-more g l = length l.self.tokens.list.now - l.next

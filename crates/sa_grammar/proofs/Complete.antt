@@ -1,0 +1,69 @@
+-- Complete forms: what lexemes spell is read of them where the next lexeme doesn't go on with it. A lemma for each way to make forms.
+use Rattle.std.proofs.Common.{◌≡◌, ℕ, zero, suc, ◌+◌, ◌<◌, Bool, true, List, [], ◌∷◌, ◌++◌, length, refl, ap, ◌∙◌, append_assoc, arith, length-append}
+use Rattle.sa_lex.specs.declared.sign.Sign.{Sign}
+use Rattle.sa_lex.specs.declared.sign.Sign.TheVariants as sign
+use Rattle.sa_parse_expr.specs.Lexemes.{Lexeme, IsSign}
+use Rattle.sa_grammar.specs.Readings.{Spelling, Read}
+use Rattle.sa_grammar.specs.Tests.{is_sign}
+use Rattle.sa_grammar.specs.Forms.{Form, give, shift, follow, list, make, until, Reader, behind, with_read, listed, run, Nested, Tree}
+use Rattle.sa_grammar.proofs.Tested.{sign_met}
+use Rattle.sa_grammar.proofs.Sound.{Shut, shifted_met, shifted_shut, Separated, last, more, behind_one}
+
+module _ (level : ℕ) (nested : (n : Nested) → Reader (Tree n)) where
+  -- a form reads a tree of these lexemes, and leaves those
+  pub record Reads {A : Type 0} (form : Form A) (ls : List Lexeme) (a : A) (rest : List Lexeme) : Type 0 where
+    pub is : run level nested form ls ≡ Read a rest
+
+module _ {level : ℕ} {nested : (n : Nested) → Reader (Tree n)} where
+  pub reads-give : {A : Type 0} {a : A} {rest : List Lexeme} → Reads level nested (give a) rest a rest
+  reads-give = record { is = refl }
+
+  pub reads-met : {A : Type 0} {test : Lexeme → Bool} {go : Lexeme → Form A} {other : Form A} {l : Lexeme} {ls rest : List Lexeme} {a : A}
+      → test l ≡ true → Reads level nested (go l) ls a rest → Reads level nested (shift test go other) (l ∷ ls) a rest
+  reads-met {test = test} {go = go} {other = other} {l = l} {ls = ls} h r = record {
+    is = shifted_met test (λ l. run level nested (go l)) (run level nested other) l ls h ∙ r.is;
+  }
+
+  pub reads-other : {A : Type 0} {test : Lexeme → Bool} {go : Lexeme → Form A} {other : Form A} {ls rest : List Lexeme} {a : A}
+      → Shut test ls → Reads level nested other ls a rest → Reads level nested (shift test go other) ls a rest
+  reads-other {test = test} {go = go} {other = other} {ls = ls} h r = record {
+    is = shifted_shut test (λ l. run level nested (go l)) (run level nested other) ls h ∙ r.is;
+  }
+
+  pub reads-follow : {A B : Type 0} {first : Form A} {next : A → Form B} {ls mid rest : List Lexeme} {a : A} {b : B}
+      → Reads level nested first ls a mid → Reads level nested (next a) mid b rest → Reads level nested (follow first next) ls b rest
+  reads-follow {next = next} r s = record { is = ap (behind (λ a. run level nested (next a))) r.is ∙ s.is }
+
+  pub reads-make : {A B : Type 0} {form : Form A} {f : A → B} {ls rest : List Lexeme} {a : A}
+      → Reads level nested form ls a rest → Reads level nested (make f form) ls (f a) rest
+  reads-make r = reads-follow r reads-give
+
+  -- a form between other lexemes and the rest
+  pub reads-joined : {A : Type 0} {form : Form A} {left : List Lexeme} {a : A} (front ls rest : List Lexeme)
+      → Reads level nested form (front ++ (ls ++ rest)) a left → Reads level nested form ((front ++ ls) ++ rest) a left
+  reads-joined {form = form} front ls rest r = record { is = ap (run level nested form) (append_assoc front ls rest) ∙ r.is }
+
+  -- up to a sign, and the sign
+  pub reads-until : {A : Type 0} {form : Form A} {sign : Sign} {rest : List Lexeme} {l : Lexeme} {a : A} (ls : List Lexeme)
+      → Reads level nested form (ls ++ l ∷ rest) a (l ∷ rest) → IsSign sign l → Reads level nested (until sign form) ((ls ++ l ∷ []) ++ rest) a rest
+  reads-until {rest = rest} {l = l} ls r closes = reads-joined ls (l ∷ []) rest (reads-follow r (reads-met (sign_met closes) reads-give))
+
+module _ (level : ℕ) (nested : (n : Nested) → Reader (Tree n)) {A : Type 0} (P : Spelling A) (Ends : List Lexeme → Type 0) (item : Form A)
+    (one_read : (ls : List Lexeme) (a : A) (rest : List Lexeme) → P ls a → length ls < level → Ends rest → Reads level nested item (ls ++ rest) a rest)
+    (comma_ends : (l : Lexeme) (rest : List Lexeme) → IsSign sign.Comma l → Ends (l ∷ rest)) where
+  all_listed : (fuel : ℕ) {ls : List Lexeme} {all : List A} (rest : List Lexeme) → Separated P ls all → length ls < level → length ls < fuel
+      → Ends rest → Shut (is_sign sign.Comma) rest → listed fuel (run level nested item) (ls ++ rest) ≡ Read all rest
+  all_listed zero rest s small few ends shut = absurd (omega arith)
+  all_listed (suc fuel) rest (last {ls = ls} {a = a} one) small few ends shut =
+      ap (behind (behind_one fuel (run level nested item))) (one_read ls a rest one small ends).is
+      ∙ shifted_shut (is_sign sign.Comma) (λ _ ms. with_read (λ others. a ∷ others) (listed fuel (run level nested item) ms)) (λ ms. Read (a ∷ []) ms) rest shut
+  all_listed (suc fuel) rest (more {ls = ls} {ms = ms} {comma = comma} {a = a} one parting others) small few ends shut =
+      let sum : length (ls ++ comma ∷ ms) ≡ length ls + suc (length ms) = length-append ls (comma ∷ ms) in
+      ap (λ xs. behind (behind_one fuel (run level nested item)) (run level nested item xs)) (append_assoc ls (comma ∷ ms) rest)
+      ∙ ap (behind (behind_one fuel (run level nested item))) (one_read ls a (comma ∷ (ms ++ rest)) one (omega arith) (comma_ends comma (ms ++ rest) parting)).is
+      ∙ shifted_met (is_sign sign.Comma) (λ _ ms. with_read (λ others. a ∷ others) (listed fuel (run level nested item) ms)) (λ ms. Read (a ∷ []) ms) comma (ms ++ rest) (sign_met parting)
+      ∙ ap (with_read (λ more. a ∷ more)) (all_listed fuel rest others (omega arith) (omega arith) ends shut)
+
+  pub reads-list : {ls : List Lexeme} {all : List A} (rest : List Lexeme) → Separated P ls all → length ls < level
+      → Ends rest → Shut (is_sign sign.Comma) rest → Reads level nested (list item) (ls ++ rest) all rest
+  reads-list rest s small ends shut = record { is = all_listed level rest s small small ends shut }

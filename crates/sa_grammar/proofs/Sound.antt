@@ -1,0 +1,273 @@
+-- Sound forms: what is read is spelled, what is refused is so behind lexemes that begin a tree, and of the lexemes behind those that
+-- are taken a form sees the first one alone. A lemma for each way to make forms.
+use Rattle.std.proofs.Common.{◌≡◌, ℕ, zero, suc, Bool, true, false, cond, List, [], ◌∷◌, ◌++◌, refl, sym, ap, subst, ◌∙◌, append_assoc, append-nil}
+use Rattle.std.proofs.lemmas.Bool.{cond-true, cond-false}
+use Rattle.sa_lex.specs.declared.token.TokenKind.TheVariants as token
+use Rattle.sa_lex.specs.declared.sign.Sign.{Sign}
+use Rattle.sa_lex.specs.declared.sign.Sign.TheVariants as sign
+use Rattle.sa_parse_expr.specs.Lexemes.{Lexeme, IsSign}
+use Rattle.sa_grammar.specs.Readings.{Spelling, Begins, Reading, Read, Refused}
+use Rattle.sa_grammar.specs.Tests.{is_sign}
+use Rattle.sa_grammar.specs.Forms.{Form, give, refuse, shift, follow, list, make, until, Reader, behind, with_read, shifted, listed, run, Nested, Tree}
+use Rattle.sa_grammar.proofs.Tested.{sign_stands, lexeme, a_sign}
+
+-- another list that may stand behind what was taken: it is empty, or begins with the same lexeme
+pub data Agrees : List Lexeme → List Lexeme → Type 0 where
+  ended : {rest : List Lexeme} → Agrees rest []
+  same : {l : Lexeme} {more other : List Lexeme} → Agrees (l ∷ more) (l ∷ other)
+
+pub agree_behind : (front : List Lexeme) {rest other : List Lexeme} → Agrees rest other → Agrees (front ++ rest) (front ++ other)
+agree_behind [] h = h
+agree_behind (l ∷ front) h = same
+
+-- the next lexeme, if there is one, doesn't meet the test
+abbrev pub Shut : (Lexeme → Bool) → List Lexeme → Type 0
+Shut test [] = Unit {0}
+Shut test (l ∷ ls) = test l ≡ false
+
+pub shut_agrees : (test : Lexeme → Bool) {rest other : List Lexeme} → Agrees rest other → Shut test rest → Shut test other
+shut_agrees test ended h = tt
+shut_agrees test same h = h
+
+pub shifted_met : {A : Type 0} (test : Lexeme → Bool) (go : Lexeme → Reader A) (other : Reader A) (l : Lexeme) (ls : List Lexeme) → test l ≡ true → shifted test go other (l ∷ ls) ≡ go l ls
+shifted_met test go other l ls h = cond-true (test l) (go l ls) (other (l ∷ ls)) h
+
+pub shifted_shut : {A : Type 0} (test : Lexeme → Bool) (go : Lexeme → Reader A) (other : Reader A) (ls : List Lexeme) → Shut test ls → shifted test go other ls ≡ other ls
+shifted_shut test go other [] h = refl
+shifted_shut test go other (l ∷ ls) h = cond-false (test l) (go l ls) (other (l ∷ ls)) h
+
+-- what is spelled behind lexemes that are taken
+abbrev pub After : {A : Type 0} → List Lexeme → Spelling A → Spelling A
+After front R ls tree = R (front ++ ls) tree
+
+pub record Took {A : Type 0} (R : Spelling A) (r : Reader A) (ls : List Lexeme) (tree : A) (rest : List Lexeme) : Type 0 where
+  pub front : List Lexeme
+  pub parts : ls ≡ front ++ rest
+  pub spelled : R front tree
+  pub local : (other : List Lexeme) → Agrees rest other → r (front ++ other) ≡ Read tree other
+
+pub record Stopped {A : Type 0} (R : Spelling A) (r : Reader A) (ls rest : List Lexeme) : Type 0 where
+  pub front : List Lexeme
+  pub parts : ls ≡ front ++ rest
+  pub begins : Begins R front
+  pub local : (other : List Lexeme) → Agrees rest other → r (front ++ other) ≡ Refused other
+
+abbrev pub Answers : {A : Type 0} → Spelling A → Reader A → List Lexeme → Reading A → Type 0
+Answers R r ls (Read tree rest) = Took R r ls tree rest
+Answers R r ls (Refused rest) = Stopped R r ls rest
+
+pub record Sound {A : Type 0} (R : Spelling A) (r : Reader A) : Type 0 where
+  pub begins : Begins R []
+  pub answers : (ls : List Lexeme) → Answers R r ls (r ls)
+
+-- ---- nothing is taken
+
+sound-read : {A : Type 0} (R : Spelling A) (a : A) → R [] a → Sound R (λ ls. Read a ls)
+sound-read R a h = record {
+  begins = record { more = []; tree = a; spelled = h };
+  answers = λ ls. record { front = []; parts = refl; spelled = h; local = λ other agree. refl };
+}
+
+pub sound-refused : {A : Type 0} (R : Spelling A) → Begins R [] → Sound R (λ ls. Refused ls)
+sound-refused R h = record {
+  begins = h;
+  answers = λ ls. record { front = []; parts = refl; begins = h; local = λ other agree. refl };
+}
+
+-- ---- a reader behind another
+
+module _ {A B : Type 0} (P : Spelling A) (R : Spelling B) (r : Reader A) (go : A → Reader B)
+    (sound : Sound P r) (inside : (ls : List Lexeme) (a : A) → P ls a → Sound (After ls R) (go a)) where
+  after_read : (ls : List Lexeme) (a : A) (mid : List Lexeme) → Took P r ls a mid → (v : Reading B) (front : List Lexeme) → P front a → ls ≡ front ++ mid
+      → ((other : List Lexeme) → Agrees mid other → r (front ++ other) ≡ Read a other)
+      → Answers (After front R) (go a) mid v → Answers R (λ xs. behind go (r xs)) ls v
+  after_read ls a mid t (Read b rest) front spelled parts local g = record {
+    front = front ++ g.front;
+    parts = parts ∙ ap (λ xs. front ++ xs) g.parts ∙ sym (append_assoc front g.front rest);
+    spelled = g.spelled;
+    local = λ other agree.
+        let seen : Agrees mid (g.front ++ other) = subst (λ xs. Agrees xs (g.front ++ other)) (sym g.parts) (agree_behind g.front agree) in
+        ap (λ xs. behind go (r xs)) (append_assoc front g.front other) ∙ ap (behind go) (local (g.front ++ other) seen) ∙ g.local other agree;
+  }
+  after_read ls a mid t (Refused rest) front spelled parts local g = record {
+    front = front ++ g.front;
+    parts = parts ∙ ap (λ xs. front ++ xs) g.parts ∙ sym (append_assoc front g.front rest);
+    begins = record {
+      more = g.begins.more;
+      tree = g.begins.tree;
+      spelled = subst (λ xs. R xs g.begins.tree) (sym (append_assoc front g.front g.begins.more)) g.begins.spelled;
+    };
+    local = λ other agree.
+        let seen : Agrees mid (g.front ++ other) = subst (λ xs. Agrees xs (g.front ++ other)) (sym g.parts) (agree_behind g.front agree) in
+        ap (λ xs. behind go (r xs)) (append_assoc front g.front other) ∙ ap (behind go) (local (g.front ++ other) seen) ∙ g.local other agree;
+  }
+
+  -- what completes the first one, and what stands behind it
+  completed : (front : List Lexeme) → Begins P front → Begins R front
+  completed front h =
+      let later = (inside (front ++ h.more) h.tree h.spelled).begins in
+      record {
+        more = h.more ++ later.more;
+        tree = later.tree;
+        spelled = subst (λ xs. R xs later.tree) (append_assoc front h.more later.more) later.spelled;
+      }
+
+  behind_answers : (ls : List Lexeme) (v : Reading A) → Answers P r ls v → Answers R (λ xs. behind go (r xs)) ls (behind go v)
+  behind_answers ls (Read a mid) t = after_read ls a mid t (go a mid) t.front t.spelled t.parts t.local ((inside t.front a t.spelled).answers mid)
+  behind_answers ls (Refused rest) s = record {
+    front = s.front;
+    parts = s.parts;
+    begins = completed s.front s.begins;
+    local = λ other agree. ap (behind go) (s.local other agree);
+  }
+
+  sound-behind : Sound R (λ xs. behind go (r xs))
+  sound-behind = record {
+    begins = completed [] sound.begins;
+    answers = λ ls. behind_answers ls (r ls) (sound.answers ls);
+  }
+
+module _ {A B : Type 0} (P : Spelling A) (R : Spelling B) (r : Reader A) (f : A → B) (sound : Sound P r) (up : (ls : List Lexeme) (a : A) → P ls a → R ls (f a)) where
+  with_answers : (ls : List Lexeme) (v : Reading A) → Answers P r ls v → Answers R (λ xs. with_read f (r xs)) ls (with_read f v)
+  with_answers ls (Read a rest) t = record {
+    front = t.front;
+    parts = t.parts;
+    spelled = up t.front a t.spelled;
+    local = λ other agree. ap (with_read f) (t.local other agree);
+  }
+  with_answers ls (Refused rest) s = record {
+    front = s.front;
+    parts = s.parts;
+    begins = record { more = s.begins.more; tree = f s.begins.tree; spelled = up (s.front ++ s.begins.more) s.begins.tree s.begins.spelled };
+    local = λ other agree. ap (with_read f) (s.local other agree);
+  }
+
+  sound-with : Sound R (λ xs. with_read f (r xs))
+  sound-with = record {
+    begins = record { more = sound.begins.more; tree = f sound.begins.tree; spelled = up sound.begins.more sound.begins.tree sound.begins.spelled };
+    answers = λ ls. with_answers ls (r ls) (sound.answers ls);
+  }
+
+as_answers : {A : Type 0} {P R : Spelling A} (r : Reader A) (ls : List Lexeme) → ((ls : List Lexeme) (a : A) → P ls a → R ls a) → (v : Reading A) → Answers P r ls v → Answers R r ls v
+as_answers r ls up (Read a rest) t = record { front = t.front; parts = t.parts; spelled = up t.front a t.spelled; local = t.local }
+as_answers r ls up (Refused rest) s = record {
+  front = s.front;
+  parts = s.parts;
+  begins = record { more = s.begins.more; tree = s.begins.tree; spelled = up (s.front ++ s.begins.more) s.begins.tree s.begins.spelled };
+  local = s.local;
+}
+
+sound-as : {A : Type 0} {P R : Spelling A} {r : Reader A} → Sound P r → ((ls : List Lexeme) (a : A) → P ls a → R ls a) → Sound R r
+sound-as {r = r} sound up = record {
+  begins = record { more = sound.begins.more; tree = sound.begins.tree; spelled = up sound.begins.more sound.begins.tree sound.begins.spelled };
+  answers = λ ls. as_answers r ls up (r ls) (sound.answers ls);
+}
+
+-- ---- a lexeme that meets a test
+
+module _ {A : Type 0} (R : Spelling A) (test : Lexeme → Bool) (go : Lexeme → Reader A) (other : Reader A)
+    (met : (l : Lexeme) → test l ≡ true → Sound (After (l ∷ []) R) (go l)) (without : Sound R other) where
+  -- without such a lexeme
+  without_answers : (ls : List Lexeme) → Shut test ls → (v : Reading A) → Answers R other ls v → Answers R (shifted test go other) ls v
+  without_answers ls shut (Read a rest) t = record {
+    front = t.front;
+    parts = t.parts;
+    spelled = t.spelled;
+    local = λ behind agree.
+        let still : Shut test (t.front ++ behind) = shut_agrees test (agree_behind t.front agree) (subst (Shut test) t.parts shut) in
+        shifted_shut test go other (t.front ++ behind) still ∙ t.local behind agree;
+  }
+  without_answers ls shut (Refused rest) s = record {
+    front = s.front;
+    parts = s.parts;
+    begins = s.begins;
+    local = λ behind agree.
+        let still : Shut test (s.front ++ behind) = shut_agrees test (agree_behind s.front agree) (subst (Shut test) s.parts shut) in
+        shifted_shut test go other (s.front ++ behind) still ∙ s.local behind agree;
+  }
+
+  met_answers : (l : Lexeme) (ls : List Lexeme) → test l ≡ true → (v : Reading A) → Answers (After (l ∷ []) R) (go l) ls v → Answers R (shifted test go other) (l ∷ ls) v
+  met_answers l ls is (Read a rest) t = record {
+    front = l ∷ t.front;
+    parts = ap (λ xs. l ∷ xs) t.parts;
+    spelled = t.spelled;
+    local = λ behind agree. shifted_met test go other l (t.front ++ behind) is ∙ t.local behind agree;
+  }
+  met_answers l ls is (Refused rest) s = record {
+    front = l ∷ s.front;
+    parts = ap (λ xs. l ∷ xs) s.parts;
+    begins = record { more = s.begins.more; tree = s.begins.tree; spelled = s.begins.spelled };
+    local = λ behind agree. shifted_met test go other l (s.front ++ behind) is ∙ s.local behind agree;
+  }
+
+  shifted_answers : (l : Lexeme) (ls : List Lexeme) (is : Bool) → test l ≡ is → Answers R (shifted test go other) (l ∷ ls) (cond is (go l ls) (other (l ∷ ls)))
+  shifted_answers l ls true is = met_answers l ls is (go l ls) ((met l is).answers ls)
+  shifted_answers l ls false is = without_answers (l ∷ ls) is (other (l ∷ ls)) (without.answers (l ∷ ls))
+
+  answers : (ls : List Lexeme) → Answers R (shifted test go other) ls (shifted test go other ls)
+  answers [] = without_answers [] tt (other []) (without.answers [])
+  answers (l ∷ ls) = shifted_answers l ls (test l) refl
+
+  sound-shifted : Sound R (shifted test go other)
+  sound-shifted = record { begins = without.begins; answers = answers }
+
+-- ---- one or several with `,` between them
+
+pub data Separated {A : Type 0} (P : Spelling A) : List Lexeme → List A → Type 0 where
+  last : {ls : List Lexeme} {a : A} → P ls a → Separated P ls (a ∷ [])
+  more : {ls ms : List Lexeme} {comma : Lexeme} {a : A} {others : List A} → P ls a → IsSign sign.Comma comma → Separated P ms others → Separated P (ls ++ comma ∷ ms) (a ∷ others)
+
+-- what follows one of a list: a comma and others, or the end of the list
+abbrev pub behind_one : {A : Type 0} → ℕ → Reader A → A → Reader (List A)
+behind_one fuel item a = shifted (is_sign sign.Comma) (λ _ ms. with_read (λ others. a ∷ others) (listed fuel item ms)) (λ ms. Read (a ∷ []) ms)
+
+module _ {A : Type 0} (P : Spelling A) (item : Reader A) (sound : Sound P item) where
+  sound-listed : (n : ℕ) → Sound (Separated P) (listed n item)
+  sound-listed zero = sound-refused (Separated P) (record { more = sound.begins.more; tree = sound.begins.tree ∷ []; spelled = last sound.begins.spelled })
+  sound-listed (suc n) =
+      sound-behind P (Separated P) item (behind_one n item) sound
+      (λ ls a one. sound-shifted (After ls (Separated P)) (is_sign sign.Comma) (λ _ ms. with_read (λ others. a ∷ others) (listed n item ms)) (λ ms. Read (a ∷ []) ms)
+      (λ comma is. sound-with (Separated P) (After (comma ∷ []) (After ls (Separated P))) (listed n item) (λ others. a ∷ others) (sound-listed n)
+      (λ ms others rest. more one (sign_stands sign.Comma comma is) rest))
+      (sound-read (After ls (Separated P)) (a ∷ []) (rw append-nil (last one))))
+
+-- ---- forms
+
+module _ (level : ℕ) (nested : (n : Nested) → Reader (Tree n)) where
+  -- a form is sound where its reader is
+  pub record IsSound {A : Type 0} (R : Spelling A) (form : Form A) : Type 0 where
+    pub reader : Sound R (run level nested form)
+
+module _ {level : ℕ} {nested : (n : Nested) → Reader (Tree n)} where
+  pub sound-give : {A : Type 0} {R : Spelling A} {a : A} → R [] a → IsSound level nested R (give a)
+  sound-give {R = R} {a = a} h = record { reader = sound-read R a h }
+
+  pub sound-refuse : {A : Type 0} {R : Spelling A} → Begins R [] → IsSound level nested R refuse
+  sound-refuse {R = R} h = record { reader = sound-refused R h }
+
+  pub sound-shift : {A : Type 0} {R : Spelling A} {test : Lexeme → Bool} {go : Lexeme → Form A} {other : Form A}
+      → ((l : Lexeme) → test l ≡ true → IsSound level nested (After (l ∷ []) R) (go l)) → IsSound level nested R other → IsSound level nested R (shift test go other)
+  sound-shift {R = R} {test = test} {go = go} {other = other} met without = record {
+    reader = sound-shifted R test (λ l. run level nested (go l)) (run level nested other) (λ l is. (met l is).reader) without.reader;
+  }
+
+  pub sound-follow : {A B : Type 0} {P : Spelling A} {R : Spelling B} {first : Form A} {next : A → Form B}
+      → IsSound level nested P first → ((ls : List Lexeme) (a : A) → P ls a → IsSound level nested (After ls R) (next a)) → IsSound level nested R (follow first next)
+  sound-follow {P = P} {R = R} {first = first} {next = next} sound inside = record {
+    reader = sound-behind P R (run level nested first) (λ a. run level nested (next a)) sound.reader (λ ls a is. (inside ls a is).reader);
+  }
+
+  pub sound-list : {A : Type 0} {P : Spelling A} {R : Spelling (List A)} {item : Form A}
+      → IsSound level nested P item → ((ls : List Lexeme) (all : List A) → Separated P ls all → R ls all) → IsSound level nested R (list item)
+  sound-list {P = P} {R = R} {item = item} sound up = record { reader = sound-as (sound-listed P (run level nested item) sound.reader level) up }
+
+  pub sound-make : {A B : Type 0} {P : Spelling A} {R : Spelling B} {form : Form A} {f : A → B}
+      → IsSound level nested P form → ((ls : List Lexeme) (a : A) → P ls a → R ls (f a)) → IsSound level nested R (make f form)
+  sound-make sound up = sound-follow sound (λ ls a is. sound-give (rw append-nil (up ls a is)))
+
+  pub sound-until : {A : Type 0} {P : Spelling A} {R : Spelling A} {form : Form A} {sign : Sign}
+      → IsSound level nested P form → ((ls : List Lexeme) (a : A) (l : Lexeme) → P ls a → IsSign sign l → R (ls ++ l ∷ []) a) → IsSound level nested R (until sign form)
+  sound-until {sign = sign} sound up =
+      sound-follow sound (λ ls a is.
+      sound-shift (λ l closes. sound-give (up ls a l is (sign_stands sign l closes)))
+      (sound-refuse (record { more = lexeme (token.Sign sign) ∷ []; tree = a; spelled = up ls a (lexeme (token.Sign sign)) is (a_sign sign) })))

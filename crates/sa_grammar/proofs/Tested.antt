@@ -1,0 +1,60 @@
+-- What tests say of a lexeme, and lexemes that meet them.
+use Rattle.std.proofs.Common.{◌≡◌, true, false, [], refl, sym, ap, ◌∙◌}
+use denote.Enum.Bare.{sameb, same_true, true_same}
+use Rattle.sa_lex.specs.declared.token.TokenKind.{TokenKind}
+use Rattle.sa_lex.specs.declared.token.TokenKind.TheVariants as token
+use Rattle.sa_lex.specs.declared.sign.Sign.{Sign}
+use Rattle.sa_lex.specs.declared.word.Word.{Word}
+use Rattle.sa_lex.specs.contracts.sign.Sign.{the_type as signs}
+use Rattle.sa_lex.specs.contracts.word.Word.{the_type as words}
+use Rattle.sa_parse_expr.specs.Lexemes.{Lexeme, IsWord, IsSign, IsClass, class_name, abstract_name}
+use Rattle.sa_grammar.specs.Tests.{is_sign_kind, is_word_kind, is_class_kind, is_sign, is_word, is_class}
+
+sign_kind : (sign : Sign) (kind : TokenKind) → is_sign_kind sign kind ≡ true → kind ≡ token.Sign sign
+sign_kind sign (token.Sign other) h = ap token.Sign (sym (same_true signs tt sign other h))
+sign_kind sign _ h = cc
+
+word_kind : (word : Word) (kind : TokenKind) → is_word_kind word kind ≡ true → kind ≡ token.Word word
+word_kind word (token.Word other) h = ap token.Word (sym (same_true words tt word other h))
+word_kind word _ h = cc
+
+class_kind : (l : Lexeme) (kind : TokenKind) → l.kind ≡ kind → is_class_kind kind ≡ true → IsClass l
+class_kind l token.ClassName e h = class_name e
+class_kind l token.AbstractName e h = abstract_name e
+class_kind l _ e h = absurd (cc)
+
+pub sign_stands : (sign : Sign) (l : Lexeme) → is_sign sign l ≡ true → IsSign sign l
+sign_stands sign l h = record { kind = sign_kind sign l.kind h }
+
+pub word_stands : (word : Word) (l : Lexeme) → is_word word l ≡ true → IsWord word l
+word_stands word l h = record { kind = word_kind word l.kind h }
+
+pub class_stands : (l : Lexeme) → is_class l ≡ true → IsClass l
+class_stands l h = class_kind l l.kind refl h
+
+pub sign_met : {sign : Sign} {l : Lexeme} → IsSign sign l → is_sign sign l ≡ true
+sign_met {sign = sign} h = ap (is_sign_kind sign) h.kind ∙ true_same signs sign sign refl
+
+pub word_met : {word : Word} {l : Lexeme} → IsWord word l → is_word word l ≡ true
+word_met {word = word} h = ap (is_word_kind word) h.kind ∙ true_same words word word refl
+
+pub class_met : {l : Lexeme} → IsClass l → is_class l ≡ true
+class_met (class_name e) = ap is_class_kind e
+class_met (abstract_name e) = ap is_class_kind e
+
+-- another sign and another word
+pub other_sign : (other : Sign) {sign : Sign} {l : Lexeme} → sameb signs other sign ≡ false → IsSign sign l → is_sign other l ≡ false
+other_sign other h is = ap (is_sign_kind other) is.kind ∙ h
+
+pub other_word : (other : Word) {word : Word} {l : Lexeme} → sameb words other word ≡ false → IsWord word l → is_word other l ≡ false
+other_word other h is = ap (is_word_kind other) is.kind ∙ h
+
+-- a lexeme of this kind
+abbrev pub lexeme : TokenKind → Lexeme
+lexeme kind = record { kind = kind; bytes = []; pos = record { file = 0; at = 0 } }
+
+abbrev pub a_sign : (sign : Sign) → IsSign sign (lexeme (token.Sign sign))
+a_sign sign = record { kind = refl }
+
+abbrev pub a_word : (word : Word) → IsWord word (lexeme (token.Word word))
+a_word word = record { kind = refl }

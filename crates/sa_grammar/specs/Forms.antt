@@ -1,0 +1,71 @@
+-- Forms, in which the grammar is read with one lexeme of sight, and how a form is read.
+use Rattle.std.specs.Prelude.{ℕ, zero, suc, Bool, cond, List, [], ◌∷◌}
+use Rattle.sa_lex.specs.declared.sign.Sign.{Sign}
+use Rattle.sa_lex.specs.declared.sign.Sign.TheVariants as sign
+use Rattle.sa_tree.specs.declared.ty.Ty.{Ty}
+use Rattle.sa_parse_expr.specs.Lexemes.{Lexeme}
+use Rattle.sa_grammar.specs.Readings.{Reading, Read, Refused}
+use Rattle.sa_grammar.specs.Tests.{is_sign}
+
+-- the productions that nest in themselves
+pub data Nested : Type 0 where
+  type : Nested
+
+-- what they spell
+abbrev pub Tree : Nested → Type 0
+Tree type = Ty
+
+-- a form that gives an `A`
+pub data Form : Type 0 → Type 1 where
+  -- nothing is taken
+  give : {A : Type 0} → A → Form A
+  -- what is there is refused
+  refuse : {A : Type 0} → Form A
+  -- a lexeme that meets the test is taken, and the form behind it goes on; without one the other form does
+  shift : {A : Type 0} → (Lexeme → Bool) → (Lexeme → Form A) → Form A → Form A
+  -- one form, and behind it another
+  follow : {A B : Type 0} → Form A → (A → Form B) → Form B
+  -- one or several, with `,` between them
+  list : {A : Type 0} → Form A → Form (List A)
+  -- a production that nests
+  nest : (n : Nested) → Form (Tree n)
+
+-- a form, and something made of what it gives
+abbrev pub make : {A B : Type 0} → (A → B) → Form A → Form B
+make f form = follow form (λ a. give (f a))
+
+-- a form, and a sign behind it
+abbrev pub until : {A : Type 0} → Sign → Form A → Form A
+until s form = follow form (λ a. shift (is_sign s) (λ _. give a) refuse)
+
+abbrev pub Reader : Type 0 → Type 0
+Reader A = List Lexeme → Reading A
+
+abbrev pub behind : {A B : Type 0} → (A → Reader B) → Reading A → Reading B
+behind go (Read tree rest) = go tree rest
+behind go (Refused rest) = Refused rest
+
+abbrev pub with_read : {A B : Type 0} → (A → B) → Reading A → Reading B
+with_read f (Read tree rest) = Read (f tree) rest
+with_read f (Refused rest) = Refused rest
+
+abbrev pub shifted : {A : Type 0} → (Lexeme → Bool) → (Lexeme → Reader A) → Reader A → Reader A
+shifted test go other [] = other []
+shifted test go other (l ∷ ls) = cond (test l) (go l ls) (other (l ∷ ls))
+
+-- at most so many, with `,` between them
+abbrev pub listed : {A : Type 0} → ℕ → Reader A → Reader (List A)
+listed zero item ls = Refused ls
+listed (suc n) item ls =
+    behind
+    (λ a. shifted (is_sign sign.Comma) (λ _ more. with_read (λ others. a ∷ others) (listed n item more)) (λ more. Read (a ∷ []) more))
+    (item ls)
+
+-- how a form is read, to a level, by how productions that nest are
+abbrev pub run : {A : Type 0} → ℕ → ((n : Nested) → Reader (Tree n)) → Form A → Reader A
+run level nested (give a) ls = Read a ls
+run level nested refuse ls = Refused ls
+run level nested (shift test go other) ls = shifted test (λ l. run level nested (go l)) (run level nested other) ls
+run level nested (follow first next) ls = behind (λ a. run level nested (next a)) (run level nested first ls)
+run level nested (list item) ls = listed level (run level nested item) ls
+run level nested (nest n) ls = nested n ls

@@ -1,0 +1,6 @@
+pub mod Forms
+pub mod Grammar
+pub mod Law
+pub mod Readings
+pub mod Tests
+pub mod TypeForms

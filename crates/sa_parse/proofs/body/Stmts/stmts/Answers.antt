@@ -1,0 +1,25 @@
+use Rattle.std.proofs.Common.{◌≡◌, Some, arith, rules}
+use Rattle.sa_lex.specs.declared.token.TokenKind.TheVariants as token
+use Rattle.sa_lex.specs.declared.sign.Sign.TheVariants as sign
+use Rattle.sa_parse_expr.specs.Places.{kind_at}
+use Rattle.sa_parse.proofs.SpelledStatements.{first_stmt, more_stmts, all_stmts}
+use Rattle.sa_parse.proofs.body.Stmts.stmts.Goals as goal
+
+pub more-init : goal.more-init
+more-init g c = record {
+  behind = c.in_ok-first.ensures.next;
+  spelled = first_stmt c.args.self.now.tokens c.args.from _ _ _ c.in_ok-first.ensures.spelled (rw (c.in_ok-push_some.ensures, c.new-list.ensures.items));
+}
+
+pub more-preserved : goal.more-preserved
+more-preserved g c =
+    let begun = c.more.invariant in
+    let semicolon : kind_at c.args.self.now.tokens.list.now c.more.next ≡ Some (token.Sign sign.Semicolon) = search rules in
+    let one = c.in_ok-one.ensures in
+    record {
+      behind = (omega (arith, begun.behind.0, one.next.0), one.next.1);
+      spelled = more_stmts c.args.self.now.tokens c.args.from c.more.next _ _ _ _ semicolon begun.spelled one.spelled begun.behind.0 (omega (arith, one.next.0)) (first_of (cc, search rules, grind arith));
+    }
+
+pub returns-clause-spelled : goal.returns-clause-spelled
+returns-clause-spelled g c = all_stmts c.args.self.now.tokens c.args.from c.more.next _ _ c.more.invariant.spelled (first_of (cc, search rules, grind arith))
