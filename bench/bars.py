@@ -1,5 +1,5 @@
 #!/usr/bin/env python3
-"""bars.py [--program PROGRAM] [--rounds N] [--scale PERCENT] [--only WORD] [--table]
+"""bars.py [--program PROGRAM] [--rounds N] [--scale PERCENT] [--only WORD] [--processor] [--table]
 
 Measures all that has a bar, and prints one table: what is measured, its figure, that of what it is held against, the ratio of the
 two, and the bar.
@@ -13,11 +13,13 @@ two, and the bar.
 
 A time is the best of N runs, 3 without --rounds, the start of the process included. What is held side by side has to print or give
 the same. --scale makes the five modules run that many percent of their rounds. --only measures what has a name with a word in it.
+With --processor a time is what a run takes of the processors, all its threads together: on a machine with other work that says more.
 --table prints the rows as docs/BENCHMARKS.md has them. What needs a tool that is missing is left out, and that is told. The status
 is 1 where a bar is missed or a run fails."""
 import argparse
 import os
 import re
+import resource
 import shutil
 import subprocess
 import sys
@@ -58,6 +60,12 @@ def printed(cells, is_table):
         print('| %s |' % ' | '.join(cells), flush=True)
     else:
         print('%-52s %12s %12s %7s   %s' % cells, flush=True)
+
+
+def processor_seconds():
+    """What the runs so far have taken of the processors."""
+    used = resource.getrusage(resource.RUSAGE_CHILDREN)
+    return used.ru_utime + used.ru_stime
 
 
 def mebibytes(words, folder):
@@ -200,8 +208,11 @@ def main():
     words.add_argument('--rounds', type=int, default=3)
     words.add_argument('--scale', type=int, default=100)
     words.add_argument('--only', default='')
+    words.add_argument('--processor', action='store_true')
     words.add_argument('--table', action='store_true')
     given = words.parse_args()
+    if given.processor:
+        machine.CLOCK = routines.CLOCK = processor_seconds
     well = True
     printed(HEAD, given.table)
     if given.table:

@@ -29,8 +29,8 @@ class Asked:
 
 
 def v8_agrees(host, asked):
-    """V8 judges the module alike and runs it alike. It doesn't tell imports by their types, has a stack of its own, and may lack
-    memory that is there here."""
+    """V8 judges the module alike and runs it alike. It has a stack of its own, and may lack memory that is there here. It doesn't tell
+    imports by their types, so what isn't linked here may be run there, for ever too: of such a module it isn't asked."""
     if host.v8 is None:
         return
     answer = host.v8.ask(asked.module, GIVEN, asked.run and not asked.is_refused())
@@ -38,7 +38,7 @@ def v8_agrees(host, asked):
     valid, run = answer
     if not (valid and asked.may_be_taken() or asked.has(modules.V8_JUDGES_OTHERWISE)):
         require(valid != asked.is_refused(), 'V8 judges a module alike', 'here %s' % asked.wanted.end, 'V8 ' + modules.verdict(valid))
-    if run is not None and not asked.wanted.end.startswith('unlinked') and 'too deep' not in (run.end, asked.wanted.end):
+    if run is not None and 'too deep' not in (run.end, asked.wanted.end):
         require(run == asked.wanted, 'V8 runs a module alike', 'here %s' % asked.wanted, 'V8 %s' % run)
 
 

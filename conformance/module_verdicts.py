@@ -17,7 +17,7 @@ MOST_PAGES = 8192           # a module that may have more memory than this many 
 NO_MEMORY = (b'out of memory\n', 125)
 SECTION = binary.section(0, binary.counted(b'x') + b'any')
 REFUSED = ('malformed', 'invalid')
-NOT_RUN_BY_V8 = ('spent', 'too deep', 'want of memory')
+NOT_RUN_BY_V8 = ('spent', 'too deep', 'want of memory')   # and what isn't linked here, which may run for ever there
 
 
 class Memory(Reader):
@@ -92,4 +92,5 @@ def of_module(host, one):
     end_is_told(module, reading, end)
     require(one.kind != 'valid' or end not in REFUSED, 'a module that is valid is accepted', end)
     (in_full if one.fully else in_short)(host, module, ended)
-    engines_agree(host, Asked(module, end not in NOT_RUN_BY_V8, judges.Run(end, ended.output), reading))
+    run = end not in NOT_RUN_BY_V8 and not end.startswith('unlinked')
+    engines_agree(host, Asked(module, run, judges.Run(end, ended.output), reading))

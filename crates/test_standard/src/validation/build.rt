@@ -179,7 +179,7 @@ fn body(alloc: Global, steps: &[Step]) -> Result<Items<Instr>, Fail> {
             }
             Step::End => {
                 if let Some(block) = open.pop() {
-                    body = closed(block, body)?;
+                    body = closed(alloc, block, body)?;
                 }
             }
             _ => body.push(simple(alloc, *step)?)?,
@@ -189,17 +189,17 @@ fn body(alloc: Global, steps: &[Step]) -> Result<Items<Instr>, Fail> {
 }
 
 /// The instructions before a block, and the block, which ends with these.
-fn closed(block: Open, body: Items<Instr>) -> Result<Items<Instr>, Fail> {
+fn closed(alloc: Global, block: Open, body: Items<Instr>) -> Result<Items<Instr>, Fail> {
     let Open {
         mut before,
         start,
         then,
     } = block;
     before.push(match start {
-        Step::If(ty) => Instr::If(ty, then, body),
-        Step::Loop(ty) => Instr::Loop(ty, body),
-        Step::Block(ty) => Instr::Block(ty, body),
-        _ => Instr::Block(None, body),
+        Step::If(ty) => Instr::if_of(alloc, ty, then, body)?,
+        Step::Loop(ty) => Instr::loop_of(alloc, ty, body)?,
+        Step::Block(ty) => Instr::block_of(alloc, ty, body)?,
+        _ => Instr::block_of(alloc, None, body)?,
     })?;
     Ok(before)
 }
@@ -211,7 +211,7 @@ fn simple(alloc: Global, step: Step) -> Result<Instr, Fail> {
         Step::Br(label) => Instr::Br(label),
         Step::BrIf(label) => Instr::BrIf(label),
         Step::BrTable(labels, default) => {
-            Instr::BrTable(Items::from_slice(alloc, labels)?, default)
+            Instr::br_table_of(alloc, Items::from_slice(alloc, labels)?, default)?
         }
         Step::Call(func) => Instr::Call(func),
         Step::CallIndirect(ty) => Instr::CallIndirect(ty),
