@@ -145,11 +145,12 @@ function leave(error) {
 
 // The worker.
 
-// Lets the main thread do something, waits until it's done, and gives the answer.
+// Lets the main thread do something, waits until it's done, and gives the answer. The main thread marks an answer before it wakes the
+// worker; where the mark was seen already, that wakes the next wait, so a wait is over only when the mark stands.
 function ask(what, counts) {
   Atomics.store(counts, ANSWERED, 0);
   parentPort.postMessage(what);
-  while (Atomics.load(counts, ANSWERED) === 0) Atomics.wait(counts, ANSWERED, 0); // an older answer's notice may wake it early
+  while (Atomics.load(counts, ANSWERED) === 0) Atomics.wait(counts, ANSWERED, 0);
   return receiveMessageOnPort(parentPort)?.message;
 }
 
