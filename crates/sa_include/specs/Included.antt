@@ -64,7 +64,7 @@ pub record BringsAll (number : List ℕ → Option ℕ) (whole : List Class) (c 
   pub at : slice_get whole place ≡ Some included
   pub brings :
       All (IsBrought clause.changes (put_by c included clause) (is_immutable c.kind)
-          (flat_map (signatures_of (is_immutable c.kind)) c.features))
+      (flat_map (signatures_of (is_immutable c.kind)) c.features))
       included.features
 
 -- each clause of each class brings all

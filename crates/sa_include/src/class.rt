@@ -7,7 +7,14 @@ ghost use Rattle.sa_include_conflicts.specs.Sharing.{AreGrouped};
 ghost use Rattle.sa_include_conflicts.specs.Staying.{all_stay};
 ghost use Rattle.sa_tree.specs.declared.rule.Rule.TheVariants as rule;
 ghost use Rattle.sa_include.specs.Refusals.{
-  HasFeatures, IsClauseRefusal, IsGathered, IsOfClause, IsVerdict, IsVerdictAt, at_name, type_pos,
+  HasFeatures,
+  IsClauseRefusal,
+  IsGathered,
+  IsOfClause,
+  IsVerdict,
+  IsVerdictAt,
+  at_name,
+  type_pos,
 };
 ghost use Rattle.sa_include.specs.Resolved.{KnowsIncludes};
 

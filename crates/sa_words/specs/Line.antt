@@ -133,8 +133,8 @@ abbrev pub build_in : List Row → Option Line
 build_in rows =
     option_and_then
     (λ room. option_and_then
-        (λ out. build_into rows room out (first_of (codes "sites") rows) (files_in rows))
-        (first_of (codes "out") rows))
+    (λ out. build_into rows room out (first_of (codes "sites") rows) (files_in rows))
+    (first_of (codes "out") rows))
     (room_in rows)
 
 abbrev pub check_in : List Row → Line
