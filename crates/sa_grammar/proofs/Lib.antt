@@ -2,6 +2,7 @@ pub mod Complete
 pub mod Exact
 pub mod FormsExact
 pub mod Levels
+pub mod Shorter
 pub mod Sound
 pub mod Tested
 pub mod TypeForms
