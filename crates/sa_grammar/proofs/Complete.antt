@@ -1,5 +1,6 @@
 -- Complete forms: what lexemes spell is read of them where the next lexeme doesn't go on with it. A lemma for each way to make forms.
-use Rattle.std.proofs.Common.{◌≡◌, ℕ, zero, suc, ◌+◌, ◌<◌, ◌≤◌, Bool, true, List, [], ◌∷◌, ◌++◌, length, refl, ap, ◌∙◌, append_assoc, arith, length-append}
+use Rattle.std.proofs.Common.{◌≡◌, ℕ, zero, suc, ◌+◌, ◌<◌, ◌≤◌, Bool, true, List, [], ◌∷◌, ◌++◌, length, refl, sym, ap, ◌∙◌, append_assoc, arith, length-append}
+use Rattle.sa_lex.specs.declared.token.TokenKind.{TokenKind}
 use Rattle.sa_lex.specs.declared.sign.Sign.{Sign}
 use Rattle.sa_lex.specs.declared.sign.Sign.TheVariants as sign
 use Rattle.sa_parse_expr.specs.Lexemes.{Lexeme, IsSign}
@@ -9,7 +10,11 @@ use Rattle.sa_grammar.specs.Forms.{Form, give, shift, either, follow, list, repe
 use Rattle.sa_grammar.specs.Forms.{Reader, behind, with_read, place_of, listed, repeated, run, Nested, Tree}
 use Rattle.sa_grammar.proofs.Tested.{sign_met}
 use Rattle.sa_grammar.proofs.Shorter.{behind_one}
-use Rattle.sa_grammar.proofs.Sound.{Shut, shifted_met, shifted_shut, chosen_met, chosen_shut, Separated, last, more}
+use Rattle.sa_grammar.proofs.Sound.{Shut, Meets, shifted_met, shifted_shut, chosen_met, chosen_shut, Separated, last, more}
+
+-- a lexeme, but of this kind
+abbrev pub with_kind : TokenKind → Lexeme → Lexeme
+with_kind kind l = record { kind = kind; bytes = l.bytes; pos = l.pos }
 
 module _ (level : ℕ) (nested : (n : Nested) → Reader (Tree n)) where
   -- a form reads a tree of these lexemes, and leaves those
@@ -40,10 +45,10 @@ module _ {level : ℕ} {nested : (n : Nested) → Reader (Tree n)} where
       → Reads level nested form ls a rest → Reads level nested (make f form) ls (f a) rest
   reads-make r = reads-follow r reads-give
 
-  pub reads-one : {A : Type 0} {one other : Form A} {l : Lexeme} {ls rest : List Lexeme} {a : A}
-      → opens one l ≡ true → Reads level nested one (l ∷ ls) a rest → Reads level nested (either one other) (l ∷ ls) a rest
-  reads-one {one = one} {other = other} {l = l} {ls = ls} h r = record {
-    is = chosen_met (opens one) (run level nested one) (run level nested other) (l ∷ ls) h ∙ r.is;
+  pub reads-first : {A : Type 0} {one other : Form A} {ls rest : List Lexeme} {a : A}
+      → Meets (opens one) ls → Reads level nested one ls a rest → Reads level nested (either one other) ls a rest
+  reads-first {one = one} {other = other} {ls = ls} h r = record {
+    is = chosen_met (opens one) (run level nested one) (run level nested other) ls h ∙ r.is;
   }
 
   pub reads-second : {A : Type 0} {one other : Form A} {ls rest : List Lexeme} {a : A}
@@ -58,6 +63,15 @@ module _ {level : ℕ} {nested : (n : Nested) → Reader (Tree n)} where
 
   pub reads-as : {A : Type 0} {form : Form A} {ls rest : List Lexeme} {a b : A} → a ≡ b → Reads level nested form ls a rest → Reads level nested form ls b rest
   reads-as {rest = rest} e r = record { is = r.is ∙ ap (λ tree. Read tree rest) e }
+
+  -- a form reads of a lexeme of a kind what another one reads, if it does so of one that is written with this kind
+  pub reads-kind : {A : Type 0} {form other : Form A} {l : Lexeme} {kind : TokenKind} {ls ms rest : List Lexeme} {a : A} → l.kind ≡ kind
+      → run level nested form (with_kind kind l ∷ ls) ≡ run level nested other ms → Reads level nested other ms a rest → Reads level nested form (l ∷ ls) a rest
+  reads-kind {form = form} {l = l} {ls = ls} e same r = record { is = ap (λ kind. run level nested form (with_kind kind l ∷ ls)) e ∙ same ∙ r.is }
+
+  pub reads-known : {A : Type 0} {form : Form A} {l : Lexeme} {kind : TokenKind} {ls rest : List Lexeme} {a : A} → l.kind ≡ kind
+      → Reads level nested form (l ∷ ls) a rest → Reads level nested form (with_kind kind l ∷ ls) a rest
+  reads-known {form = form} {l = l} {ls = ls} e r = record { is = ap (λ kind. run level nested form (with_kind kind l ∷ ls)) (sym e) ∙ r.is }
 
   -- a form between other lexemes and the rest
   pub reads-joined : {A : Type 0} {form : Form A} {left : List Lexeme} {a : A} (front ls rest : List Lexeme)

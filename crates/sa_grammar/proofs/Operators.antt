@@ -23,20 +23,20 @@ abbrev pub Precedence : Type 0
 Precedence = first IsOperator
 
 -- the precedence of what these operators are
-abbrev precedence_of : {R : Op → Lexeme → Type 0} {p : Precedence} → ({op : Op} {l : Lexeme} → R op l → IsOperator p op l) → Precedence
+abbrev precedence_of : {R : Op → Lexeme → Type 0} {p : Precedence} → ((op : Op) (l : Lexeme) → R op l → IsOperator p op l) → Precedence
 precedence_of {p = p} gives = p
 
 abbrev pub Logical : Precedence
-Logical = precedence_of {R = IsLogical} exprs.logical
+Logical = precedence_of {R = IsLogical} (λ op l h. exprs.logical h)
 
 abbrev pub Comparing : Precedence
-Comparing = precedence_of {R = IsComparing} exprs.comparing
+Comparing = precedence_of {R = IsComparing} (λ op l h. exprs.comparing h)
 
 abbrev pub Adding : Precedence
-Adding = precedence_of {R = IsAdding} exprs.adding
+Adding = precedence_of {R = IsAdding} (λ op l h. exprs.adding h)
 
 abbrev pub Multiplying : Precedence
-Multiplying = precedence_of {R = IsMultiplying} exprs.multiplying
+Multiplying = precedence_of {R = IsMultiplying} (λ op l h. exprs.multiplying h)
 
 -- ---- what a kind says
 
