@@ -1,6 +1,6 @@
 -- What expressions begin with, and lexemes that spell one.
 use Rattle.std.proofs.Common.{◌≡◌, Bool, true, false, is_some, ◌||◌, List, [], ◌∷◌, ◌++◌, refl, sym, ap, ◌∙◌, true≢false}
-use Rattle.std.proofs.lemmas.Bool.{or_left, or_right}
+use Rattle.std.proofs.lemmas.Bool.{or_left}
 use Rattle.sa_lex.specs.declared.token.TokenKind.{TokenKind}
 use Rattle.sa_lex.specs.declared.token.TokenKind.TheVariants as token
 use Rattle.sa_lex.specs.declared.sign.Sign.{Sign}

@@ -1,17 +1,12 @@
 -- The forms of expressions are complete.
-use Rattle.std.proofs.Common.{◌≡◌, ℕ, zero, suc, ◌+◌, ◌<◌, Bool, true, false, ◌||◌, is_some, List, [], ◌∷◌, ◌++◌, length, refl, sym, ap, ◌∙◌, append_assoc, arith, length-append, Option, Some, None}
-use Rattle.std.proofs.lemmas.Bool.{or_left, or_right}
-use Rattle.sa_lex.specs.declared.token.TokenKind.{TokenKind}
+use Rattle.std.proofs.Common.{◌≡◌, ℕ, zero, suc, ◌+◌, ◌<◌, true, false, List, [], ◌∷◌, ◌++◌, length, refl, ap, ◌∙◌, append_assoc, arith, length-append, Option, Some, None}
 use Rattle.sa_lex.specs.declared.token.TokenKind.TheVariants as token
 use Rattle.sa_lex.specs.declared.sign.Sign.TheVariants as sign
 use Rattle.sa_lex.specs.declared.word.Word.TheVariants as word
-use Rattle.sa_tree.specs.declared.pos.Pos.{Pos}
 use Rattle.sa_tree.specs.declared.ty.Ty.{Ty}
 use Rattle.sa_tree.specs.declared.ty.Mode.TheVariants.{In}
-use Rattle.sa_tree.specs.declared.expr.Op.{Op}
-use Rattle.sa_tree.specs.declared.expr.Op.TheVariants.{Pow}
 use Rattle.sa_tree.specs.declared.expr.Recv.{Recv}
-use Rattle.sa_tree.specs.declared.expr.Recv.TheVariants.{Implied, Of, OfClass}
+use Rattle.sa_tree.specs.declared.expr.Recv.TheVariants.{Implied, OfClass}
 use Rattle.sa_tree.specs.declared.expr.Given.{Given}
 use Rattle.sa_tree.specs.declared.expr.Given.TheVariants.{Value}
 use Rattle.sa_tree.specs.declared.expr.Expr.{Expr}
@@ -25,22 +20,22 @@ use Rattle.sa_parse_expr.specs.Expressions as exprs
 use Rattle.sa_parse_expr.specs.Expressions.{IsTexts, IsOptionalType, IsArg, IsArgs, IsCall, IsExpr, IsExprs, IsIndex, IsParenthesised, IsFirst, IsPost}
 use Rattle.sa_grammar.specs.Arounds.{Around, Where, outside, in_array, around_of}
 use Rattle.sa_grammar.specs.Readings.{Read}
-use Rattle.sa_grammar.specs.Tests.{is_sign, is_word, is_sign_kind, is_word_kind, is_text, text_of, is_text_kind}
+use Rattle.sa_grammar.specs.Tests.{is_sign, is_word, is_sign_kind, is_text, text_of, is_text_kind}
 use Rattle.sa_grammar.specs.Forms.{Form, give, refuse, shift, follow, list, make, until, nest, type, expr, unary, power, post, opens}
 use Rattle.sa_grammar.specs.Forms.{Reader, behind, repeated, run, Nested, Tree}
 use Rattle.sa_grammar.specs.TypeForms.{type_form}
 use Rattle.sa_grammar.specs.ExpressionForms.{arg_form, args_form, named_form, call_form, places_form, inside_form, optional_form, texts_form}
-use Rattle.sa_grammar.specs.ExpressionForms.{items_or, result_or, class_call_form, optional_type_form, first_form, goes_on, going_form, placed_post_form, post_form}
-use Rattle.sa_grammar.proofs.Tested.{sign_met, word_met, class_met, feature_met, other_sign, other_word}
-use Rattle.sa_grammar.proofs.Sound.{Shut, Meets, shifted_met, shifted_shut, place_of_front}
-use Rattle.sa_grammar.proofs.Complete.{Reads, reads-give, reads-met, reads-other, reads-first, reads-second, reads-follow, reads-make, reads-placed, reads-as, reads-kind, reads-known}
-use Rattle.sa_grammar.proofs.Complete.{reads-joined, reads-until, reads-list, with_kind, Gathers, gathers-first, gathers-more, reads-gathered}
+use Rattle.sa_grammar.specs.ExpressionForms.{items_or, result_or, class_call_form, optional_type_form, first_form}
+use Rattle.sa_grammar.proofs.Tested.{sign_met, word_met, feature_met, other_sign, other_word}
+use Rattle.sa_grammar.proofs.Sound.{Shut, Meets, shifted_met, shifted_shut}
+use Rattle.sa_grammar.proofs.Complete.{Reads, reads-give, reads-met, reads-other, reads-first, reads-second, reads-follow, reads-make, reads-kind, reads-known}
+use Rattle.sa_grammar.proofs.Complete.{reads-joined, reads-until, reads-list, with_kind}
 use Rattle.sa_grammar.proofs.TypeForms.{EndsType, sign_ends, type_read}
 use Rattle.sa_grammar.proofs.ExpressionStarts.{begins_expr, meets_front, expr_starts}
 use Rattle.sa_grammar.proofs.ExpressionStarts.{sign_shut, word_shut}
-use Rattle.sa_grammar.proofs.ExpressionEnds.{Ends, begins_type, after_type, after_name, after_first, goes_on_kind, after_post, after_power, after_expr}
+use Rattle.sa_grammar.proofs.ExpressionEnds.{Ends, begins_type, after_type, after_name, after_first, after_post, after_power, after_expr}
 use Rattle.sa_grammar.proofs.ExpressionEnds.{ends_left, ends_right, kind_ends, first_ends_name, first_shuts_paren, ends_type, ends_optional_type, expr_ends_type, expr_shuts_colon}
-use Rattle.sa_grammar.proofs.ExpressionsSound.{Spells, exprs_separated, args_separated, post_some}
+use Rattle.sa_grammar.proofs.ExpressionsSound.{Spells, exprs_separated, args_separated}
 
 -- what doesn't go on with the productions that nest
 abbrev pub EndsOf : Nested → List Lexeme → Type 0

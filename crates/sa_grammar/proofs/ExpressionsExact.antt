@@ -1,6 +1,5 @@
 -- Expressions are read exactly, and lists of them.
-use Rattle.std.proofs.Common.{ℕ, ◌<◌, List, [], ◌++◌, length, refl}
-use Rattle.sa_lex.specs.declared.sign.Sign.TheVariants as sign
+use Rattle.std.proofs.Common.{ℕ, ◌<◌, List, [], ◌++◌, length}
 use Rattle.sa_tree.specs.declared.expr.Expr.{Expr}
 use Rattle.sa_parse_expr.specs.declared.grammar.Scope.{Scope}
 use Rattle.sa_parse_expr.specs.Lexemes.{Lexeme}

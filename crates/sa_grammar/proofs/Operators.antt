@@ -1,5 +1,5 @@
 -- Operators: what is read of them, and names for their precedences, whose enumeration isn't exported.
-use Rattle.std.proofs.Common.{◌≡◌, Bool, true, false, cond, List, [], ◌∷◌, ◌++◌, refl, sym, ap, subst, ◌∙◌, is_some, Option, Some, None}
+use Rattle.std.proofs.Common.{◌≡◌, true, refl, ap, is_some, Option, Some}
 use Rattle.sa_lex.specs.declared.token.TokenKind.{TokenKind}
 use Rattle.sa_lex.specs.declared.token.TokenKind.TheVariants as token
 use Rattle.sa_lex.specs.declared.sign.Sign.{Sign}
@@ -7,7 +7,6 @@ use Rattle.sa_lex.specs.declared.sign.Sign.TheVariants as sign
 use Rattle.sa_lex.specs.declared.word.Word.{Word}
 use Rattle.sa_lex.specs.declared.word.Word.TheVariants as word
 use Rattle.sa_tree.specs.declared.expr.Op.{Op}
-use Rattle.sa_tree.specs.declared.expr.Op.TheVariants.{Plus, Minus, Times, Div, Mod, Lt, Leq, Gt, Geq, Eq, Neq, And, Or, Negate, Not}
 use Rattle.sa_parse_expr.specs.Lexemes.{Lexeme}
 use Rattle.sa_parse_expr.specs.Expressions as exprs
 use Rattle.sa_parse_expr.specs.Expressions.{IsLogical, IsComparing, IsAdding, IsMultiplying, IsOperator, IsPrefix}
