@@ -1,13 +1,20 @@
 -- Complete forms: what lexemes spell is read of them where the next lexeme doesn't go on with it. A lemma for each way to make forms.
-use Rattle.std.proofs.Common.{◌≡◌, ℕ, zero, suc, ◌+◌, ◌<◌, Bool, true, List, [], ◌∷◌, ◌++◌, length, refl, ap, ◌∙◌, append_assoc, arith, length-append}
+use Rattle.std.proofs.Common.{◌≡◌, ℕ, zero, suc, ◌+◌, ◌<◌, ◌≤◌, Bool, true, List, [], ◌∷◌, ◌++◌, length, refl, sym, ap, ◌∙◌, append_assoc, arith, length-append}
+use Rattle.sa_lex.specs.declared.token.TokenKind.{TokenKind}
 use Rattle.sa_lex.specs.declared.sign.Sign.{Sign}
 use Rattle.sa_lex.specs.declared.sign.Sign.TheVariants as sign
 use Rattle.sa_parse_expr.specs.Lexemes.{Lexeme, IsSign}
 use Rattle.sa_grammar.specs.Readings.{Spelling, Read}
 use Rattle.sa_grammar.specs.Tests.{is_sign}
-use Rattle.sa_grammar.specs.Forms.{Form, give, shift, follow, list, make, until, Reader, behind, with_read, listed, run, Nested, Tree}
+use Rattle.sa_grammar.specs.Forms.{Form, give, shift, either, follow, list, repeat, placed, make, until, opens}
+use Rattle.sa_grammar.specs.Forms.{Reader, behind, with_read, place_of, listed, repeated, run, Nested, Tree}
 use Rattle.sa_grammar.proofs.Tested.{sign_met}
-use Rattle.sa_grammar.proofs.Sound.{Shut, shifted_met, shifted_shut, Separated, last, more, behind_one}
+use Rattle.sa_grammar.proofs.Shorter.{behind_one}
+use Rattle.sa_grammar.proofs.Sound.{Shut, Meets, shifted_met, shifted_shut, chosen_met, chosen_shut, Separated, last, more}
+
+-- a lexeme, but of this kind
+abbrev pub with_kind : TokenKind → Lexeme → Lexeme
+with_kind kind l = record { kind = kind; bytes = l.bytes; pos = l.pos }
 
 module _ (level : ℕ) (nested : (n : Nested) → Reader (Tree n)) where
   -- a form reads a tree of these lexemes, and leaves those
@@ -38,6 +45,34 @@ module _ {level : ℕ} {nested : (n : Nested) → Reader (Tree n)} where
       → Reads level nested form ls a rest → Reads level nested (make f form) ls (f a) rest
   reads-make r = reads-follow r reads-give
 
+  pub reads-first : {A : Type 0} {one other : Form A} {ls rest : List Lexeme} {a : A}
+      → Meets (opens one) ls → Reads level nested one ls a rest → Reads level nested (either one other) ls a rest
+  reads-first {one = one} {other = other} {ls = ls} h r = record {
+    is = chosen_met (opens one) (run level nested one) (run level nested other) ls h ∙ r.is;
+  }
+
+  pub reads-second : {A : Type 0} {one other : Form A} {ls rest : List Lexeme} {a : A}
+      → Shut (opens one) ls → Reads level nested other ls a rest → Reads level nested (either one other) ls a rest
+  reads-second {one = one} {other = other} {ls = ls} h r = record {
+    is = chosen_shut (opens one) (run level nested one) (run level nested other) ls h ∙ r.is;
+  }
+
+  pub reads-placed : {A : Type 0} {form : Form A} {ls rest : List Lexeme} {a : A}
+      → Reads level nested form ls a rest → Reads level nested (placed form) ls (place_of ls, a) rest
+  reads-placed {ls = ls} r = record { is = ap (with_read (λ a. (place_of ls, a))) r.is }
+
+  pub reads-as : {A : Type 0} {form : Form A} {ls rest : List Lexeme} {a b : A} → a ≡ b → Reads level nested form ls a rest → Reads level nested form ls b rest
+  reads-as {rest = rest} e r = record { is = r.is ∙ ap (λ tree. Read tree rest) e }
+
+  -- a form reads of a lexeme of a kind what another one reads, if it does so of one that is written with this kind
+  pub reads-kind : {A : Type 0} {form other : Form A} {l : Lexeme} {kind : TokenKind} {ls ms rest : List Lexeme} {a : A} → l.kind ≡ kind
+      → run level nested form (with_kind kind l ∷ ls) ≡ run level nested other ms → Reads level nested other ms a rest → Reads level nested form (l ∷ ls) a rest
+  reads-kind {form = form} {l = l} {ls = ls} e same r = record { is = ap (λ kind. run level nested form (with_kind kind l ∷ ls)) e ∙ same ∙ r.is }
+
+  pub reads-known : {A : Type 0} {form : Form A} {l : Lexeme} {kind : TokenKind} {ls rest : List Lexeme} {a : A} → l.kind ≡ kind
+      → Reads level nested form (l ∷ ls) a rest → Reads level nested form (with_kind kind l ∷ ls) a rest
+  reads-known {form = form} {l = l} {ls = ls} e r = record { is = ap (λ kind. run level nested form (with_kind kind l ∷ ls)) (sym e) ∙ r.is }
+
   -- a form between other lexemes and the rest
   pub reads-joined : {A : Type 0} {form : Form A} {left : List Lexeme} {a : A} (front ls rest : List Lexeme)
       → Reads level nested form (front ++ (ls ++ rest)) a left → Reads level nested form ((front ++ ls) ++ rest) a left
@@ -66,4 +101,55 @@ module _ (level : ℕ) (nested : (n : Nested) → Reader (Tree n)) {A : Type 0} 
 
   pub reads-list : {ls : List Lexeme} {all : List A} (rest : List Lexeme) → Separated P ls all → length ls < level
       → Ends rest → Shut (is_sign sign.Comma) rest → Reads level nested (list item) (ls ++ rest) all rest
-  reads-list rest s small ends shut = record { is = all_listed level rest s small small ends shut }
+  reads-list rest s small ends shut = record { is = all_listed (suc level) rest s small (omega arith) ends shut }
+
+-- ---- as long as a lexeme meets a test
+
+module _ (level : ℕ) (nested : (n : Nested) → Reader (Tree n)) {A : Type 0} (Ends : List Lexeme → Type 0)
+    (first : Form A) (test : Lexeme → Bool) (step : A → Lexeme → Form A) where
+  -- the first form and some turns read a tree of these lexemes, where the rest doesn't go on with the last turn; and others may follow
+  pub record Gathers (ls : List Lexeme) (a : A) : Type 0 where
+    pub fuel : ℕ
+    pub enough : suc level ≤ fuel + length ls
+    pub is : (rest : List Lexeme) → Ends rest
+        → run level nested (follow first (repeat test step)) (ls ++ rest) ≡ repeated fuel test (λ tree l. run level nested (step tree l)) a rest
+
+  pub gathers-first : (ls : List Lexeme) (a : A) → ((rest : List Lexeme) → Ends rest → Reads level nested first (ls ++ rest) a rest) → Gathers ls a
+  gathers-first ls a r = record {
+    fuel = suc level;
+    enough = omega arith;
+    is = λ rest ends. ap (behind (λ tree. run level nested (repeat test step tree))) (r rest ends).is;
+  }
+
+  one_more : (ls : List Lexeme) (a : A) (fuel : ℕ) → suc level ≤ fuel + length ls
+      → ((rest : List Lexeme) → Ends rest → run level nested (follow first (repeat test step)) (ls ++ rest) ≡ repeated fuel test (λ tree l. run level nested (step tree l)) a rest)
+      → length ls < suc level → (l : Lexeme) (ms : List Lexeme) (b : A) → test l ≡ true → ((rest : List Lexeme) → Ends (l ∷ rest))
+      → ((rest : List Lexeme) → Ends rest → Reads level nested (step a l) (ms ++ rest) b rest) → Gathers (ls ++ l ∷ ms) b
+  one_more ls a zero enough is small l ms b met goes r = absurd (omega arith)
+  one_more ls a (suc fuel) enough is small l ms b met goes r =
+      let sum : length (ls ++ l ∷ ms) ≡ length ls + suc (length ms) = length-append ls (l ∷ ms) in
+      let reader = λ (tree : A) (l : Lexeme). run level nested (step tree l) in
+      record {
+        fuel = fuel;
+        enough = omega arith;
+        is = λ rest ends.
+            ap (run level nested (follow first (repeat test step))) (append_assoc ls (l ∷ ms) rest)
+            ∙ is (l ∷ (ms ++ rest)) (goes (ms ++ rest))
+            ∙ shifted_met test (λ l more. behind (repeated fuel test reader) (reader a l more)) (λ more. Read a more) l (ms ++ rest) met
+            ∙ ap (behind (repeated fuel test reader)) (r rest ends).is;
+      }
+
+  pub gathers-more : (ls : List Lexeme) (a : A) → Gathers ls a → length ls < suc level → (l : Lexeme) (ms : List Lexeme) (b : A) → test l ≡ true
+      → ((rest : List Lexeme) → Ends (l ∷ rest)) → ((rest : List Lexeme) → Ends rest → Reads level nested (step a l) (ms ++ rest) b rest) → Gathers (ls ++ l ∷ ms) b
+  gathers-more ls a g small l ms b met goes r = one_more ls a g.fuel g.enough g.is small l ms b met goes r
+
+  all_gathered : (ls : List Lexeme) (a : A) (fuel : ℕ) → suc level ≤ fuel + length ls → length ls < suc level → (rest : List Lexeme) → Shut test rest
+      → repeated fuel test (λ tree l. run level nested (step tree l)) a rest ≡ Read a rest
+  all_gathered ls a zero enough small rest shut = absurd (omega arith)
+  all_gathered ls a (suc fuel) enough small rest shut =
+      let reader = λ (tree : A) (l : Lexeme). run level nested (step tree l) in
+      shifted_shut test (λ l more. behind (repeated fuel test reader) (reader a l more)) (λ more. Read a more) rest shut
+
+  pub reads-gathered : (ls : List Lexeme) (a : A) (rest : List Lexeme) → Gathers ls a → length ls < suc level → Ends rest → Shut test rest
+      → Reads level nested (follow first (repeat test step)) (ls ++ rest) a rest
+  reads-gathered ls a rest g small ends shut = record { is = g.is rest ends ∙ all_gathered ls a g.fuel g.enough small rest shut }

@@ -1,60 +1,22 @@
 -- Two levels above the number of lexemes read the same.
-use Rattle.std.proofs.Common.{◌≡◌, ℕ, zero, suc, ◌<◌, ◌≤◌, Bool, true, false, cond, List, [], ◌∷◌, length, refl, ap, ◌∙◌, arith}
+use Rattle.std.proofs.Common.{◌≡◌, ℕ, zero, suc, ◌<◌, ◌≤◌, Bool, true, false, cond, List, [], ◌∷◌, length, refl, ap, ◌∙◌, arith, Option}
 use Rattle.sa_lex.specs.declared.sign.Sign.TheVariants as sign
+use Rattle.sa_lex.specs.declared.token.TokenKind.{TokenKind}
+use Rattle.sa_tree.specs.declared.expr.Op.{Op}
+use Rattle.sa_tree.specs.declared.expr.Expr.{Expr}
 use Rattle.sa_parse_expr.specs.Lexemes.{Lexeme}
+use Rattle.sa_grammar.specs.Arounds.{Where, outside, in_array}
 use Rattle.sa_grammar.specs.Readings.{Reading, Read, Refused}
-use Rattle.sa_grammar.specs.Tests.{is_sign}
-use Rattle.sa_grammar.specs.Forms.{Form, give, refuse, shift, follow, list, nest, Reader, behind, with_read, shifted, listed, run, Nested, Tree, type}
+use Rattle.sa_grammar.specs.Tests.{is_sign, logical_kind, comparing_kind, adding_kind, multiplying_kind}
+use Rattle.sa_grammar.specs.Forms.{Form, give, refuse, shift, either, follow, list, repeat, placed, nest, type, expr, unary, power, post, opens}
+use Rattle.sa_grammar.specs.Forms.{Reader, behind, with_read, place_of, listed, repeated, run, Nested, Tree}
 use Rattle.sa_grammar.specs.TypeForms.{type_form}
+use Rattle.sa_grammar.specs.ExpressionForms.{first_form, items_or, result_or, class_call_form, placed_post_form, post_form, power_form, unary_form}
+use Rattle.sa_grammar.specs.ExpressionForms.{operation_form, product_form, sum_form, comparison_form, expr_form}
 use Rattle.sa_grammar.specs.Grammar.{form_of, nested_to}
-use Rattle.sa_grammar.proofs.Sound.{behind_one}
-
--- ---- what is left isn't longer
-
-abbrev NoLonger : {A : Type 0} → List Lexeme → Reading A → Type 0
-NoLonger ls (Read tree rest) = length rest ≤ length ls
-NoLonger ls (Refused rest) = Unit {0}
-
-shorter : {A : Type 0} (ls ms : List Lexeme) → length ms ≤ length ls → (v : Reading A) → NoLonger ms v → NoLonger ls v
-shorter ls ms le (Read a rest) h = omega arith
-shorter ls ms le (Refused rest) h = tt
-
-NoLonger-behind : {A B : Type 0} (go : A → Reader B) (ls : List Lexeme) → ((a : A) (ms : List Lexeme) → NoLonger ms (go a ms)) → (v : Reading A) → NoLonger ls v → NoLonger ls (behind go v)
-NoLonger-behind go ls each (Read a mid) h = shorter ls mid h (go a mid) (each a mid)
-NoLonger-behind go ls each (Refused rest) h = tt
-
-NoLonger-with : {A B : Type 0} (f : A → B) (ls : List Lexeme) (v : Reading A) → NoLonger ls v → NoLonger ls (with_read f v)
-NoLonger-with f ls (Read a rest) h = h
-NoLonger-with f ls (Refused rest) h = tt
-
-module _ {A : Type 0} (test : Lexeme → Bool) (go : Lexeme → Reader A) (other : Reader A)
-    (met : (l : Lexeme) (ls : List Lexeme) → NoLonger ls (go l ls)) (without : (ls : List Lexeme) → NoLonger ls (other ls)) where
-  NoLonger-chosen : (b : Bool) (l : Lexeme) (ls : List Lexeme) → NoLonger (l ∷ ls) (cond b (go l ls) (other (l ∷ ls)))
-  NoLonger-chosen true l ls = shorter (l ∷ ls) ls (omega arith) (go l ls) (met l ls)
-  NoLonger-chosen false l ls = without (l ∷ ls)
-
-  NoLonger-shifted : (ls : List Lexeme) → NoLonger ls (shifted test go other ls)
-  NoLonger-shifted [] = without []
-  NoLonger-shifted (l ∷ ls) = NoLonger-chosen (test l) l ls
-
-NoLonger-listed : {A : Type 0} (item : Reader A) → ((ls : List Lexeme) → NoLonger ls (item ls)) → (fuel : ℕ) (ls : List Lexeme) → NoLonger ls (listed fuel item ls)
-NoLonger-listed item each zero ls = tt
-NoLonger-listed item each (suc fuel) ls =
-    NoLonger-behind (behind_one fuel item) ls
-    (λ a ms. NoLonger-shifted (is_sign sign.Comma) (λ _ ms. with_read (λ others. a ∷ others) (listed fuel item ms)) (λ ms. Read (a ∷ []) ms)
-    (λ l ms. NoLonger-with (λ others. a ∷ others) ms (listed fuel item ms) (NoLonger-listed item each fuel ms)) (λ ms. omega arith) ms)
-    (item ls) (each ls)
-
-module _ (level : ℕ) (nested : (n : Nested) → Reader (Tree n)) (each : (n : Nested) (ls : List Lexeme) → NoLonger ls (nested n ls)) where
-  NoLonger-run : {A : Type 0} (form : Form A) (ls : List Lexeme) → NoLonger ls (run level nested form ls)
-  NoLonger-run (give a) ls = omega arith
-  NoLonger-run refuse ls = tt
-  NoLonger-run (shift test go other) ls =
-      NoLonger-shifted test (λ l. run level nested (go l)) (run level nested other) (λ l ms. NoLonger-run (go l) ms) (λ ms. NoLonger-run other ms) ls
-  NoLonger-run (follow first next) ls =
-      NoLonger-behind (λ a. run level nested (next a)) ls (λ a ms. NoLonger-run (next a) ms) (run level nested first ls) (NoLonger-run first ls)
-  NoLonger-run (list item) ls = NoLonger-listed (run level nested item) (λ ms. NoLonger-run item ms) level ls
-  NoLonger-run (nest n) ls = each n ls
+use Rattle.sa_grammar.proofs.Shorter.{NoLonger, NoLonger-run, behind_one}
+use Rattle.sa_parse_expr.specs.declared.grammar.Scope.{Scope}
+use Rattle.sa_parse_expr.specs.declared.grammar.Scope.TheVariants.{Plain, PostClause}
 
 -- ---- readers that read the same of lists of less than so many lexemes
 
@@ -80,13 +42,28 @@ module _ {A : Type 0} (most : ℕ) (item other : Reader A) (short : (ls : List L
       (λ a ms le. behind_one-same f g a (length ls) (λ ms lt. listed-same f g ms (omega arith) (omega arith) (omega arith)) ms le)
       ∙ ap (behind (behind_one g other)) (each ls h)
 
+module _ {A : Type 0} (most : ℕ) (test : Lexeme → Bool) (step other : A → Lexeme → Reader A) (short : (a : A) (l : Lexeme) (ls : List Lexeme) → NoLonger ls (step a l ls))
+    (each : (a : A) (l : Lexeme) (ls : List Lexeme) → length ls < most → step a l ls ≡ other a l ls) where
+  repeated-same : (f g : ℕ) (a : A) (ls : List Lexeme) → length ls ≤ most → length ls < f → length ls < g → repeated f test step a ls ≡ repeated g test other a ls
+  repeated-same zero g a ls h i j = absurd (omega arith)
+  repeated-same (suc f) zero a ls h i j = absurd (omega arith)
+  repeated-same (suc f) (suc g) a [] h i j = refl
+  repeated-same (suc f) (suc g) a (l ∷ ls) h i j =
+      cond-both (test l)
+      (behind-same (repeated f test step) (repeated g test other) ls (step a l ls) (short a l ls) (λ b ms le. repeated-same f g b ms (omega arith) (omega arith) (omega arith))
+      ∙ ap (behind (repeated g test other)) (each a l ls (omega arith)))
+      refl
+
 -- the first lexeme is taken before a production nests
 abbrev Guarded : {A : Type 0} → Form A → Type 0
 Guarded (give a) = Unit {0}
 Guarded refuse = Unit {0}
 Guarded (shift test go other) = Guarded other
+Guarded (either one other) = Guarded one × Guarded other
 Guarded (follow {A = A} first next) = Guarded first × ((a : A) → Guarded (next a))
 Guarded (list item) = ⊥
+Guarded (repeat test step a) = Unit {0}
+Guarded (placed form) = Guarded form
 Guarded (nest n) = ⊥
 
 module _ (most m n : ℕ) (below_m : most ≤ m) (below_n : most ≤ n) (M N : (x : Nested) → Reader (Tree x))
@@ -96,11 +73,17 @@ module _ (most m n : ℕ) (below_m : most ≤ m) (below_n : most ≤ n) (M N : (
   run-same refuse ls h = refl
   run-same (shift test go other) [] h = run-same other [] h
   run-same (shift test go other) (l ∷ ls) h = cond-both (test l) (run-same (go l) ls (omega arith)) (run-same other (l ∷ ls) h)
+  run-same (either one other) [] h = run-same other [] h
+  run-same (either one other) (l ∷ ls) h = cond-both (opens one l) (run-same one (l ∷ ls) h) (run-same other (l ∷ ls) h)
   run-same (follow first next) ls h =
       behind-same (λ a. run m M (next a)) (λ a. run n N (next a)) ls (run m M first ls) (NoLonger-run m M short first ls) (λ a ms le. run-same (next a) ms (omega arith))
       ∙ ap (behind (λ a. run n N (next a))) (run-same first ls h)
   run-same (list item) ls h =
-      listed-same most (run m M item) (run n N item) (λ ms. NoLonger-run m M short item ms) (λ ms lt. run-same item ms lt) m n ls h (omega arith) (omega arith)
+      listed-same most (run m M item) (run n N item) (λ ms. NoLonger-run m M short item ms) (λ ms lt. run-same item ms lt) (suc m) (suc n) ls h (omega arith) (omega arith)
+  run-same (repeat test step a) ls h =
+      repeated-same most test (λ tree l. run m M (step tree l)) (λ tree l. run n N (step tree l)) (λ tree l ms. NoLonger-run m M short (step tree l) ms)
+      (λ tree l ms lt. run-same (step tree l) ms lt) (suc m) (suc n) a ls (omega arith) (omega arith) (omega arith)
+  run-same (placed form) ls h = ap (with_read (λ a. (place_of ls, a))) (run-same form ls h)
   run-same (nest x) ls h = below x ls h
 
   -- a guarded form may have one lexeme more
@@ -109,21 +92,64 @@ module _ (most m n : ℕ) (below_m : most ≤ m) (below_n : most ≤ n) (M N : (
   guarded-same refuse g ls h = refl
   guarded-same (shift test go other) g [] h = guarded-same other g [] h
   guarded-same (shift test go other) g (l ∷ ls) h = cond-both (test l) (run-same (go l) ls (omega arith)) (guarded-same other g (l ∷ ls) h)
+  guarded-same (either one other) g [] h = guarded-same other g.1 [] h
+  guarded-same (either one other) g (l ∷ ls) h = cond-both (opens one l) (guarded-same one g.0 (l ∷ ls) h) (guarded-same other g.1 (l ∷ ls) h)
   guarded-same (follow first next) g ls h =
       behind-same (λ a. run m M (next a)) (λ a. run n N (next a)) ls (run m M first ls) (NoLonger-run m M short first ls) (λ a ms le. guarded-same (next a) (g.1 a) ms (omega arith))
       ∙ ap (behind (λ a. run n N (next a))) (guarded-same first g.0 ls h)
   guarded-same (list item) g ls h = absurd g
+  guarded-same (repeat test step a) g ls h =
+      repeated-same most test (λ tree l. run m M (step tree l)) (λ tree l. run n N (step tree l)) (λ tree l ms. NoLonger-run m M short (step tree l) ms)
+      (λ tree l ms lt. run-same (step tree l) ms lt) (suc m) (suc n) a ls h (omega arith) (omega arith)
+  guarded-same (placed form) g ls h = ap (with_read (λ a. (place_of ls, a))) (guarded-same form g ls h)
   guarded-same (nest x) g ls h = absurd g
 
 -- ---- the productions that nest
 
+guarded_type : Guarded type_form
+unfolding type_form
+guarded_type = tt
+
+guarded_first : (s : Scope) (x : Where) → Guarded (first_form s x)
+unfolding first_form items_or result_or class_call_form
+guarded_first Plain outside = (guarded_type, λ t. tt)
+guarded_first Plain in_array = (guarded_type, λ t. tt)
+guarded_first PostClause outside = (guarded_type, λ t. tt)
+guarded_first PostClause in_array = (guarded_type, λ t. tt)
+
+guarded_post : (s : Scope) (x : Where) → Guarded (post_form s x)
+unfolding post_form placed_post_form
+guarded_post s x = ((guarded_first s x, λ so_far. tt), λ whole. tt)
+
+guarded_power : (s : Scope) (x : Where) → Guarded (power_form s x)
+unfolding power_form
+guarded_power s x = (guarded_post s x, λ a. tt)
+
+guarded_unary : (s : Scope) (x : Where) → Guarded (unary_form s x)
+unfolding unary_form
+guarded_unary s x = guarded_power s x
+
+guarded_operation : (operators : TokenKind → Option Op) (operand : Form Expr) → Guarded operand → Guarded (operation_form operators operand)
+unfolding operation_form
+guarded_operation operators operand h = (h, λ a. tt)
+
+guarded_expr : (s : Scope) (x : Where) → Guarded (expr_form s x)
+unfolding expr_form comparison_form sum_form product_form
+guarded_expr s x =
+    guarded_operation logical_kind (comparison_form s x) (guarded_operation comparing_kind (sum_form s x)
+    (guarded_operation adding_kind (product_form s x) (guarded_operation multiplying_kind (unary_form s x) (guarded_unary s x))))
+
 guarded : (x : Nested) → Guarded (form_of x)
-unfolding form_of type_form
-guarded type = tt
+unfolding form_of
+guarded type = guarded_type
+guarded (expr s x) = guarded_expr s x
+guarded (unary s x) = guarded_unary s x
+guarded (power s x) = guarded_power s x
+guarded (post s x) = guarded_post s x
 
 short_to : (n : ℕ) (x : Nested) (ls : List Lexeme) → NoLonger ls (nested_to n x ls)
 unfolding nested_to
-short_to zero x ls = tt
+short_to zero x ls = omega arith
 short_to (suc n) x ls = NoLonger-run n (nested_to n) (short_to n) (form_of x) ls
 
 levels_same : (most m n : ℕ) → most ≤ m → most ≤ n → (x : Nested) (ls : List Lexeme) → length ls < most → nested_to m x ls ≡ nested_to n x ls

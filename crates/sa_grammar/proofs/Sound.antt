@@ -1,15 +1,18 @@
 -- Sound forms: what is read is spelled, what is refused is so behind lexemes that begin a tree, and of the lexemes behind those that
 -- are taken a form sees the first one alone. A lemma for each way to make forms.
-use Rattle.std.proofs.Common.{◌≡◌, ℕ, zero, suc, Bool, true, false, cond, List, [], ◌∷◌, ◌++◌, refl, sym, ap, subst, ◌∙◌, append_assoc, append-nil}
+use Rattle.std.proofs.Common.{◌≡◌, ℕ, zero, suc, ◌+◌, ◌≤◌, Bool, true, false, cond, List, [], ◌∷◌, ◌++◌, length, refl, sym, ap, subst, ◌∙◌, append_assoc, append-nil, arith, length-append}
 use Rattle.std.proofs.lemmas.Bool.{cond-true, cond-false}
 use Rattle.sa_lex.specs.declared.token.TokenKind.TheVariants as token
 use Rattle.sa_lex.specs.declared.sign.Sign.{Sign}
 use Rattle.sa_lex.specs.declared.sign.Sign.TheVariants as sign
+use Rattle.sa_tree.specs.declared.pos.Pos.{Pos}
 use Rattle.sa_parse_expr.specs.Lexemes.{Lexeme, IsSign}
 use Rattle.sa_grammar.specs.Readings.{Spelling, Begins, Reading, Read, Refused}
 use Rattle.sa_grammar.specs.Tests.{is_sign}
-use Rattle.sa_grammar.specs.Forms.{Form, give, refuse, shift, follow, list, make, until, Reader, behind, with_read, shifted, listed, run, Nested, Tree}
+use Rattle.sa_grammar.specs.Forms.{Form, give, refuse, shift, either, follow, list, repeat, placed, make, until, opens}
+use Rattle.sa_grammar.specs.Forms.{Reader, behind, with_read, shifted, chosen, place_of, listed, repeated, run, Nested, Tree}
 use Rattle.sa_grammar.proofs.Tested.{sign_stands, lexeme, a_sign}
+use Rattle.sa_grammar.proofs.Shorter.{behind_one, NoLonger}
 
 -- another list that may stand behind what was taken: it is empty, or begins with the same lexeme
 pub data Agrees : List Lexeme → List Lexeme → Type 0 where
@@ -217,10 +220,6 @@ pub data Separated {A : Type 0} (P : Spelling A) : List Lexeme → List A → Ty
   last : {ls : List Lexeme} {a : A} → P ls a → Separated P ls (a ∷ [])
   more : {ls ms : List Lexeme} {comma : Lexeme} {a : A} {others : List A} → P ls a → IsSign sign.Comma comma → Separated P ms others → Separated P (ls ++ comma ∷ ms) (a ∷ others)
 
--- what follows one of a list: a comma and others, or the end of the list
-abbrev pub behind_one : {A : Type 0} → ℕ → Reader A → A → Reader (List A)
-behind_one fuel item a = shifted (is_sign sign.Comma) (λ _ ms. with_read (λ others. a ∷ others) (listed fuel item ms)) (λ ms. Read (a ∷ []) ms)
-
 module _ {A : Type 0} (P : Spelling A) (item : Reader A) (sound : Sound P item) where
   sound-listed : (n : ℕ) → Sound (Separated P) (listed n item)
   sound-listed zero = sound-refused (Separated P) (record { more = sound.begins.more; tree = sound.begins.tree ∷ []; spelled = last sound.begins.spelled })
@@ -230,6 +229,143 @@ module _ {A : Type 0} (P : Spelling A) (item : Reader A) (sound : Sound P item) 
       (λ comma is. sound-with (Separated P) (After (comma ∷ []) (After ls (Separated P))) (listed n item) (λ others. a ∷ others) (sound-listed n)
       (λ ms others rest. more one (sign_stands sign.Comma comma is) rest))
       (sound-read (After ls (Separated P)) (a ∷ []) (rw append-nil (last one))))
+
+-- ---- one of two, by a test
+
+-- the next lexeme meets the test
+abbrev pub Meets : (Lexeme → Bool) → List Lexeme → Type 0
+Meets test [] = ⊥
+Meets test (l ∷ ls) = test l ≡ true
+
+pub chosen_met : {A : Type 0} (test : Lexeme → Bool) (one other : Reader A) (ls : List Lexeme) → Meets test ls → chosen test one other ls ≡ one ls
+chosen_met test one other [] h = absurd h
+chosen_met test one other (l ∷ ls) h = cond-true (test l) (one (l ∷ ls)) (other (l ∷ ls)) h
+
+pub chosen_shut : {A : Type 0} (test : Lexeme → Bool) (one other : Reader A) (ls : List Lexeme) → Shut test ls → chosen test one other ls ≡ other ls
+chosen_shut test one other [] h = refl
+chosen_shut test one other (l ∷ ls) h = cond-false (test l) (one (l ∷ ls)) (other (l ∷ ls)) h
+
+module _ {A : Type 0} (R : Spelling A) (test : Lexeme → Bool) (one other : Reader A) (first : Sound R one) (second : Sound R other)
+    (takes : (l : Lexeme) (ls : List Lexeme) → test l ≡ true → NoLonger ls (one (l ∷ ls))) where
+  -- what was taken begins with the lexeme that meets the test
+  still_met : (l : Lexeme) (ls front rest behind : List Lexeme) → l ∷ ls ≡ front ++ rest → length rest ≤ length ls → Meets test (front ++ rest) → Meets test (front ++ behind)
+  still_met l ls [] rest behind parts le is = let size : suc (length ls) ≡ length rest = ap length parts in absurd (omega arith)
+  still_met l ls (f ∷ front) rest behind parts le is = is
+
+  one_answers : (l : Lexeme) (ls : List Lexeme) → test l ≡ true → (v : Reading A) → NoLonger ls v → Answers R one (l ∷ ls) v → Answers R (chosen test one other) (l ∷ ls) v
+  one_answers l ls is (Read a rest) le t = record {
+    front = t.front;
+    parts = t.parts;
+    spelled = t.spelled;
+    local = λ behind agree.
+        let still : Meets test (t.front ++ behind) = still_met l ls t.front rest behind t.parts le (subst (Meets test) t.parts is) in
+        chosen_met test one other (t.front ++ behind) still ∙ t.local behind agree;
+  }
+  one_answers l ls is (Refused rest) le s = record {
+    front = s.front;
+    parts = s.parts;
+    begins = s.begins;
+    local = λ behind agree.
+        let still : Meets test (s.front ++ behind) = still_met l ls s.front rest behind s.parts le (subst (Meets test) s.parts is) in
+        chosen_met test one other (s.front ++ behind) still ∙ s.local behind agree;
+  }
+
+  other_answers : (ls : List Lexeme) → Shut test ls → (v : Reading A) → Answers R other ls v → Answers R (chosen test one other) ls v
+  other_answers ls shut (Read a rest) t = record {
+    front = t.front;
+    parts = t.parts;
+    spelled = t.spelled;
+    local = λ behind agree.
+        let still : Shut test (t.front ++ behind) = shut_agrees test (agree_behind t.front agree) (subst (Shut test) t.parts shut) in
+        chosen_shut test one other (t.front ++ behind) still ∙ t.local behind agree;
+  }
+  other_answers ls shut (Refused rest) s = record {
+    front = s.front;
+    parts = s.parts;
+    begins = s.begins;
+    local = λ behind agree.
+        let still : Shut test (s.front ++ behind) = shut_agrees test (agree_behind s.front agree) (subst (Shut test) s.parts shut) in
+        chosen_shut test one other (s.front ++ behind) still ∙ s.local behind agree;
+  }
+
+  either_answers : (l : Lexeme) (ls : List Lexeme) (is : Bool) → test l ≡ is → Answers R (chosen test one other) (l ∷ ls) (cond is (one (l ∷ ls)) (other (l ∷ ls)))
+  either_answers l ls true is = one_answers l ls is (one (l ∷ ls)) (takes l ls is) (first.answers (l ∷ ls))
+  either_answers l ls false is = other_answers (l ∷ ls) is (other (l ∷ ls)) (second.answers (l ∷ ls))
+
+  chosen_answers : (ls : List Lexeme) → Answers R (chosen test one other) ls (chosen test one other ls)
+  chosen_answers [] = other_answers [] tt (other []) (second.answers [])
+  chosen_answers (l ∷ ls) = either_answers l ls (test l) refl
+
+  sound-chosen : Sound R (chosen test one other)
+  sound-chosen = record { begins = second.begins; answers = chosen_answers }
+
+-- ---- as long as a lexeme meets a test
+
+module _ {A : Type 0} (R : Spelling A) (test : Lexeme → Bool) (step : A → Lexeme → Reader A)
+    (goes : (ls : List Lexeme) (a : A) → R ls a → (l : Lexeme) → test l ≡ true → Sound (After (l ∷ []) (After ls R)) (step a l)) where
+  sound-repeated : (n : ℕ) (ls : List Lexeme) (a : A) → R ls a → Sound (After ls R) (repeated n test step a)
+  sound-repeated zero ls a h = sound-refused (After ls R) (record { more = []; tree = a; spelled = rw append-nil h })
+  sound-repeated (suc n) ls a h =
+      sound-shifted (After ls R) test (λ l more. behind (repeated n test step) (step a l more)) (λ more. Read a more)
+      (λ l is. sound-behind (After (l ∷ []) (After ls R)) (After (l ∷ []) (After ls R)) (step a l) (repeated n test step) (goes ls a h l is)
+      (λ ms b k. sound-as (sound-repeated n (ls ++ l ∷ ms) b k) (λ xs c j. subst (λ zs. R zs c) (append_assoc ls (l ∷ ms) xs) j)))
+      (sound-read (After ls R) a (rw append-nil h))
+
+-- ---- with the position where it begins
+
+pub data Placed {A : Type 0} (P : Spelling A) : List Lexeme → Pos × A → Type 0 where
+  stands : {l : Lexeme} {ls : List Lexeme} {a : A} → P (l ∷ ls) a → Placed P (l ∷ ls) (l.pos, a)
+
+module _ {A : Type 0} (P : Spelling A) (some : (a : A) → P [] a → ⊥) where
+  pub place_of_front : (front rest : List Lexeme) (a : A) → P front a → place_of (front ++ rest) ≡ place_of front
+  place_of_front [] rest a h = absurd (some a h)
+  place_of_front (l ∷ front) rest a h = refl
+
+  pub placed_spelled : (ls : List Lexeme) (a : A) → P ls a → Placed P ls (place_of ls, a)
+  placed_spelled [] a h = absurd (some a h)
+  placed_spelled (l ∷ ls) a h = stands h
+
+  placed_answers : (r : Reader A) (ls : List Lexeme) (v : Reading A) → Answers P r ls v
+      → Answers (Placed P) (λ xs. with_read (λ a. (place_of xs, a)) (r xs)) ls (with_read (λ a. (place_of ls, a)) v)
+  placed_answers r ls (Read a rest) t =
+      let place : place_of ls ≡ place_of t.front = ap place_of t.parts ∙ place_of_front t.front rest a t.spelled in
+      record {
+        front = t.front;
+        parts = t.parts;
+        spelled = subst (λ p. Placed P t.front (p, a)) (sym place) (placed_spelled t.front a t.spelled);
+        local = λ other agree.
+            ap (with_read (λ b. (place_of (t.front ++ other), b))) (t.local other agree)
+            ∙ ap (λ p. Read (p, a) other) (place_of_front t.front other a t.spelled ∙ sym place);
+      }
+  placed_answers r ls (Refused rest) s = record {
+    front = s.front;
+    parts = s.parts;
+    begins = record {
+      more = s.begins.more;
+      tree = (place_of (s.front ++ s.begins.more), s.begins.tree);
+      spelled = placed_spelled (s.front ++ s.begins.more) s.begins.tree s.begins.spelled;
+    };
+    local = λ other agree. ap (with_read (λ b. (place_of (s.front ++ other), b))) (s.local other agree);
+  }
+
+  sound-with_place : (r : Reader A) → Sound P r → Sound (Placed P) (λ xs. with_read (λ a. (place_of xs, a)) (r xs))
+  sound-with_place r sound = record {
+    begins = record {
+      more = sound.begins.more;
+      tree = (place_of sound.begins.more, sound.begins.tree);
+      spelled = placed_spelled sound.begins.more sound.begins.tree sound.begins.spelled;
+    };
+    answers = λ ls. placed_answers r ls (r ls) (sound.answers ls);
+  }
+
+-- ---- what a sound reader leaves isn't longer
+
+answered_shorter : {A : Type 0} (R : Spelling A) (r : Reader A) (ls : List Lexeme) (v : Reading A) → Answers R r ls v → NoLonger ls v
+answered_shorter R r ls (Read a rest) t = let sum : length ls ≡ length t.front + length rest = ap length t.parts ∙ length-append t.front rest in omega arith
+answered_shorter R r ls (Refused rest) s = let sum : length ls ≡ length s.front + length rest = ap length s.parts ∙ length-append s.front rest in omega arith
+
+pub sound_shorter : {A : Type 0} (R : Spelling A) (r : Reader A) → Sound R r → (ls : List Lexeme) → NoLonger ls (r ls)
+sound_shorter R r sound ls = answered_shorter R r ls (r ls) (sound.answers ls)
 
 -- ---- forms
 
@@ -259,7 +395,27 @@ module _ {level : ℕ} {nested : (n : Nested) → Reader (Tree n)} where
 
   pub sound-list : {A : Type 0} {P : Spelling A} {R : Spelling (List A)} {item : Form A}
       → IsSound level nested P item → ((ls : List Lexeme) (all : List A) → Separated P ls all → R ls all) → IsSound level nested R (list item)
-  sound-list {P = P} {R = R} {item = item} sound up = record { reader = sound-as (sound-listed P (run level nested item) sound.reader level) up }
+  sound-list {P = P} {R = R} {item = item} sound up = record { reader = sound-as (sound-listed P (run level nested item) sound.reader (suc level)) up }
+
+  pub sound-either : {A : Type 0} {R : Spelling A} {one other : Form A}
+      → IsSound level nested R one → IsSound level nested R other → ((l : Lexeme) (ls : List Lexeme) → opens one l ≡ true → NoLonger ls (run level nested one (l ∷ ls)))
+      → IsSound level nested R (either one other)
+  sound-either {R = R} {one = one} {other = other} first second takes = record {
+    reader = sound-chosen R (opens one) (run level nested one) (run level nested other) first.reader second.reader takes;
+  }
+
+  pub sound-repeat : {A : Type 0} {R : Spelling A} {test : Lexeme → Bool} {step : A → Lexeme → Form A} (ls : List Lexeme) {a : A}
+      → R ls a → ((ls : List Lexeme) (a : A) → R ls a → (l : Lexeme) → test l ≡ true → IsSound level nested (After (l ∷ []) (After ls R)) (step a l))
+      → IsSound level nested (After ls R) (repeat test step a)
+  sound-repeat {R = R} {test = test} {step = step} ls {a = a} h goes = record {
+    reader = sound-repeated R test (λ tree l. run level nested (step tree l)) (λ ms b k l is. (goes ms b k l is).reader) (suc level) ls a h;
+  }
+
+  pub sound-placed : {A : Type 0} {P : Spelling A} {form : Form A} → ((a : A) → P [] a → ⊥) → IsSound level nested P form → IsSound level nested (Placed P) (placed form)
+  sound-placed {P = P} {form = form} some sound = record { reader = sound-with_place P some (run level nested form) sound.reader }
+
+  pub sound-up : {A : Type 0} {P R : Spelling A} {form : Form A} → IsSound level nested P form → ((ls : List Lexeme) (a : A) → P ls a → R ls a) → IsSound level nested R form
+  sound-up sound up = record { reader = sound-as sound.reader up }
 
   pub sound-make : {A B : Type 0} {P : Spelling A} {R : Spelling B} {form : Form A} {f : A → B}
       → IsSound level nested P form → ((ls : List Lexeme) (a : A) → P ls a → R ls (f a)) → IsSound level nested R (make f form)

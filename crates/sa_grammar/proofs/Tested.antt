@@ -7,8 +7,9 @@ use Rattle.sa_lex.specs.declared.sign.Sign.{Sign}
 use Rattle.sa_lex.specs.declared.word.Word.{Word}
 use Rattle.sa_lex.specs.contracts.sign.Sign.{the_type as signs}
 use Rattle.sa_lex.specs.contracts.word.Word.{the_type as words}
-use Rattle.sa_parse_expr.specs.Lexemes.{Lexeme, IsWord, IsSign, IsClass, class_name, abstract_name}
-use Rattle.sa_grammar.specs.Tests.{is_sign_kind, is_word_kind, is_class_kind, is_sign, is_word, is_class}
+use Rattle.sa_parse_expr.specs.Lexemes.{Lexeme, IsWord, IsSign, IsClass, class_name, abstract_name, IsFeature, lower_name, iter_name}
+use Rattle.sa_grammar.specs.Tests.{is_sign_kind, is_word_kind, is_class_kind, is_feature_kind, is_number_kind, is_character_kind, is_text_kind}
+use Rattle.sa_grammar.specs.Tests.{is_sign, is_word, is_class, is_feature, is_number, is_character, is_text, value_of_kind, text_of_kind, value_of, text_of}
 
 sign_kind : (sign : Sign) (kind : TokenKind) → is_sign_kind sign kind ≡ true → kind ≡ token.Sign sign
 sign_kind sign (token.Sign other) h = ap token.Sign (sym (same_true signs tt sign other h))
@@ -23,6 +24,23 @@ class_kind l token.ClassName e h = class_name e
 class_kind l token.AbstractName e h = abstract_name e
 class_kind l _ e h = absurd (cc)
 
+feature_kind : (l : Lexeme) (kind : TokenKind) → l.kind ≡ kind → is_feature_kind kind ≡ true → IsFeature l
+feature_kind l token.Lower e h = lower_name e
+feature_kind l token.IterName e h = iter_name e
+feature_kind l _ e h = absurd (cc)
+
+number_kind : (kind : TokenKind) → is_number_kind kind ≡ true → kind ≡ token.Int (value_of_kind kind)
+number_kind (token.Int value) h = refl
+number_kind _ h = cc
+
+character_kind : (kind : TokenKind) → is_character_kind kind ≡ true → kind ≡ token.Char (value_of_kind kind)
+character_kind (token.Char byte) h = refl
+character_kind _ h = cc
+
+text_kind : (kind : TokenKind) → is_text_kind kind ≡ true → kind ≡ token.Text (text_of_kind kind)
+text_kind (token.Text bytes) h = refl
+text_kind _ h = cc
+
 pub sign_stands : (sign : Sign) (l : Lexeme) → is_sign sign l ≡ true → IsSign sign l
 sign_stands sign l h = record { kind = sign_kind sign l.kind h }
 
@@ -31,6 +49,18 @@ word_stands word l h = record { kind = word_kind word l.kind h }
 
 pub class_stands : (l : Lexeme) → is_class l ≡ true → IsClass l
 class_stands l h = class_kind l l.kind refl h
+
+pub feature_stands : (l : Lexeme) → is_feature l ≡ true → IsFeature l
+feature_stands l h = feature_kind l l.kind refl h
+
+pub number_stands : (l : Lexeme) → is_number l ≡ true → l.kind ≡ token.Int (value_of l)
+number_stands l h = number_kind l.kind h
+
+pub character_stands : (l : Lexeme) → is_character l ≡ true → l.kind ≡ token.Char (value_of l)
+character_stands l h = character_kind l.kind h
+
+pub text_stands : (l : Lexeme) → is_text l ≡ true → l.kind ≡ token.Text (text_of l)
+text_stands l h = text_kind l.kind h
 
 pub sign_met : {sign : Sign} {l : Lexeme} → IsSign sign l → is_sign sign l ≡ true
 sign_met {sign = sign} h = ap (is_sign_kind sign) h.kind ∙ true_same signs sign sign refl
@@ -41,6 +71,10 @@ word_met {word = word} h = ap (is_word_kind word) h.kind ∙ true_same words wor
 pub class_met : {l : Lexeme} → IsClass l → is_class l ≡ true
 class_met (class_name e) = ap is_class_kind e
 class_met (abstract_name e) = ap is_class_kind e
+
+pub feature_met : {l : Lexeme} → IsFeature l → is_feature l ≡ true
+feature_met (lower_name e) = ap is_feature_kind e
+feature_met (iter_name e) = ap is_feature_kind e
 
 -- another sign and another word
 pub other_sign : (other : Sign) {sign : Sign} {l : Lexeme} → sameb signs other sign ≡ false → IsSign sign l → is_sign other l ≡ false

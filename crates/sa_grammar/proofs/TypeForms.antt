@@ -87,7 +87,7 @@ module _ (level : ℕ) (nested : (n : Nested) → Reader (Tree n)) (inside : Sou
   unfolding bound_result_form
   sound_result = sound-shift (λ colon is. sound-make sound_nested (λ ls t one. types.of_result (sign_stands sign.Colon colon is) one)) (sound-give types.no_result)
 
-  sound_type : IsSound level nested IsType type_form
+  pub sound_type : IsSound level nested IsType type_form
   unfolding type_form
   sound_type =
       sound-shift (λ c is. sound-make sound_given (λ ls given first. types.named (class_stands c is) first))
@@ -202,7 +202,7 @@ module _ (level : ℕ) (nested : (n : Nested) → Reader (Tree n))
       reads-joined ls ms rest
       (reads-follow (args_read callable (ms ++ rest) first (omega arith) (result_shut rest second ends.brace)) (reads-make (result_read rest second (omega arith) ends)))
 
-  type_read : {ls : List Lexeme} {t : Ty} (rest : List Lexeme) → IsType ls t → length ls < suc level → EndsType rest → Reads level nested type_form (ls ++ rest) t rest
+  pub type_read : {ls : List Lexeme} {t : Ty} (rest : List Lexeme) → IsType ls t → length ls < suc level → EndsType rest → Reads level nested type_form (ls ++ rest) t rest
   unfolding type_form
   type_read rest (types.named class given) small ends = reads-met (class_met class) (reads-make (given_read rest given (omega arith) ends.brace))
   type_read rest (types.same is) small ends = reads-other (ap is_class_kind is.kind) (reads-met (word_met is) reads-give)

@@ -1,19 +1,31 @@
 -- Forms, in which the grammar is read with one lexeme of sight, and how a form is read.
-use Rattle.std.specs.Prelude.{ℕ, zero, suc, Bool, cond, List, [], ◌∷◌}
+use Rattle.std.specs.Prelude.{ℕ, zero, suc, Bool, false, cond, ◌||◌, List, [], ◌∷◌}
 use Rattle.sa_lex.specs.declared.sign.Sign.{Sign}
 use Rattle.sa_lex.specs.declared.sign.Sign.TheVariants as sign
+use Rattle.sa_tree.specs.declared.pos.Pos.{Pos}
 use Rattle.sa_tree.specs.declared.ty.Ty.{Ty}
+use Rattle.sa_tree.specs.declared.expr.Expr.{Expr}
+use Rattle.sa_parse_expr.specs.declared.grammar.Scope.{Scope}
 use Rattle.sa_parse_expr.specs.Lexemes.{Lexeme}
+use Rattle.sa_grammar.specs.Arounds.{Where}
 use Rattle.sa_grammar.specs.Readings.{Reading, Read, Refused}
 use Rattle.sa_grammar.specs.Tests.{is_sign}
 
 -- the productions that nest in themselves
 pub data Nested : Type 0 where
   type : Nested
+  expr : Scope → Where → Nested
+  unary : Scope → Where → Nested
+  power : Scope → Where → Nested
+  post : Scope → Where → Nested
 
 -- what they spell
 abbrev pub Tree : Nested → Type 0
 Tree type = Ty
+Tree (expr s x) = Expr
+Tree (unary s x) = Expr
+Tree (power s x) = Expr
+Tree (post s x) = Expr
 
 -- a form that gives an `A`
 pub data Form : Type 0 → Type 1 where
@@ -23,10 +35,16 @@ pub data Form : Type 0 → Type 1 where
   refuse : {A : Type 0} → Form A
   -- a lexeme that meets the test is taken, and the form behind it goes on; without one the other form does
   shift : {A : Type 0} → (Lexeme → Bool) → (Lexeme → Form A) → Form A → Form A
+  -- the first form where it opens with the next lexeme, and the second one where it doesn't
+  either : {A : Type 0} → Form A → Form A → Form A
   -- one form, and behind it another
   follow : {A B : Type 0} → Form A → (A → Form B) → Form B
   -- one or several, with `,` between them
   list : {A : Type 0} → Form A → Form (List A)
+  -- as long as a lexeme meets the test it is taken, and the form behind it makes another tree of the one so far
+  repeat : {A : Type 0} → (Lexeme → Bool) → (A → Lexeme → Form A) → A → Form A
+  -- a form, with the position where it begins
+  placed : {A : Type 0} → Form A → Form (Pos × A)
   -- a production that nests
   nest : (n : Nested) → Form (Tree n)
 
@@ -37,6 +55,18 @@ make f form = follow form (λ a. give (f a))
 -- a form, and a sign behind it
 abbrev pub until : {A : Type 0} → Sign → Form A → Form A
 until s form = follow form (λ a. shift (is_sign s) (λ _. give a) refuse)
+
+-- whether a form takes this lexeme first; of a production that nests it isn't asked
+abbrev pub opens : {A : Type 0} → Form A → Lexeme → Bool
+opens (give a) l = false
+opens refuse l = false
+opens (shift test go other) l = test l || opens other l
+opens (either one other) l = opens one l || opens other l
+opens (follow first next) l = opens first l
+opens (list item) l = opens item l
+opens (repeat test step a) l = test l
+opens (placed form) l = opens form l
+opens (nest n) l = false
 
 abbrev pub Reader : Type 0 → Type 0
 Reader A = List Lexeme → Reading A
@@ -53,7 +83,16 @@ abbrev pub shifted : {A : Type 0} → (Lexeme → Bool) → (Lexeme → Reader A
 shifted test go other [] = other []
 shifted test go other (l ∷ ls) = cond (test l) (go l ls) (other (l ∷ ls))
 
--- at most so many, with `,` between them
+abbrev pub chosen : {A : Type 0} → (Lexeme → Bool) → Reader A → Reader A → Reader A
+chosen test one other [] = other []
+chosen test one other (l ∷ ls) = cond (test l) (one (l ∷ ls)) (other (l ∷ ls))
+
+-- the position of the first lexeme, and any where there is none
+abbrev pub place_of : List Lexeme → Pos
+place_of [] = record { file = 0; at = 0 }
+place_of (l ∷ ls) = l.pos
+
+-- one or several with `,` between them, so many at most
 abbrev pub listed : {A : Type 0} → ℕ → Reader A → Reader (List A)
 listed zero item ls = Refused ls
 listed (suc n) item ls =
@@ -61,11 +100,19 @@ listed (suc n) item ls =
     (λ a. shifted (is_sign sign.Comma) (λ _ more. with_read (λ others. a ∷ others) (listed n item more)) (λ more. Read (a ∷ []) more))
     (item ls)
 
+-- one less than so many turns at most
+abbrev pub repeated : {A : Type 0} → ℕ → (Lexeme → Bool) → (A → Lexeme → Reader A) → A → Reader A
+repeated zero test step a ls = Refused ls
+repeated (suc n) test step a ls = shifted test (λ l more. behind (repeated n test step) (step a l more)) (λ more. Read a more) ls
+
 -- how a form is read, to a level, by how productions that nest are
 abbrev pub run : {A : Type 0} → ℕ → ((n : Nested) → Reader (Tree n)) → Form A → Reader A
 run level nested (give a) ls = Read a ls
 run level nested refuse ls = Refused ls
 run level nested (shift test go other) ls = shifted test (λ l. run level nested (go l)) (run level nested other) ls
+run level nested (either one other) ls = chosen (opens one) (run level nested one) (run level nested other) ls
 run level nested (follow first next) ls = behind (λ a. run level nested (next a)) (run level nested first ls)
-run level nested (list item) ls = listed level (run level nested item) ls
+run level nested (list item) ls = listed (suc level) (run level nested item) ls
+run level nested (repeat test step a) ls = repeated (suc level) test (λ tree l. run level nested (step tree l)) a ls
+run level nested (placed form) ls = with_read (λ a. (place_of ls, a)) (run level nested form ls)
 run level nested (nest n) ls = nested n ls

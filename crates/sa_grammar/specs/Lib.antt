@@ -1,3 +1,5 @@
+pub mod Arounds
+pub mod ExpressionForms
 pub mod Forms
 pub mod Grammar
 pub mod Law

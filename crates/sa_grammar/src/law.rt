@@ -1,5 +1,6 @@
 //! The law, as what functions of empty bodies ensure.
 
+ghost use Rattle.sa_grammar.specs.Law.{ExprsAreRead, ListsOfExprsAreRead, OneExpr, OneListOfExprs, OnePost, PostsAreRead};
 ghost use Rattle.sa_grammar.specs.Law.{ListsOfTypesAreRead, OneListOfTypes, OneType, TypesAreRead};
 
 /// Lexemes spell one type at most.
@@ -20,4 +21,34 @@ pub fn one_list_of_types()
 /// Lexemes are read as far as they begin a list of types.
 pub fn lists_of_types_are_read()
     ensures { ListsOfTypesAreRead }
+{}
+
+/// Lexemes spell one expression at most.
+pub fn one_expr()
+    ensures { OneExpr }
+{}
+
+/// Lexemes are read as far as they begin an expression.
+pub fn exprs_are_read()
+    ensures { ExprsAreRead }
+{}
+
+/// Lexemes spell one expression without operators at most.
+pub fn one_post()
+    ensures { OnePost }
+{}
+
+/// Lexemes are read as far as they begin an expression without operators.
+pub fn posts_are_read()
+    ensures { PostsAreRead }
+{}
+
+/// Lexemes spell one list of expressions at most.
+pub fn one_list_of_exprs()
+    ensures { OneListOfExprs }
+{}
+
+/// Lexemes are read as far as they begin a list of expressions.
+pub fn lists_of_exprs_are_read()
+    ensures { ListsOfExprsAreRead }
 {}

@@ -1,7 +1,10 @@
-//! The grammar, as a law of the definitions of `sa_parse_expr`: lexemes spell one type at most, and they are read as far as they begin
-//! one. No code runs this.
+//! The grammar, as a law of the definitions of `sa_parse_expr`: lexemes spell one type and one expression at most, and they are read as
+//! far as they begin one. No code runs this.
 #![tactic(auto)]
 
 mod law;
 
-pub use law::{lists_of_types_are_read, one_list_of_types, one_type, types_are_read};
+pub use law::{
+    exprs_are_read, lists_of_exprs_are_read, lists_of_types_are_read, one_expr, one_list_of_exprs,
+    one_list_of_types, one_post, one_type, posts_are_read, types_are_read,
+};

@@ -1,0 +1,55 @@
+-- The productions that nest, at each level: sound and complete.
+use Rattle.std.proofs.Common.{◌≡◌, ℕ, zero, suc, ◌<◌, true, List, [], ◌∷◌, ◌++◌, length, arith}
+use Rattle.sa_lex.specs.declared.token.TokenKind.TheVariants as token
+use Rattle.sa_lex.specs.declared.word.Word.TheVariants as word
+use Rattle.sa_tree.specs.declared.ty.Ty.TheVariants as ty
+use Rattle.sa_tree.specs.declared.expr.Expr.TheVariants as tree
+use Rattle.sa_parse_expr.specs.Lexemes.{Lexeme}
+use Rattle.sa_parse_expr.specs.Types as types
+use Rattle.sa_grammar.specs.Arounds.{around_of}
+use Rattle.sa_grammar.specs.Readings.{Begins, Read}
+use Rattle.sa_grammar.specs.Forms.{Reader, Nested, Tree, type, expr, unary, power, post}
+use Rattle.sa_grammar.specs.Grammar.{form_of, nested_to}
+use Rattle.sa_grammar.proofs.Tested.{lexeme, a_word}
+use Rattle.sa_grammar.proofs.Sound.{Sound, sound-refused, IsSound}
+use Rattle.sa_grammar.proofs.Complete.{Reads}
+use Rattle.sa_grammar.proofs.TypeForms.{sound_type, type_read}
+use Rattle.sa_grammar.proofs.ExpressionStarts.{origin, true_lexeme, a_post, a_power, a_unary, an_expr}
+use Rattle.sa_grammar.proofs.ExpressionsSound.{Spells, sound_expr, sound_unary, sound_power, sound_post}
+use Rattle.sa_grammar.proofs.ExpressionsComplete.{EndsOf}
+use Rattle.sa_grammar.proofs.OperationsComplete.{expr_read, unary_read, power_read, post_read}
+
+begins : (n : Nested) → Begins (Spells n) []
+begins type = record { more = lexeme (token.Word word.Same) ∷ []; tree = ty.Same origin; spelled = types.same (a_word word.Same) }
+begins (expr s x) = record { more = true_lexeme ∷ []; tree = tree.Bool true origin; spelled = an_expr s (around_of x) }
+begins (unary s x) = record { more = true_lexeme ∷ []; tree = tree.Bool true origin; spelled = a_unary s (around_of x) }
+begins (power s x) = record { more = true_lexeme ∷ []; tree = tree.Bool true origin; spelled = a_power s (around_of x) }
+begins (post s x) = record { more = true_lexeme ∷ []; tree = tree.Bool true origin; spelled = a_post s (around_of x) }
+
+form_sound : (level : ℕ) (nested : (n : Nested) → Reader (Tree n)) → ((n : Nested) → Sound (Spells n) (nested n)) → (n : Nested) → IsSound level nested (Spells n) (form_of n)
+unfolding form_of
+form_sound level nested inside type = sound_type level nested (inside type)
+form_sound level nested inside (expr s x) = sound_expr level nested inside s x
+form_sound level nested inside (unary s x) = sound_unary level nested inside s x
+form_sound level nested inside (power s x) = sound_power level nested inside s x
+form_sound level nested inside (post s x) = sound_post level nested inside s x
+
+pub all_sound : (level : ℕ) (n : Nested) → Sound (Spells n) (nested_to level n)
+unfolding nested_to
+all_sound zero n = sound-refused (Spells n) (begins n)
+all_sound (suc level) n = (form_sound level (nested_to level) (all_sound level) n).reader
+
+module _ (level : ℕ) (nested : (n : Nested) → Reader (Tree n))
+    (inside : (n : Nested) (ls : List Lexeme) (t : Tree n) (rest : List Lexeme) → Spells n ls t → length ls < level → EndsOf n rest → nested n (ls ++ rest) ≡ Read t rest) where
+  form_read : (n : Nested) (ls : List Lexeme) (t : Tree n) (rest : List Lexeme) → Spells n ls t → length ls < suc level → EndsOf n rest → Reads level nested (form_of n) (ls ++ rest) t rest
+  unfolding form_of
+  form_read type ls t rest h small ends = type_read level nested (inside type) rest h small ends
+  form_read (expr s x) ls t rest h small ends = expr_read level nested inside s x ls t rest h small ends
+  form_read (unary s x) ls t rest h small ends = unary_read level nested inside s x rest h small ends
+  form_read (power s x) ls t rest h small ends = power_read level nested inside s x rest h small ends
+  form_read (post s x) ls t rest h small ends = post_read level nested inside s x rest h small ends
+
+pub all_complete : (level : ℕ) (n : Nested) (ls : List Lexeme) (t : Tree n) (rest : List Lexeme) → Spells n ls t → length ls < level → EndsOf n rest → nested_to level n (ls ++ rest) ≡ Read t rest
+unfolding nested_to
+all_complete zero n ls t rest h small ends = absurd (omega arith)
+all_complete (suc level) n ls t rest h small ends = (form_read level (nested_to level) (all_complete level) n ls t rest h small ends).is
