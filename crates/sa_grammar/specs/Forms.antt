@@ -39,8 +39,8 @@ pub data Form : Type 0 → Type 1 where
   either : {A : Type 0} → Form A → Form A → Form A
   -- one form, and behind it another
   follow : {A B : Type 0} → Form A → (A → Form B) → Form B
-  -- one or several, with `,` between them
-  list : {A : Type 0} → Form A → Form (List A)
+  -- one or several, with a lexeme that meets the test between them
+  separated : {A : Type 0} → (Lexeme → Bool) → Form A → Form (List A)
   -- as long as a lexeme meets the test it is taken, and the form behind it makes another tree of the one so far
   repeat : {A : Type 0} → (Lexeme → Bool) → (A → Lexeme → Form A) → A → Form A
   -- a form, with the position where it begins
@@ -51,6 +51,10 @@ pub data Form : Type 0 → Type 1 where
 -- a form, and something made of what it gives
 abbrev pub make : {A B : Type 0} → (A → B) → Form A → Form B
 make f form = follow form (λ a. give (f a))
+
+-- one or several, with `,` between them
+abbrev pub list : {A : Type 0} → Form A → Form (List A)
+list item = separated (is_sign sign.Comma) item
 
 -- a form, and a sign behind it
 abbrev pub until : {A : Type 0} → Sign → Form A → Form A
@@ -63,7 +67,7 @@ opens refuse l = false
 opens (shift test go other) l = test l || opens other l
 opens (either one other) l = opens one l || opens other l
 opens (follow first next) l = opens first l
-opens (list item) l = opens item l
+opens (separated test item) l = opens item l
 opens (repeat test step a) l = test l
 opens (placed form) l = opens form l
 opens (nest n) l = false
@@ -92,13 +96,11 @@ abbrev pub place_of : List Lexeme → Pos
 place_of [] = record { file = 0; at = 0 }
 place_of (l ∷ ls) = l.pos
 
--- one or several with `,` between them, so many at most
-abbrev pub listed : {A : Type 0} → ℕ → Reader A → Reader (List A)
-listed zero item ls = Refused ls
-listed (suc n) item ls =
-    behind
-    (λ a. shifted (is_sign sign.Comma) (λ _ more. with_read (λ others. a ∷ others) (listed n item more)) (λ more. Read (a ∷ []) more))
-    (item ls)
+-- one or several with a lexeme between them, so many at most
+abbrev pub listed : {A : Type 0} → ℕ → (Lexeme → Bool) → Reader A → Reader (List A)
+listed zero test item ls = Refused ls
+listed (suc n) test item ls =
+    behind (λ a. shifted test (λ _ more. with_read (λ others. a ∷ others) (listed n test item more)) (λ more. Read (a ∷ []) more)) (item ls)
 
 -- one less than so many turns at most
 abbrev pub repeated : {A : Type 0} → ℕ → (Lexeme → Bool) → (A → Lexeme → Reader A) → A → Reader A
@@ -112,7 +114,7 @@ run level nested refuse ls = Refused ls
 run level nested (shift test go other) ls = shifted test (λ l. run level nested (go l)) (run level nested other) ls
 run level nested (either one other) ls = chosen (opens one) (run level nested one) (run level nested other) ls
 run level nested (follow first next) ls = behind (λ a. run level nested (next a)) (run level nested first ls)
-run level nested (list item) ls = listed (suc level) (run level nested item) ls
+run level nested (separated test item) ls = listed (suc level) test (run level nested item) ls
 run level nested (repeat test step a) ls = repeated (suc level) test (λ tree l. run level nested (step tree l)) a ls
-run level nested (placed form) ls = with_read (λ a. (place_of ls, a)) (run level nested form ls)
+run level nested (placed form) ls = behind (λ a more. Read (place_of ls, a) more) (run level nested form ls)
 run level nested (nest n) ls = nested n ls
