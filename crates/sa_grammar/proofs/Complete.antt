@@ -83,10 +83,12 @@ module _ {level : ℕ} {nested : (n : Nested) → Reader (Tree n)} where
       → Reads level nested form (ls ++ l ∷ rest) a (l ∷ rest) → IsSign sign l → Reads level nested (until sign form) ((ls ++ l ∷ []) ++ rest) a rest
   reads-until {rest = rest} {l = l} ls r closes = reads-joined ls (l ∷ []) rest (reads-follow r (reads-met (sign_met closes) reads-give))
 
+-- lists of fewer than so many lexemes
 module _ (level : ℕ) (nested : (n : Nested) → Reader (Tree n)) {A : Type 0} (test : Lexeme → Bool) (P : Spelling A) (Ends : List Lexeme → Type 0) (item : Form A)
-    (one_read : (ls : List Lexeme) (a : A) (rest : List Lexeme) → P ls a → length ls < level → Ends rest → Reads level nested item (ls ++ rest) a rest)
+    (most : ℕ) (fits : most ≤ suc level)
+    (one_read : (ls : List Lexeme) (a : A) (rest : List Lexeme) → P ls a → length ls < most → Ends rest → Reads level nested item (ls ++ rest) a rest)
     (parting_ends : (l : Lexeme) (rest : List Lexeme) → test l ≡ true → Ends (l ∷ rest)) where
-  all_listed : (fuel : ℕ) {ls : List Lexeme} {all : List A} (rest : List Lexeme) → Separated test P ls all → length ls < level → length ls < fuel
+  all_listed : (fuel : ℕ) {ls : List Lexeme} {all : List A} (rest : List Lexeme) → Separated test P ls all → length ls < most → length ls < fuel
       → Ends rest → Shut test rest → listed fuel test (run level nested item) (ls ++ rest) ≡ Read all rest
   all_listed zero rest s small few ends shut = absurd (omega arith)
   all_listed (suc fuel) rest (last {ls = ls} {a = a} one) small few ends shut =
@@ -99,7 +101,7 @@ module _ (level : ℕ) (nested : (n : Nested) → Reader (Tree n)) {A : Type 0} 
       ∙ shifted_met test (λ _ ms. with_read (λ others. a ∷ others) (listed fuel test (run level nested item) ms)) (λ ms. Read (a ∷ []) ms) l (ms ++ rest) parting
       ∙ ap (with_read (λ more. a ∷ more)) (all_listed fuel rest others (omega arith) (omega arith) ends shut)
 
-  pub reads-separated : {ls : List Lexeme} {all : List A} (rest : List Lexeme) → Separated test P ls all → length ls < level
+  pub reads-separated : {ls : List Lexeme} {all : List A} (rest : List Lexeme) → Separated test P ls all → length ls < most
       → Ends rest → Shut test rest → Reads level nested (separated test item) (ls ++ rest) all rest
   reads-separated rest s small ends shut = record { is = all_listed (suc level) rest s small (omega arith) ends shut }
 
@@ -109,7 +111,7 @@ module _ (level : ℕ) (nested : (n : Nested) → Reader (Tree n)) {A : Type 0} 
   pub reads-list : {ls : List Lexeme} {all : List A} (rest : List Lexeme) → Listed P ls all → length ls < level
       → Ends rest → Shut (is_sign sign.Comma) rest → Reads level nested (list item) (ls ++ rest) all rest
   reads-list rest s small ends shut =
-      reads-separated level nested (is_sign sign.Comma) P Ends item one_read (λ l more is. comma_ends l more (sign_stands sign.Comma l is)) rest s small ends shut
+      reads-separated level nested (is_sign sign.Comma) P Ends item level (omega arith) one_read (λ l more is. comma_ends l more (sign_stands sign.Comma l is)) rest s small ends shut
 
 -- ---- as long as a lexeme meets a test
 

@@ -20,10 +20,11 @@ use Rattle.sa_parse_expr.specs.Types.{IsType}
 use Rattle.sa_parse_expr.specs.Expressions as exprs
 use Rattle.sa_parse_expr.specs.Expressions.{IsTexts, IsOptionalType, IsArg, IsArgList, IsArgs, IsCall, IsExprs, IsIndex, IsParenthesised, IsFirst}
 use Rattle.sa_parse_expr.specs.Expressions.{IsPost, IsPower, IsUnary, IsOperand, IsOperation, IsExpr}
+use Rattle.sa_parse.specs.Statements.{IsStmts}
 use Rattle.sa_grammar.specs.Arounds.{Around, Where, outside, in_array, around_of}
 use Rattle.sa_grammar.specs.Readings.{Spelling}
 use Rattle.sa_grammar.specs.Tests.{is_sign, text_of}
-use Rattle.sa_grammar.specs.Forms.{Form, Reader, Nested, Tree, nest, make, until, type, expr, unary, power, post}
+use Rattle.sa_grammar.specs.Forms.{Form, Reader, Nested, Tree, nest, make, until, type, expr, unary, power, post, stmts}
 use Rattle.sa_grammar.specs.TypeForms.{type_form}
 use Rattle.sa_grammar.specs.ExpressionForms.{arg_form, args_form, named_form, call_form, places_form, inside_form, optional_form, texts_form}
 use Rattle.sa_grammar.specs.ExpressionForms.{items_or, result_or, class_call_form, optional_type_form, first_form, going_form}
@@ -44,6 +45,7 @@ Spells (expr s x) = IsExpr s (around_of x)
 Spells (unary s x) = IsUnary s (around_of x)
 Spells (power s x) = IsPower s (around_of x)
 Spells (post s x) = IsPost s (around_of x)
+Spells stmts = IsStmts
 
 -- ---- lists
 

@@ -8,11 +8,12 @@ use Rattle.sa_parse_expr.specs.Lexemes.{Lexeme}
 use Rattle.sa_grammar.specs.Arounds.{Where, outside, in_array}
 use Rattle.sa_grammar.specs.Readings.{Reading, Read, Refused}
 use Rattle.sa_grammar.specs.Tests.{is_sign, logical_kind, comparing_kind, adding_kind, multiplying_kind}
-use Rattle.sa_grammar.specs.Forms.{Form, give, refuse, shift, either, follow, separated, repeat, placed, nest, type, expr, unary, power, post, opens}
+use Rattle.sa_grammar.specs.Forms.{Form, give, refuse, shift, either, follow, separated, repeat, placed, nest, type, expr, unary, power, post, stmts, opens}
 use Rattle.sa_grammar.specs.Forms.{Reader, behind, with_read, place_of, listed, repeated, run, Nested, Tree}
 use Rattle.sa_grammar.specs.TypeForms.{type_form}
 use Rattle.sa_grammar.specs.ExpressionForms.{first_form, items_or, result_or, class_call_form, placed_post_form, post_form, power_form, unary_form}
 use Rattle.sa_grammar.specs.ExpressionForms.{operation_form, product_form, sum_form, comparison_form, expr_form}
+use Rattle.sa_grammar.specs.StatementForms.{assign_form, simple_form, stmt_form, optional_stmt_form, stmts_form}
 use Rattle.sa_grammar.specs.Grammar.{form_of, nested_to}
 use Rattle.sa_grammar.proofs.Shorter.{NoLonger, NoLonger-run, behind_one}
 use Rattle.sa_parse_expr.specs.declared.grammar.Scope.{Scope}
@@ -148,6 +149,14 @@ guarded_expr s x =
     guarded_operation logical_kind (comparison_form s x) (guarded_operation comparing_kind (sum_form s x)
     (guarded_operation adding_kind (product_form s x) (guarded_operation multiplying_kind (unary_form s x) (guarded_unary s x))))
 
+guarded_assign : (a : Expr) → Guarded (assign_form a)
+unfolding assign_form
+guarded_assign a = tt
+
+guarded_stmts : Guarded stmts_form
+unfolding stmts_form optional_stmt_form stmt_form simple_form
+guarded_stmts = ((((guarded_expr Plain outside, λ a. guarded_assign a), λ s. tt), tt), λ all. tt)
+
 guarded : (x : Nested) → Guarded (form_of x)
 unfolding form_of
 guarded type = guarded_type
@@ -155,6 +164,7 @@ guarded (expr s x) = guarded_expr s x
 guarded (unary s x) = guarded_unary s x
 guarded (power s x) = guarded_power s x
 guarded (post s x) = guarded_post s x
+guarded stmts = guarded_stmts
 
 short_to : (n : ℕ) (x : Nested) (ls : List Lexeme) → NoLonger ls (nested_to n x ls)
 unfolding nested_to

@@ -5,13 +5,14 @@ use Rattle.std.proofs.lemmas.Bool.{cond-true, cond-false}
 use Rattle.sa_lex.specs.declared.token.TokenKind.TheVariants as token
 use Rattle.sa_lex.specs.declared.sign.Sign.{Sign}
 use Rattle.sa_lex.specs.declared.sign.Sign.TheVariants as sign
+use Rattle.sa_lex.specs.declared.word.Word.{Word}
 use Rattle.sa_tree.specs.declared.pos.Pos.{Pos}
-use Rattle.sa_parse_expr.specs.Lexemes.{Lexeme, IsSign}
+use Rattle.sa_parse_expr.specs.Lexemes.{Lexeme, IsSign, IsWord}
 use Rattle.sa_grammar.specs.Readings.{Spelling, Begins, Reading, Read, Refused}
 use Rattle.sa_grammar.specs.Tests.{is_sign}
-use Rattle.sa_grammar.specs.Forms.{Form, give, refuse, shift, either, follow, separated, repeat, placed, list, make, until, opens}
+use Rattle.sa_grammar.specs.Forms.{Form, give, refuse, shift, either, follow, separated, repeat, placed, list, make, until, until_word, opens}
 use Rattle.sa_grammar.specs.Forms.{Reader, behind, with_read, shifted, chosen, place_of, listed, repeated, run, Nested, Tree}
-use Rattle.sa_grammar.proofs.Tested.{sign_stands, lexeme, a_sign}
+use Rattle.sa_grammar.proofs.Tested.{sign_stands, word_stands, lexeme, a_sign, a_word}
 use Rattle.sa_grammar.proofs.Shorter.{behind_one, NoLonger}
 
 -- another list that may stand behind what was taken: it is empty, or begins with the same lexeme
@@ -371,6 +372,50 @@ answered_shorter R r ls (Refused rest) s = let sum : length ls ≡ length s.fron
 pub sound_shorter : {A : Type 0} (R : Spelling A) (r : Reader A) → Sound R r → (ls : List Lexeme) → NoLonger ls (r ls)
 sound_shorter R r sound ls = answered_shorter R r ls (r ls) (sound.answers ls)
 
+-- ---- behind a lexeme that a reader takes
+
+abbrev others : List Lexeme → List Lexeme
+others [] = []
+others (l ∷ ls) = ls
+
+abbrev first_or : Lexeme → List Lexeme → Lexeme
+first_or other [] = other
+first_or other (l ∷ ls) = l
+
+module _ {A : Type 0} (R : Spelling A) (r behind_it : Reader A) (l : Lexeme) (same_reading : (ls : List Lexeme) → r (l ∷ ls) ≡ behind_it ls) where
+  taken_first : (a : A) (ls front rest : List Lexeme) → l ∷ ls ≡ front ++ rest → length rest ≤ length ls → R front a
+      → ((other : List Lexeme) → Agrees rest other → r (front ++ other) ≡ Read a other) → Took (After (l ∷ []) R) behind_it ls a rest
+  taken_first a ls [] rest parts le spelled local = let size : suc (length ls) ≡ length rest = ap length parts in absurd (omega arith)
+  taken_first a ls (f ∷ front) rest parts le spelled local = let same_first : f ≡ l = sym (ap (first_or l) parts) in record {
+    front = front;
+    parts = ap others parts;
+    spelled = subst (λ x. R (x ∷ front) a) same_first spelled;
+    local = λ other agree. sym (same_reading (front ++ other)) ∙ ap (λ x. r (x ∷ (front ++ other))) (sym same_first) ∙ local other agree;
+  }
+
+  stopped_behind : (ls front rest : List Lexeme) → l ∷ ls ≡ front ++ rest → length rest ≤ length ls → Begins R front
+      → ((other : List Lexeme) → Agrees rest other → r (front ++ other) ≡ Refused other) → Stopped (After (l ∷ []) R) behind_it ls rest
+  stopped_behind ls [] rest parts le begins local = let size : suc (length ls) ≡ length rest = ap length parts in absurd (omega arith)
+  stopped_behind ls (f ∷ front) rest parts le begins local = let same_first : f ≡ l = sym (ap (first_or l) parts) in record {
+    front = front;
+    parts = ap others parts;
+    begins = record { more = begins.more; tree = begins.tree; spelled = subst (λ x. R (x ∷ (front ++ begins.more)) begins.tree) same_first begins.spelled };
+    local = λ other agree. sym (same_reading (front ++ other)) ∙ ap (λ x. r (x ∷ (front ++ other))) (sym same_first) ∙ local other agree;
+  }
+
+  answers_behind : (ls : List Lexeme) (v : Reading A) → NoLonger ls v → Answers R r (l ∷ ls) v → Answers (After (l ∷ []) R) behind_it ls v
+  answers_behind ls (Read a rest) le t = taken_first a ls t.front rest t.parts le t.spelled t.local
+  answers_behind ls (Refused rest) le s = stopped_behind ls s.front rest s.parts le s.begins s.local
+
+  begun_behind : (v : Reading A) → Answers (After (l ∷ []) R) behind_it [] v → Begins (After (l ∷ []) R) []
+  begun_behind (Read a rest) t = record { more = t.front; tree = a; spelled = t.spelled }
+  begun_behind (Refused rest) s = record { more = s.front ++ s.begins.more; tree = s.begins.tree; spelled = s.begins.spelled }
+
+  pub sound-behind_lexeme : Sound R r → ((ls : List Lexeme) → NoLonger ls (r (l ∷ ls))) → Sound (After (l ∷ []) R) behind_it
+  sound-behind_lexeme sound takes =
+      let all = λ (ls : List Lexeme). subst (Answers (After (l ∷ []) R) behind_it ls) (same_reading ls) (answers_behind ls (r (l ∷ ls)) (takes ls) (sound.answers (l ∷ ls))) in
+      record { begins = begun_behind (behind_it []) (all []); answers = all }
+
 -- ---- forms
 
 module _ (level : ℕ) (nested : (n : Nested) → Reader (Tree n)) where
@@ -435,3 +480,10 @@ module _ {level : ℕ} {nested : (n : Nested) → Reader (Tree n)} where
       sound-follow sound (λ ls a is.
       sound-shift (λ l closes. sound-give (up ls a l is (sign_stands sign l closes)))
       (sound-refuse (record { more = lexeme (token.Sign sign) ∷ []; tree = a; spelled = up ls a (lexeme (token.Sign sign)) is (a_sign sign) })))
+
+  pub sound-until_word : {A : Type 0} {P : Spelling A} {R : Spelling A} {form : Form A} {w : Word}
+      → IsSound level nested P form → ((ls : List Lexeme) (a : A) (l : Lexeme) → P ls a → IsWord w l → R (ls ++ l ∷ []) a) → IsSound level nested R (until_word w form)
+  sound-until_word {w = w} sound up =
+      sound-follow sound (λ ls a is.
+      sound-shift (λ l closes. sound-give (up ls a l is (word_stands w l closes)))
+      (sound-refuse (record { more = lexeme (token.Word w) ∷ []; tree = a; spelled = up ls a (lexeme (token.Word w)) is (a_word w) })))

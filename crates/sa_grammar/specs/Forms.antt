@@ -2,14 +2,16 @@
 use Rattle.std.specs.Prelude.{ℕ, zero, suc, Bool, false, cond, ◌||◌, List, [], ◌∷◌}
 use Rattle.sa_lex.specs.declared.sign.Sign.{Sign}
 use Rattle.sa_lex.specs.declared.sign.Sign.TheVariants as sign
+use Rattle.sa_lex.specs.declared.word.Word.{Word}
 use Rattle.sa_tree.specs.declared.pos.Pos.{Pos}
 use Rattle.sa_tree.specs.declared.ty.Ty.{Ty}
 use Rattle.sa_tree.specs.declared.expr.Expr.{Expr}
+use Rattle.sa_tree.specs.declared.stmt.Stmt.{Stmt}
 use Rattle.sa_parse_expr.specs.declared.grammar.Scope.{Scope}
 use Rattle.sa_parse_expr.specs.Lexemes.{Lexeme}
 use Rattle.sa_grammar.specs.Arounds.{Where}
 use Rattle.sa_grammar.specs.Readings.{Reading, Read, Refused}
-use Rattle.sa_grammar.specs.Tests.{is_sign}
+use Rattle.sa_grammar.specs.Tests.{is_sign, is_word}
 
 -- the productions that nest in themselves
 pub data Nested : Type 0 where
@@ -18,6 +20,7 @@ pub data Nested : Type 0 where
   unary : Scope → Where → Nested
   power : Scope → Where → Nested
   post : Scope → Where → Nested
+  stmts : Nested
 
 -- what they spell
 abbrev pub Tree : Nested → Type 0
@@ -26,6 +29,7 @@ Tree (expr s x) = Expr
 Tree (unary s x) = Expr
 Tree (power s x) = Expr
 Tree (post s x) = Expr
+Tree stmts = List Stmt
 
 -- a form that gives an `A`
 pub data Form : Type 0 → Type 1 where
@@ -71,6 +75,10 @@ opens (separated test item) l = opens item l
 opens (repeat test step a) l = test l
 opens (placed form) l = opens form l
 opens (nest n) l = false
+
+-- a form, and a word behind it
+abbrev pub until_word : {A : Type 0} → Word → Form A → Form A
+until_word w form = follow form (λ a. shift (is_word w) (λ _. give a) refuse)
 
 abbrev pub Reader : Type 0 → Type 0
 Reader A = List Lexeme → Reading A
