@@ -1,21 +1,16 @@
 -- The forms of statements that hold others are complete, and so are those of lists of statements.
-use Rattle.std.proofs.Common.{◌≡◌, ℕ, suc, ◌+◌, ◌<◌, Bool, true, false, List, [], ◌∷◌, ◌++◌, length, refl, sym, subst, append_assoc, arith, length-append, Option, Some, None, unwrap_or}
-use Rattle.sa_lex.specs.declared.token.TokenKind.{TokenKind}
-use Rattle.sa_lex.specs.declared.token.TokenKind.TheVariants as token
+use Rattle.std.proofs.Common.{◌≡◌, ℕ, suc, ◌+◌, ◌<◌, List, [], ◌∷◌, ◌++◌, length, refl, sym, subst, append_assoc, arith, length-append, Option, unwrap_or}
 use Rattle.sa_lex.specs.declared.sign.Sign.TheVariants as sign
 use Rattle.sa_lex.specs.declared.word.Word.{Word}
 use Rattle.sa_lex.specs.declared.word.Word.TheVariants as word
-use Rattle.sa_tree.specs.declared.ty.Ty.{Ty}
 use Rattle.sa_tree.specs.declared.expr.Expr.{Expr}
-use Rattle.sa_tree.specs.declared.stmt.Local.{Local}
 use Rattle.sa_tree.specs.declared.stmt.Arm.{Arm}
 use Rattle.sa_tree.specs.declared.stmt.CaseArm.{CaseArm}
 use Rattle.sa_tree.specs.declared.stmt.TypeArm.{TypeArm}
 use Rattle.sa_tree.specs.declared.stmt.Stmt.{Stmt}
 use Rattle.sa_tree.specs.declared.stmt.Stmt.TheVariants as tree
 use Rattle.sa_parse_expr.specs.declared.grammar.Scope.TheVariants.{Plain}
-use Rattle.sa_parse_expr.specs.Lexemes.{Lexeme, IsWord, IsSign}
-use Rattle.sa_parse_expr.specs.Types.{IsType}
+use Rattle.sa_parse_expr.specs.Lexemes.{Lexeme, IsWord}
 use Rattle.sa_parse_expr.specs.Expressions.{IsExpr}
 use Rattle.sa_parse.specs.Names as names
 use Rattle.sa_parse.specs.Names.{IsLower, name_of}
@@ -24,11 +19,11 @@ use Rattle.sa_parse.specs.Statements.{IsValue, IsLeave, IsBody, IsStmts, IsOptio
 use Rattle.sa_grammar.specs.Arounds.{outside, around_of}
 use Rattle.sa_grammar.specs.Readings.{Read}
 use Rattle.sa_grammar.specs.Tests.{is_word, is_sign, is_word_kind, is_sign_kind}
-use Rattle.sa_grammar.specs.Forms.{Form, Reader, Nested, Tree, nest, give, follow, separated, make, until_word, opens, run, type, expr, stmts}
+use Rattle.sa_grammar.specs.Forms.{Form, Reader, Nested, Tree, nest, give, follow, separated, make, until_word, opens, type, expr, stmts}
 use Rattle.sa_grammar.specs.StatementForms.{value_form, optional_value_form, name_form, simple_form, body_form, ending_form, arm_form, case_arm_form, branch_form}
-use Rattle.sa_grammar.specs.StatementForms.{case_arms_form, branches_form, stmt_form, optional_stmt_form, joined, stmts_form}
+use Rattle.sa_grammar.specs.StatementForms.{case_arms_form, branches_form, stmt_form, optional_stmt_form, stmts_form}
 use Rattle.sa_grammar.proofs.Tested.{sign_stands, word_met, word_stands, other_word}
-use Rattle.sa_grammar.proofs.Sound.{Shut, Meets, Separated}
+use Rattle.sa_grammar.proofs.Sound.{Meets}
 use Rattle.sa_grammar.proofs.Complete.{Reads, reads-give, reads-met, reads-other, reads-first, reads-second, reads-follow, reads-make, reads-as, reads-joined, reads-kind, reads-list, reads-separated}
 use Rattle.sa_grammar.proofs.ExpressionStarts.{begins_expr, meets_front, word_shut}
 use Rattle.sa_grammar.proofs.ExpressionEnds.{Ends, after_expr, ends_left, ends_right, kind_ends}

@@ -1,13 +1,12 @@
 -- Two levels above the number of lexemes read the same.
 use Rattle.std.proofs.Common.{◌≡◌, ℕ, zero, suc, ◌<◌, ◌≤◌, Bool, true, false, cond, List, [], ◌∷◌, length, refl, ap, ◌∙◌, arith, Option}
-use Rattle.sa_lex.specs.declared.sign.Sign.TheVariants as sign
 use Rattle.sa_lex.specs.declared.token.TokenKind.{TokenKind}
 use Rattle.sa_tree.specs.declared.expr.Op.{Op}
 use Rattle.sa_tree.specs.declared.expr.Expr.{Expr}
 use Rattle.sa_parse_expr.specs.Lexemes.{Lexeme}
 use Rattle.sa_grammar.specs.Arounds.{Where, outside, in_array}
 use Rattle.sa_grammar.specs.Readings.{Reading, Read, Refused}
-use Rattle.sa_grammar.specs.Tests.{is_sign, logical_kind, comparing_kind, adding_kind, multiplying_kind}
+use Rattle.sa_grammar.specs.Tests.{logical_kind, comparing_kind, adding_kind, multiplying_kind}
 use Rattle.sa_grammar.specs.Forms.{Form, give, refuse, shift, either, follow, separated, repeat, placed, nest, type, expr, unary, power, post, stmts, opens}
 use Rattle.sa_grammar.specs.Forms.{Reader, behind, with_read, place_of, listed, repeated, run, Nested, Tree}
 use Rattle.sa_grammar.specs.TypeForms.{type_form}

@@ -17,8 +17,8 @@ use Rattle.sa_grammar.specs.ExpressionForms.{operation_form, product_form, sum_f
 use Rattle.sa_grammar.specs.StatementForms.{simple_form, stmt_form}
 use Rattle.sa_grammar.proofs.Tested.{lexeme}
 use Rattle.sa_grammar.proofs.Sound.{Shut, Meets}
-use Rattle.sa_grammar.proofs.ExpressionStarts.{begins_expr, StartsExpr}
-use Rattle.sa_grammar.proofs.ExpressionEnds.{after_expr, Ends}
+use Rattle.sa_grammar.proofs.ExpressionStarts.{begins_expr}
+use Rattle.sa_grammar.proofs.ExpressionEnds.{after_expr}
 
 -- words that begin a statement and no expression
 abbrev word_begins_stmt : Word → Bool

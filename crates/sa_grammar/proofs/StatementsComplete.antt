@@ -1,11 +1,10 @@
 -- The forms of statements are complete.
-use Rattle.std.proofs.Common.{◌≡◌, ℕ, suc, ◌+◌, ◌<◌, Bool, true, false, ◌||◌, List, [], ◌∷◌, ◌++◌, length, refl, sym, ap, subst, ◌∙◌, append_assoc, append-nil, arith, length-append, Option, Some, None, unwrap_or}
+use Rattle.std.proofs.Common.{◌≡◌, ℕ, suc, ◌+◌, ◌<◌, Bool, true, false, List, [], ◌∷◌, ◌++◌, length, refl, sym, ap, subst, ◌∙◌, append_assoc, append-nil, arith, length-append, Option, Some, None}
 use Rattle.std.proofs.lemmas.Bool.{or_right}
 use Rattle.sa_lex.specs.declared.token.TokenKind.{TokenKind}
 use Rattle.sa_lex.specs.declared.token.TokenKind.TheVariants as token
 use Rattle.sa_lex.specs.declared.sign.Sign.{Sign}
 use Rattle.sa_lex.specs.declared.sign.Sign.TheVariants as sign
-use Rattle.sa_lex.specs.declared.word.Word.{Word}
 use Rattle.sa_lex.specs.declared.word.Word.TheVariants as word
 use Rattle.sa_tree.specs.declared.ty.Ty.{Ty}
 use Rattle.sa_tree.specs.declared.expr.Recv.TheVariants.{Implied}
@@ -18,7 +17,7 @@ use Rattle.sa_tree.specs.declared.stmt.TypeArm.{TypeArm}
 use Rattle.sa_tree.specs.declared.stmt.Stmt.{Stmt}
 use Rattle.sa_tree.specs.declared.stmt.Stmt.TheVariants as tree
 use Rattle.sa_parse_expr.specs.declared.grammar.Scope.TheVariants.{Plain}
-use Rattle.sa_parse_expr.specs.Lexemes.{Lexeme, IsWord, IsSign}
+use Rattle.sa_parse_expr.specs.Lexemes.{Lexeme, IsSign}
 use Rattle.sa_parse_expr.specs.Types.{IsType}
 use Rattle.sa_parse_expr.specs.Expressions as exprs
 use Rattle.sa_parse_expr.specs.Expressions.{IsExpr}
@@ -28,23 +27,23 @@ use Rattle.sa_parse.specs.Statements as stmt
 use Rattle.sa_parse.specs.Statements.{IsValue, IsValues, IsAssigned, IsOptionalExpr, IsSimple, IsLeave, IsBody, IsStmts, IsOptionalStmt, IsStmt, IsArms, IsArm, IsEnding, IsElse, IsCaseArms, IsCaseArm, IsBranches, IsBranch}
 use Rattle.sa_grammar.specs.Arounds.{outside, around_of}
 use Rattle.sa_grammar.specs.Readings.{Reading, Read, Refused}
-use Rattle.sa_grammar.specs.Tests.{is_word, is_sign, is_sign_kind, is_word_kind, is_lower, is_lower_kind}
-use Rattle.sa_grammar.specs.Forms.{Form, Reader, Nested, Tree, list, nest, follow, separated, make, opens, run, type, expr, stmts}
+use Rattle.sa_grammar.specs.Tests.{is_word, is_sign, is_sign_kind, is_lower, is_lower_kind}
+use Rattle.sa_grammar.specs.Forms.{Form, Reader, Nested, Tree, list, opens, run, type, expr}
 use Rattle.sa_grammar.specs.ExpressionForms.{named_form, args_form, expr_form}
 use Rattle.sa_grammar.specs.StatementForms.{value_form, assigned_form, optional_value_form, name_form, typed_form, assign_form, behind_name_form, simple_form}
-use Rattle.sa_grammar.specs.StatementForms.{body_form, ending_form, arm_form, case_arm_form, branch_form, case_arms_form, branches_form, stmt_form, optional_stmt_form, joined, stmts_form}
-use Rattle.sa_grammar.proofs.Tested.{sign_met, sign_stands, word_met, word_stands, other_sign, other_word}
+use Rattle.sa_grammar.specs.StatementForms.{joined}
+use Rattle.sa_grammar.proofs.Tested.{sign_met, sign_stands, word_met, other_sign}
 use Rattle.sa_grammar.proofs.Sound.{Shut, Meets, Separated, Listed, last, more}
-use Rattle.sa_grammar.proofs.Complete.{Reads, reads-give, reads-met, reads-other, reads-first, reads-second, reads-follow, reads-make, reads-as, reads-joined, reads-kind, reads-list, reads-separated, with_kind}
+use Rattle.sa_grammar.proofs.Complete.{Reads, reads-give, reads-met, reads-other, reads-first, reads-second, reads-follow, reads-make, reads-joined, reads-list, with_kind}
 use Rattle.sa_grammar.proofs.TypeForms.{EndsType, sign_ends}
 use Rattle.sa_grammar.proofs.ExpressionStarts.{begins_expr, meets_front, expr_starts}
 use Rattle.sa_grammar.proofs.ExpressionEnds.{Ends, after_expr, ends_left, ends_right, kind_ends}
 use Rattle.sa_grammar.proofs.ExpressionsSound.{Spells}
-use Rattle.sa_grammar.proofs.ExpressionsComplete.{EndsOf, nest_read, comma_ends}
+use Rattle.sa_grammar.proofs.ExpressionsComplete.{EndsOf, nest_read}
 use Rattle.sa_grammar.proofs.OperationsComplete.{expr_read}
 use Rattle.sa_grammar.proofs.StatementsSound.{lower_stands, same_behind}
 use Rattle.sa_grammar.proofs.ExpressionEnds.{expr_ends_type, expr_shuts_colon}
-use Rattle.sa_grammar.proofs.StatementEnds.{begins_stmt, kind_begins_stmt, after_names, after_value, after_simple, after_stmt, after_stmts, expr_opens, stmt_opens, agreed_shut, agreed_meets}
+use Rattle.sa_grammar.proofs.StatementEnds.{begins_stmt, kind_begins_stmt, after_names, after_value, after_simple, after_stmt, expr_opens, agreed_shut, agreed_meets}
 
 -- ---- names, values and lists
 
@@ -179,7 +178,7 @@ module _ (level : ℕ) (nested : (n : Nested) → Reader (Tree n)) where
   next_shut l s stops c ls tail a r true e =
       let kind = (sign_stands s c e).kind in
       let alone : run level nested (behind_name_form l) (c ∷ (ls ++ tail)) ≡ Read (exprtree.Call Implied l.bytes [] l.pos) (with_kind (token.Sign s) c ∷ (ls ++ tail))
-          = ap (λ kind. run level nested (behind_name_form l) (with_kind kind c ∷ (ls ++ tail))) kind ∙ stops c (ls ++ tail) in
+      = ap (λ kind. run level nested (behind_name_form l) (with_kind kind c ∷ (ls ++ tail))) kind ∙ stops c (ls ++ tail) in
       let size : suc (length (ls ++ tail)) ≡ length tail = ap left_length (sym alone ∙ r.is) in
       let sum : length (ls ++ tail) ≡ length ls + length tail = length-append ls tail in
       absurd (omega arith)

@@ -1,5 +1,5 @@
 -- The forms of statements are sound.
-use Rattle.std.proofs.Common.{◌≡◌, ℕ, true, List, [], ◌∷◌, ◌++◌, refl, ap, subst, ◌∙◌, append_assoc, append-nil, Option, Some, None, unwrap_or}
+use Rattle.std.proofs.Common.{◌≡◌, ℕ, true, List, [], ◌∷◌, ◌++◌, refl, ap, subst, ◌∙◌, append_assoc, append-nil, Option, Some, None}
 use Rattle.sa_lex.specs.declared.token.TokenKind.{TokenKind}
 use Rattle.sa_lex.specs.declared.token.TokenKind.TheVariants as token
 use Rattle.sa_lex.specs.declared.sign.Sign.TheVariants as sign
@@ -26,16 +26,14 @@ use Rattle.sa_parse.specs.Names.{IsLower, IsName, IsMoreNames, IsNames, name_of}
 use Rattle.sa_parse.specs.Statements as stmt
 use Rattle.sa_parse.specs.Statements.{IsValue, IsValues, IsAssigned, IsOptionalExpr, IsSimple, IsBody, IsStmts, IsOptionalStmt, IsStmt, IsArms, IsArm, IsEnding, IsElse, IsCaseArms, IsCaseArm, IsBranches, IsBranch}
 use Rattle.sa_grammar.specs.Arounds.{outside, around_of}
-use Rattle.sa_grammar.specs.Readings.{Spelling, Begins}
 use Rattle.sa_grammar.specs.Tests.{is_word, is_sign, is_lower, is_lower_kind}
-use Rattle.sa_grammar.specs.Forms.{Form, Reader, Nested, Tree, nest, make, run, type, expr, stmts}
-use Rattle.sa_grammar.specs.TypeForms.{type_form}
+use Rattle.sa_grammar.specs.Forms.{Reader, Nested, Tree, make, run, type, expr, stmts}
 use Rattle.sa_grammar.specs.ExpressionForms.{named_form, first_form, placed_post_form, post_form, power_form, unary_form}
 use Rattle.sa_grammar.specs.ExpressionForms.{operation_form, product_form, sum_form, comparison_form, expr_form}
 use Rattle.sa_grammar.specs.StatementForms.{value_form, assigned_form, optional_value_form, name_form, typed_form, assign_form, behind_name_form, simple_form}
 use Rattle.sa_grammar.specs.StatementForms.{body_form, ending_form, arm_form, case_arm_form, branch_form, case_arms_form, branches_form, stmt_form, optional_stmt_form, joined, stmts_form}
-use Rattle.sa_grammar.proofs.Tested.{sign_met, sign_stands, word_met, word_stands, lexeme, a_sign, a_word}
-use Rattle.sa_grammar.proofs.Shorter.{opened, NoLonger}
+use Rattle.sa_grammar.proofs.Tested.{sign_stands, word_stands, lexeme, a_sign, a_word}
+use Rattle.sa_grammar.proofs.Shorter.{opened}
 use Rattle.sa_grammar.proofs.Sound.{After, Sound, sound_shorter, sound-behind_lexeme, Separated, Listed, last, more}
 use Rattle.sa_grammar.proofs.Sound.{IsSound, sound-give, sound-refuse, sound-shift, sound-either, sound-follow, sound-separated, sound-list, sound-make, sound-until_word, sound-up}
 use Rattle.sa_grammar.proofs.Complete.{with_kind}

@@ -64,6 +64,10 @@ list item = separated (is_sign sign.Comma) item
 abbrev pub until : {A : Type 0} → Sign → Form A → Form A
 until s form = follow form (λ a. shift (is_sign s) (λ _. give a) refuse)
 
+-- a form, and a word behind it
+abbrev pub until_word : {A : Type 0} → Word → Form A → Form A
+until_word w form = follow form (λ a. shift (is_word w) (λ _. give a) refuse)
+
 -- whether a form takes this lexeme first; of a production that nests it isn't asked
 abbrev pub opens : {A : Type 0} → Form A → Lexeme → Bool
 opens (give a) l = false
@@ -75,10 +79,6 @@ opens (separated test item) l = opens item l
 opens (repeat test step a) l = test l
 opens (placed form) l = opens form l
 opens (nest n) l = false
-
--- a form, and a word behind it
-abbrev pub until_word : {A : Type 0} → Word → Form A → Form A
-until_word w form = follow form (λ a. shift (is_word w) (λ _. give a) refuse)
 
 abbrev pub Reader : Type 0 → Type 0
 Reader A = List Lexeme → Reading A

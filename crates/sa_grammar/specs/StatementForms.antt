@@ -23,7 +23,8 @@ use Rattle.sa_grammar.specs.Tests.{is_sign, is_word, is_lower}
 use Rattle.sa_grammar.specs.Tests.{logical_kind, comparing_kind, adding_kind, multiplying_kind, is_operator, operator_of}
 use Rattle.sa_grammar.specs.Forms.{Form, give, refuse, shift, either, follow, separated, list, repeat, nest, make, until_word}
 use Rattle.sa_grammar.specs.Forms.{type, expr, power, stmts}
-use Rattle.sa_grammar.specs.ExpressionForms.{named_form, goes_on, going_form, unary_form, product_form, sum_form, comparison_form, expr_form}
+use Rattle.sa_grammar.specs.ExpressionForms.{named_form, goes_on, going_form}
+use Rattle.sa_grammar.specs.ExpressionForms.{unary_form, product_form, sum_form, comparison_form, expr_form}
 
 -- ---- parts without statements
 
@@ -43,7 +44,7 @@ optional_value_form = either (make Some (expr_form Plain outside)) (give None)
 unfoldable pub name_form : Form Local
 name_form = shift is_lower (λ l. give (name_of l)) refuse
 
--- ":" type [":=" expr] behind the names of a declaration, and behind the ":"
+-- type [":=" expr], behind the names of a declaration and the ":"
 unfoldable pub typed_form : List Local → Form Stmt
 typed_form names = follow (nest type) (λ t. make (λ value. tree.Declare names (Some t) value) assigned_form)
 
@@ -64,7 +65,9 @@ behind_name_form l =
     (follow
     (follow
     (make (λ whole. whole.1)
-    (follow (make (λ e. (l.pos, e)) (named_form Plain Implied l)) (repeat goes_on (λ so_far next. going_form (is_sign sign.Dot next) Plain so_far))))
+    (follow
+    (make (λ e. (l.pos, e)) (named_form Plain Implied l))
+    (repeat goes_on (λ so_far next. going_form (is_sign sign.Dot next) Plain so_far))))
     (λ a. shift (is_sign sign.Caret) (λ o. make (λ b. exprs.Binary Pow a b o.pos) (nest (power Plain outside))) (give a)))
     (operations multiplying_kind (unary_form Plain outside)))
     (operations adding_kind (product_form Plain outside)))

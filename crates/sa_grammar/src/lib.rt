@@ -6,6 +6,6 @@ mod law;
 
 pub use law::{
     exprs_are_read, lists_of_exprs_are_read, lists_of_stmts_are_read, lists_of_types_are_read,
-    one_expr, one_list_of_exprs, one_list_of_stmts, one_list_of_types, one_post, one_stmt, one_type,
-    posts_are_read, stmts_are_read, types_are_read,
+    one_expr, one_list_of_exprs, one_list_of_stmts, one_list_of_types, one_post, one_stmt,
+    one_type, posts_are_read, stmts_are_read, types_are_read,
 };
