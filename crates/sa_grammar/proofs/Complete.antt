@@ -6,11 +6,11 @@ use Rattle.sa_lex.specs.declared.sign.Sign.TheVariants as sign
 use Rattle.sa_parse_expr.specs.Lexemes.{Lexeme, IsSign}
 use Rattle.sa_grammar.specs.Readings.{Spelling, Read}
 use Rattle.sa_grammar.specs.Tests.{is_sign}
-use Rattle.sa_grammar.specs.Forms.{Form, give, shift, either, follow, list, repeat, placed, make, until, opens}
+use Rattle.sa_grammar.specs.Forms.{Form, give, shift, either, follow, separated, repeat, placed, list, make, until, opens}
 use Rattle.sa_grammar.specs.Forms.{Reader, behind, with_read, place_of, listed, repeated, run, Nested, Tree}
-use Rattle.sa_grammar.proofs.Tested.{sign_met}
+use Rattle.sa_grammar.proofs.Tested.{sign_met, sign_stands}
 use Rattle.sa_grammar.proofs.Shorter.{behind_one}
-use Rattle.sa_grammar.proofs.Sound.{Shut, Meets, shifted_met, shifted_shut, chosen_met, chosen_shut, Separated, last, more}
+use Rattle.sa_grammar.proofs.Sound.{Shut, Meets, shifted_met, shifted_shut, chosen_met, chosen_shut, Separated, last, more, Listed}
 
 -- a lexeme, but of this kind
 abbrev pub with_kind : TokenKind → Lexeme → Lexeme
@@ -59,7 +59,7 @@ module _ {level : ℕ} {nested : (n : Nested) → Reader (Tree n)} where
 
   pub reads-placed : {A : Type 0} {form : Form A} {ls rest : List Lexeme} {a : A}
       → Reads level nested form ls a rest → Reads level nested (placed form) ls (place_of ls, a) rest
-  reads-placed {ls = ls} r = record { is = ap (with_read (λ a. (place_of ls, a))) r.is }
+  reads-placed {ls = ls} r = record { is = ap (behind (λ a more. Read (place_of ls, a) more)) r.is }
 
   pub reads-as : {A : Type 0} {form : Form A} {ls rest : List Lexeme} {a b : A} → a ≡ b → Reads level nested form ls a rest → Reads level nested form ls b rest
   reads-as {rest = rest} e r = record { is = r.is ∙ ap (λ tree. Read tree rest) e }
@@ -83,25 +83,35 @@ module _ {level : ℕ} {nested : (n : Nested) → Reader (Tree n)} where
       → Reads level nested form (ls ++ l ∷ rest) a (l ∷ rest) → IsSign sign l → Reads level nested (until sign form) ((ls ++ l ∷ []) ++ rest) a rest
   reads-until {rest = rest} {l = l} ls r closes = reads-joined ls (l ∷ []) rest (reads-follow r (reads-met (sign_met closes) reads-give))
 
+-- lists of fewer than so many lexemes
+module _ (level : ℕ) (nested : (n : Nested) → Reader (Tree n)) {A : Type 0} (test : Lexeme → Bool) (P : Spelling A) (Ends : List Lexeme → Type 0) (item : Form A)
+    (most : ℕ) (fits : most ≤ suc level)
+    (one_read : (ls : List Lexeme) (a : A) (rest : List Lexeme) → P ls a → length ls < most → Ends rest → Reads level nested item (ls ++ rest) a rest)
+    (parting_ends : (l : Lexeme) (rest : List Lexeme) → test l ≡ true → Ends (l ∷ rest)) where
+  all_listed : (fuel : ℕ) {ls : List Lexeme} {all : List A} (rest : List Lexeme) → Separated test P ls all → length ls < most → length ls < fuel
+      → Ends rest → Shut test rest → listed fuel test (run level nested item) (ls ++ rest) ≡ Read all rest
+  all_listed zero rest s small few ends shut = absurd (omega arith)
+  all_listed (suc fuel) rest (last {ls = ls} {a = a} one) small few ends shut =
+      ap (behind (behind_one fuel test (run level nested item))) (one_read ls a rest one small ends).is
+      ∙ shifted_shut test (λ _ ms. with_read (λ others. a ∷ others) (listed fuel test (run level nested item) ms)) (λ ms. Read (a ∷ []) ms) rest shut
+  all_listed (suc fuel) rest (more {ls = ls} {ms = ms} {l = l} {a = a} one parting others) small few ends shut =
+      let sum : length (ls ++ l ∷ ms) ≡ length ls + suc (length ms) = length-append ls (l ∷ ms) in
+      ap (λ xs. behind (behind_one fuel test (run level nested item)) (run level nested item xs)) (append_assoc ls (l ∷ ms) rest)
+      ∙ ap (behind (behind_one fuel test (run level nested item))) (one_read ls a (l ∷ (ms ++ rest)) one (omega arith) (parting_ends l (ms ++ rest) parting)).is
+      ∙ shifted_met test (λ _ ms. with_read (λ others. a ∷ others) (listed fuel test (run level nested item) ms)) (λ ms. Read (a ∷ []) ms) l (ms ++ rest) parting
+      ∙ ap (with_read (λ more. a ∷ more)) (all_listed fuel rest others (omega arith) (omega arith) ends shut)
+
+  pub reads-separated : {ls : List Lexeme} {all : List A} (rest : List Lexeme) → Separated test P ls all → length ls < most
+      → Ends rest → Shut test rest → Reads level nested (separated test item) (ls ++ rest) all rest
+  reads-separated rest s small ends shut = record { is = all_listed (suc level) rest s small (omega arith) ends shut }
+
 module _ (level : ℕ) (nested : (n : Nested) → Reader (Tree n)) {A : Type 0} (P : Spelling A) (Ends : List Lexeme → Type 0) (item : Form A)
     (one_read : (ls : List Lexeme) (a : A) (rest : List Lexeme) → P ls a → length ls < level → Ends rest → Reads level nested item (ls ++ rest) a rest)
     (comma_ends : (l : Lexeme) (rest : List Lexeme) → IsSign sign.Comma l → Ends (l ∷ rest)) where
-  all_listed : (fuel : ℕ) {ls : List Lexeme} {all : List A} (rest : List Lexeme) → Separated P ls all → length ls < level → length ls < fuel
-      → Ends rest → Shut (is_sign sign.Comma) rest → listed fuel (run level nested item) (ls ++ rest) ≡ Read all rest
-  all_listed zero rest s small few ends shut = absurd (omega arith)
-  all_listed (suc fuel) rest (last {ls = ls} {a = a} one) small few ends shut =
-      ap (behind (behind_one fuel (run level nested item))) (one_read ls a rest one small ends).is
-      ∙ shifted_shut (is_sign sign.Comma) (λ _ ms. with_read (λ others. a ∷ others) (listed fuel (run level nested item) ms)) (λ ms. Read (a ∷ []) ms) rest shut
-  all_listed (suc fuel) rest (more {ls = ls} {ms = ms} {comma = comma} {a = a} one parting others) small few ends shut =
-      let sum : length (ls ++ comma ∷ ms) ≡ length ls + suc (length ms) = length-append ls (comma ∷ ms) in
-      ap (λ xs. behind (behind_one fuel (run level nested item)) (run level nested item xs)) (append_assoc ls (comma ∷ ms) rest)
-      ∙ ap (behind (behind_one fuel (run level nested item))) (one_read ls a (comma ∷ (ms ++ rest)) one (omega arith) (comma_ends comma (ms ++ rest) parting)).is
-      ∙ shifted_met (is_sign sign.Comma) (λ _ ms. with_read (λ others. a ∷ others) (listed fuel (run level nested item) ms)) (λ ms. Read (a ∷ []) ms) comma (ms ++ rest) (sign_met parting)
-      ∙ ap (with_read (λ more. a ∷ more)) (all_listed fuel rest others (omega arith) (omega arith) ends shut)
-
-  pub reads-list : {ls : List Lexeme} {all : List A} (rest : List Lexeme) → Separated P ls all → length ls < level
+  pub reads-list : {ls : List Lexeme} {all : List A} (rest : List Lexeme) → Listed P ls all → length ls < level
       → Ends rest → Shut (is_sign sign.Comma) rest → Reads level nested (list item) (ls ++ rest) all rest
-  reads-list rest s small ends shut = record { is = all_listed (suc level) rest s small (omega arith) ends shut }
+  reads-list rest s small ends shut =
+      reads-separated level nested (is_sign sign.Comma) P Ends item level (omega arith) one_read (λ l more is. comma_ends l more (sign_stands sign.Comma l is)) rest s small ends shut
 
 -- ---- as long as a lexeme meets a test
 

@@ -14,6 +14,7 @@ use Rattle.sa_tree.specs.declared.expr.Recv.{Recv}
 use Rattle.sa_tree.specs.declared.expr.Expr.{Expr}
 use Rattle.sa_tree.specs.declared.expr.Expr.TheVariants as tree
 use Rattle.sa_parse_expr.specs.declared.grammar.Scope.{Scope}
+use Rattle.sa_parse_expr.specs.declared.grammar.Scope.TheVariants.{Plain, PostClause}
 use Rattle.sa_parse_expr.specs.Lexemes.{Lexeme, class_name, abstract_name, lower_name, iter_name}
 use Rattle.sa_parse_expr.specs.Types as types
 use Rattle.sa_parse_expr.specs.Types.{IsType}
@@ -61,20 +62,24 @@ a_call s on = exprs.named (lower_name refl) exprs.no_args
 
 -- ---- what they begin with
 
-abbrev word_begins : Word → Bool
-word_begins word.Bind = true
-word_begins word.Exception = true
-word_begins word.False = true
-word_begins word.Initial = true
-word_begins word.Iter = true
-word_begins word.New = true
-word_begins word.Result = true
-word_begins word.Rout = true
-word_begins word.Same = true
-word_begins word.SelfWord = true
-word_begins word.True = true
-word_begins word.Void = true
-word_begins _ = false
+abbrev is_post : Scope → Bool
+is_post Plain = false
+is_post PostClause = true
+
+abbrev word_begins : Scope → Word → Bool
+word_begins s word.Bind = true
+word_begins s word.Exception = true
+word_begins s word.False = true
+word_begins s word.Initial = is_post s
+word_begins s word.Iter = true
+word_begins s word.New = true
+word_begins s word.Result = is_post s
+word_begins s word.Rout = true
+word_begins s word.Same = true
+word_begins s word.SelfWord = true
+word_begins s word.True = true
+word_begins s word.Void = true
+word_begins s _ = false
 
 abbrev sign_begins : Sign → Bool
 sign_begins sign.Bar = true
@@ -84,98 +89,98 @@ sign_begins sign.LeftParen = true
 sign_begins _ = false
 
 -- without an operator in front
-abbrev pub begins_first : TokenKind → Bool
-begins_first (token.Word w) = word_begins w
-begins_first (token.Sign s) = sign_begins s
-begins_first _ = true
+abbrev pub begins_first : Scope → TokenKind → Bool
+begins_first s (token.Word w) = word_begins s w
+begins_first s (token.Sign sign) = sign_begins sign
+begins_first s _ = true
 
-abbrev pub begins_expr : TokenKind → Bool
-begins_expr k = begins_first k || is_some (prefix_kind k)
+abbrev pub begins_expr : Scope → TokenKind → Bool
+begins_expr s k = begins_first s k || is_some (prefix_kind k)
 
-abbrev pub StartsFirst : List Lexeme → Type 0
-StartsFirst ls = Meets (λ l. begins_first l.kind) ls
+abbrev pub StartsFirst : Scope → List Lexeme → Type 0
+StartsFirst s ls = Meets (λ l. begins_first s l.kind) ls
 
-abbrev pub StartsExpr : List Lexeme → Type 0
-StartsExpr ls = Meets (λ l. begins_expr l.kind) ls
+abbrev pub StartsExpr : Scope → List Lexeme → Type 0
+StartsExpr s ls = Meets (λ l. begins_expr s l.kind) ls
 
 pub meets_front : (test : Lexeme → Bool) (ls rest : List Lexeme) → Meets test ls → Meets test (ls ++ rest)
 meets_front test [] rest h = absurd h
 meets_front test (l ∷ ls) rest h = h
 
-type_starts : {ls : List Lexeme} {t : Ty} → IsType ls t → StartsFirst ls
-type_starts (types.named (class_name e) among) = ap begins_first e
-type_starts (types.named (abstract_name e) among) = ap begins_first e
-type_starts (types.same is) = ap begins_first is.kind
-type_starts (types.rout is first second) = ap begins_first is.kind
-type_starts (types.iter is first second) = ap begins_first is.kind
+type_starts : (s : Scope) {ls : List Lexeme} {t : Ty} → IsType ls t → StartsFirst s ls
+type_starts s (types.named (class_name e) among) = ap (begins_first s) e
+type_starts s (types.named (abstract_name e) among) = ap (begins_first s) e
+type_starts s (types.same is) = ap (begins_first s) is.kind
+type_starts s (types.rout is first second) = ap (begins_first s) is.kind
+type_starts s (types.iter is first second) = ap (begins_first s) is.kind
 
-parenthesised_starts : {s : Scope} {ls : List Lexeme} {e : Expr} → IsParenthesised s ls e → StartsFirst ls
-parenthesised_starts (exprs.in_parentheses begun h closed) = ap begins_first begun.kind
+parenthesised_starts : {s : Scope} {ls : List Lexeme} {e : Expr} → IsParenthesised s ls e → StartsFirst s ls
+parenthesised_starts {s = s} (exprs.in_parentheses begun h closed) = ap (begins_first s) begun.kind
 
-call_starts : {s : Scope} {on : Recv} {ls : List Lexeme} {e : Expr} → IsCall s on ls e → StartsFirst ls
-call_starts (exprs.named (lower_name e) among) = ap begins_first e
-call_starts (exprs.named (iter_name e) among) = ap begins_first e
+call_starts : {s : Scope} {on : Recv} {ls : List Lexeme} {e : Expr} → IsCall s on ls e → StartsFirst s ls
+call_starts {s = s} (exprs.named (lower_name e) among) = ap (begins_first s) e
+call_starts {s = s} (exprs.named (iter_name e) among) = ap (begins_first s) e
 
-pub first_starts : {s : Scope} {x : Around} {ls : List Lexeme} {e : Expr} → IsFirst s x ls e → StartsFirst ls
-first_starts (exprs.number e) = ap begins_first e
-first_starts (exprs.character e) = ap begins_first e
-first_starts (exprs.texts (exprs.last_text e)) = ap begins_first e
-first_starts (exprs.texts (exprs.more_texts e others)) = ap begins_first e
-first_starts (exprs.true_word is) = ap begins_first is.kind
-first_starts (exprs.false_word is) = ap begins_first is.kind
-first_starts (exprs.self_word is) = ap begins_first is.kind
-first_starts (exprs.exception_word is) = ap begins_first is.kind
-first_starts (exprs.parenthesised h) = parenthesised_starts h
-first_starts (exprs.void_word is) = ap begins_first is.kind
-first_starts (exprs.void_of is h) = ap begins_first is.kind
-first_starts (exprs.new_word is) = ap begins_first is.kind
-first_starts (exprs.new_of is h) = ap begins_first is.kind
-first_starts (exprs.implied_call h) = call_starts h
-first_starts (exprs.class_call {ls = ls} {ms = ms} {colons = colons} one parting h) = meets_front (λ l. begins_first l.kind) ls (colons ∷ ms) (type_starts one)
-first_starts (exprs.create is one h) = ap begins_first is.kind
-first_starts (exprs.items begun among closed) = ap begins_first begun.kind
-first_starts (exprs.bind is begun h closed) = ap begins_first is.kind
-first_starts (exprs.index_on_self (exprs.places begun among closed)) = ap begins_first begun.kind
-first_starts (exprs.result_word is) = ap begins_first is.kind
-first_starts (exprs.initial_of is h) = ap begins_first is.kind
+pub first_starts : {s : Scope} {x : Around} {ls : List Lexeme} {e : Expr} → IsFirst s x ls e → StartsFirst s ls
+first_starts {s = s} (exprs.number e) = ap (begins_first s) e
+first_starts {s = s} (exprs.character e) = ap (begins_first s) e
+first_starts {s = s} (exprs.texts (exprs.last_text e)) = ap (begins_first s) e
+first_starts {s = s} (exprs.texts (exprs.more_texts e others)) = ap (begins_first s) e
+first_starts {s = s} (exprs.true_word is) = ap (begins_first s) is.kind
+first_starts {s = s} (exprs.false_word is) = ap (begins_first s) is.kind
+first_starts {s = s} (exprs.self_word is) = ap (begins_first s) is.kind
+first_starts {s = s} (exprs.exception_word is) = ap (begins_first s) is.kind
+first_starts {s = s} (exprs.parenthesised h) = parenthesised_starts h
+first_starts {s = s} (exprs.void_word is) = ap (begins_first s) is.kind
+first_starts {s = s} (exprs.void_of is h) = ap (begins_first s) is.kind
+first_starts {s = s} (exprs.new_word is) = ap (begins_first s) is.kind
+first_starts {s = s} (exprs.new_of is h) = ap (begins_first s) is.kind
+first_starts {s = s} (exprs.implied_call h) = call_starts h
+first_starts {s = s} (exprs.class_call {ls = ls} {ms = ms} {colons = colons} one parting h) = meets_front (λ l. begins_first s l.kind) ls (colons ∷ ms) (type_starts s one)
+first_starts {s = s} (exprs.create is one h) = ap (begins_first s) is.kind
+first_starts {s = s} (exprs.items begun among closed) = ap (begins_first s) begun.kind
+first_starts {s = s} (exprs.bind is begun h closed) = ap (begins_first s) is.kind
+first_starts {s = s} (exprs.index_on_self (exprs.places begun among closed)) = ap (begins_first s) begun.kind
+first_starts {s = s} (exprs.result_word is) = ap (begins_first s) is.kind
+first_starts {s = s} (exprs.initial_of is h) = ap (begins_first s) is.kind
 
-pub post_starts : {s : Scope} {x : Around} {ls : List Lexeme} {e : Expr} → IsPost s x ls e → StartsFirst ls
-post_starts (exprs.first h) = first_starts h
-post_starts (exprs.call_on {ls = ls} {ms = ms} {dot = dot} h is called) = meets_front (λ l. begins_first l.kind) ls (dot ∷ ms) (post_starts h)
-post_starts (exprs.index_of h index) = post_starts h
+pub post_starts : {s : Scope} {x : Around} {ls : List Lexeme} {e : Expr} → IsPost s x ls e → StartsFirst s ls
+post_starts {s = s} (exprs.first h) = first_starts h
+post_starts {s = s} (exprs.call_on {ls = ls} {ms = ms} {dot = dot} h is called) = meets_front (λ l. begins_first s l.kind) ls (dot ∷ ms) (post_starts h)
+post_starts {s = s} (exprs.index_of h index) = post_starts h
 
-pub power_starts : {s : Scope} {x : Around} {ls : List Lexeme} {e : Expr} → IsPower s x ls e → StartsFirst ls
-power_starts (exprs.post h) = post_starts h
-power_starts (exprs.raised {ls = ls} {ms = ms} {o = o} h is k) = meets_front (λ l. begins_first l.kind) ls (o ∷ ms) (post_starts h)
+pub power_starts : {s : Scope} {x : Around} {ls : List Lexeme} {e : Expr} → IsPower s x ls e → StartsFirst s ls
+power_starts {s = s} (exprs.post h) = post_starts h
+power_starts {s = s} (exprs.raised {ls = ls} {ms = ms} {o = o} h is k) = meets_front (λ l. begins_first s l.kind) ls (o ∷ ms) (post_starts h)
 
-first_is_expr : (ls : List Lexeme) → StartsFirst ls → StartsExpr ls
-first_is_expr [] h = absurd h
-first_is_expr (l ∷ ls) h = or_left (begins_first l.kind) (is_some (prefix_kind l.kind)) h
+first_is_expr : (s : Scope) (ls : List Lexeme) → StartsFirst s ls → StartsExpr s ls
+first_is_expr s [] h = absurd h
+first_is_expr s (l ∷ ls) h = or_left (begins_first s l.kind) (is_some (prefix_kind l.kind)) h
 
-unary_starts : {s : Scope} {x : Around} {ls : List Lexeme} {e : Expr} → IsUnary s x ls e → StartsExpr ls
-unary_starts (exprs.prefix (exprs.negate is) h) = ap begins_expr is.kind
-unary_starts (exprs.prefix (exprs.not_sign is) h) = ap begins_expr is.kind
-unary_starts (exprs.power {ls = ls} h) = first_is_expr ls (power_starts h)
+unary_starts : {s : Scope} {x : Around} {ls : List Lexeme} {e : Expr} → IsUnary s x ls e → StartsExpr s ls
+unary_starts {s = s} (exprs.prefix (exprs.negate is) h) = ap (begins_expr s) is.kind
+unary_starts {s = s} (exprs.prefix (exprs.not_sign is) h) = ap (begins_expr s) is.kind
+unary_starts {s = s} (exprs.power {ls = ls} h) = first_is_expr s ls (power_starts h)
 
 module _ {s : Scope} {x : Around} where
-  operation_starts : {p : Precedence} → ((ls : List Lexeme) (e : Expr) → IsOperand s p x ls e → StartsExpr ls)
-      → {ls : List Lexeme} {e : Expr} → IsOperation s p x ls e → StartsExpr ls
+  operation_starts : {p : Precedence} → ((ls : List Lexeme) (e : Expr) → IsOperand s p x ls e → StartsExpr s ls)
+      → {ls : List Lexeme} {e : Expr} → IsOperation s p x ls e → StartsExpr s ls
   operation_starts each (exprs.operand {ls = ls} {e = e} h) = each ls e h
-  operation_starts each (exprs.operation {ls = ls} {ms = ms} {o = o} h is k) = meets_front (λ l. begins_expr l.kind) ls (o ∷ ms) (operation_starts each h)
+  operation_starts each (exprs.operation {ls = ls} {ms = ms} {o = o} h is k) = meets_front (λ l. begins_expr s l.kind) ls (o ∷ ms) (operation_starts each h)
 
-  product_starts : (ls : List Lexeme) (e : Expr) → IsOperand s Multiplying x ls e → StartsExpr ls
+  product_starts : (ls : List Lexeme) (e : Expr) → IsOperand s Multiplying x ls e → StartsExpr s ls
   product_starts ls e (exprs.of_multiplying h) = unary_starts h
 
-  sum_starts : (ls : List Lexeme) (e : Expr) → IsOperand s Adding x ls e → StartsExpr ls
+  sum_starts : (ls : List Lexeme) (e : Expr) → IsOperand s Adding x ls e → StartsExpr s ls
   sum_starts ls e (exprs.of_adding h) = operation_starts product_starts h
 
-  comparison_starts : (ls : List Lexeme) (e : Expr) → IsOperand s Comparing x ls e → StartsExpr ls
+  comparison_starts : (ls : List Lexeme) (e : Expr) → IsOperand s Comparing x ls e → StartsExpr s ls
   comparison_starts ls e (exprs.of_comparing h) = operation_starts sum_starts h
 
-  logical_starts : (ls : List Lexeme) (e : Expr) → IsOperand s Logical x ls e → StartsExpr ls
+  logical_starts : (ls : List Lexeme) (e : Expr) → IsOperand s Logical x ls e → StartsExpr s ls
   logical_starts ls e (exprs.of_logical h) = operation_starts comparison_starts h
 
-  pub expr_starts : {ls : List Lexeme} {e : Expr} → IsExpr s x ls e → StartsExpr ls
+  pub expr_starts : {ls : List Lexeme} {e : Expr} → IsExpr s x ls e → StartsExpr s ls
   expr_starts (exprs.logical_operation h) = operation_starts logical_starts h
 
 -- ---- what they don't begin with
@@ -197,14 +202,14 @@ module _ (test : TokenKind → Bool) where
   word_shut w none [] rest h = absurd h
   word_shut w none (l ∷ ls) rest h = word_apart w none l h (is_word w l) refl
 
-prefix_begins_none : {op : Op} {l : Lexeme} → IsPrefix op l → begins_first l.kind ≡ false
-prefix_begins_none (exprs.negate is) = ap begins_first is.kind
-prefix_begins_none (exprs.not_sign is) = ap begins_first is.kind
+prefix_begins_none : (s : Scope) {op : Op} {l : Lexeme} → IsPrefix op l → begins_first s l.kind ≡ false
+prefix_begins_none s (exprs.negate is) = ap (begins_first s) is.kind
+prefix_begins_none s (exprs.not_sign is) = ap (begins_first s) is.kind
 
-prefix_apart : (l : Lexeme) → begins_first l.kind ≡ true → (b : Bool) → is_operator prefix_kind l ≡ b → b ≡ false
-prefix_apart l h true e = absurd (true≢false (sym h ∙ prefix_begins_none (prefix_of_lexeme l e)))
-prefix_apart l h false e = refl
+prefix_apart : (s : Scope) (l : Lexeme) → begins_first s l.kind ≡ true → (b : Bool) → is_operator prefix_kind l ≡ b → b ≡ false
+prefix_apart s l h true e = absurd (true≢false (sym h ∙ prefix_begins_none s (prefix_of_lexeme l e)))
+prefix_apart s l h false e = refl
 
-pub prefix_shut : (ls rest : List Lexeme) → StartsFirst ls → Shut (is_operator prefix_kind) (ls ++ rest)
-prefix_shut [] rest h = absurd h
-prefix_shut (l ∷ ls) rest h = prefix_apart l h (is_operator prefix_kind l) refl
+pub prefix_shut : (s : Scope) (ls rest : List Lexeme) → StartsFirst s ls → Shut (is_operator prefix_kind) (ls ++ rest)
+prefix_shut s [] rest h = absurd h
+prefix_shut s (l ∷ ls) rest h = prefix_apart s l h (is_operator prefix_kind l) refl

@@ -21,7 +21,7 @@ use Rattle.sa_parse_expr.specs.Expressions.{IsTexts, IsOptionalType, IsArg, IsAr
 use Rattle.sa_grammar.specs.Arounds.{Around, Where, outside, in_array, around_of}
 use Rattle.sa_grammar.specs.Readings.{Read}
 use Rattle.sa_grammar.specs.Tests.{is_sign, is_word, is_sign_kind, is_text, text_of, is_text_kind}
-use Rattle.sa_grammar.specs.Forms.{Form, give, refuse, shift, follow, list, make, until, nest, type, expr, unary, power, post, opens}
+use Rattle.sa_grammar.specs.Forms.{Form, give, refuse, shift, follow, list, make, until, nest, type, expr, unary, power, post, stmts, opens}
 use Rattle.sa_grammar.specs.Forms.{Reader, behind, repeated, run, Nested, Tree}
 use Rattle.sa_grammar.specs.TypeForms.{type_form}
 use Rattle.sa_grammar.specs.ExpressionForms.{arg_form, args_form, named_form, call_form, places_form, inside_form, optional_form, texts_form}
@@ -35,6 +35,7 @@ use Rattle.sa_grammar.proofs.ExpressionStarts.{begins_expr, meets_front, expr_st
 use Rattle.sa_grammar.proofs.ExpressionStarts.{sign_shut, word_shut}
 use Rattle.sa_grammar.proofs.ExpressionEnds.{Ends, begins_type, after_type, after_name, after_first, after_post, after_power, after_expr}
 use Rattle.sa_grammar.proofs.ExpressionEnds.{ends_left, ends_right, kind_ends, first_ends_name, first_shuts_paren, ends_type, ends_optional_type, expr_ends_type, expr_shuts_colon}
+use Rattle.sa_grammar.proofs.StatementEnds.{after_stmts}
 use Rattle.sa_grammar.proofs.ExpressionsSound.{Spells, exprs_separated, args_separated}
 
 -- what doesn't go on with the productions that nest
@@ -44,6 +45,7 @@ EndsOf (expr s x) rest = Ends after_expr rest
 EndsOf (unary s x) rest = Ends after_power rest
 EndsOf (power s x) rest = Ends after_power rest
 EndsOf (post s x) rest = Ends after_post rest
+EndsOf stmts rest = Ends after_stmts rest
 
 pub comma_ends : (l : Lexeme) (rest : List Lexeme) → IsSign sign.Comma l → Ends after_expr (l ∷ rest)
 comma_ends l rest is = kind_ends after_expr l rest is.kind refl
@@ -82,9 +84,9 @@ module _ (level : ℕ) (nested : (n : Nested) → Reader (Tree n))
   arg_read : (s : Scope) (ls : List Lexeme) (arg : Given) (rest : List Lexeme) → IsArg s ls arg → length ls < level → Ends after_expr rest → Reads level nested (arg_form s) (ls ++ rest) arg rest
   unfolding arg_form
   arg_read s ls _ rest (exprs.in_value {e = e} h) small ends =
-      reads-other (sign_shut begins_expr sign.Underscore refl ls rest (expr_starts h))
-      (reads-other (word_shut begins_expr word.Out refl ls rest (expr_starts h))
-      (reads-other (word_shut begins_expr word.Inout refl ls rest (expr_starts h))
+      reads-other (sign_shut (begins_expr s) sign.Underscore refl ls rest (expr_starts h))
+      (reads-other (word_shut (begins_expr s) word.Out refl ls rest (expr_starts h))
+      (reads-other (word_shut (begins_expr s) word.Inout refl ls rest (expr_starts h))
       (reads-make (nest_read (expr s outside) ls e rest h small ends))))
   arg_read s _ _ rest (exprs.out_value {ls = ls} {e = e} is h) small ends =
       reads-other (ap (is_sign_kind sign.Underscore) is.kind) (reads-met (word_met is) (reads-make (nest_read (expr s outside) ls e rest h (omega arith) ends)))

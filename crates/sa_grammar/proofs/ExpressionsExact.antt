@@ -15,10 +15,10 @@ use Rattle.sa_grammar.proofs.ExpressionsSound.{Spells, nested_sound, separated_e
 use Rattle.sa_grammar.proofs.ExpressionsComplete.{EndsOf, comma_ends, nest_read}
 use Rattle.sa_grammar.proofs.Nesting.{all_sound, all_complete}
 
-nest_sound : (x : Nested) (n : ℕ) → IsSound n (nested_to n) (Spells x) (nest x)
+pub nest_sound : (x : Nested) (n : ℕ) → IsSound n (nested_to n) (Spells x) (nest x)
 nest_sound x n = nested_sound n (nested_to n) (all_sound n) x
 
-nest_reads : (x : Nested) → EndsOf x [] → (n : ℕ) (ls : List Lexeme) (t : Tree x) → Spells x ls t → length ls < n → Reads n (nested_to n) (nest x) (ls ++ []) t []
+pub nest_reads : (x : Nested) → EndsOf x [] → (n : ℕ) (ls : List Lexeme) (t : Tree x) → Spells x ls t → length ls < n → Reads n (nested_to n) (nest x) (ls ++ []) t []
 nest_reads x end n ls t h small = nest_read n (nested_to n) (all_complete n) x ls t [] h small end
 
 module _ (s : Scope) (x : Where) where

@@ -20,17 +20,18 @@ use Rattle.sa_parse_expr.specs.Types.{IsType}
 use Rattle.sa_parse_expr.specs.Expressions as exprs
 use Rattle.sa_parse_expr.specs.Expressions.{IsTexts, IsOptionalType, IsArg, IsArgList, IsArgs, IsCall, IsExprs, IsIndex, IsParenthesised, IsFirst}
 use Rattle.sa_parse_expr.specs.Expressions.{IsPost, IsPower, IsUnary, IsOperand, IsOperation, IsExpr}
+use Rattle.sa_parse.specs.Statements.{IsStmts}
 use Rattle.sa_grammar.specs.Arounds.{Around, Where, outside, in_array, around_of}
 use Rattle.sa_grammar.specs.Readings.{Spelling}
 use Rattle.sa_grammar.specs.Tests.{is_sign, text_of}
-use Rattle.sa_grammar.specs.Forms.{Form, Reader, Nested, Tree, nest, make, until, type, expr, unary, power, post}
+use Rattle.sa_grammar.specs.Forms.{Form, Reader, Nested, Tree, nest, make, until, type, expr, unary, power, post, stmts}
 use Rattle.sa_grammar.specs.TypeForms.{type_form}
 use Rattle.sa_grammar.specs.ExpressionForms.{arg_form, args_form, named_form, call_form, places_form, inside_form, optional_form, texts_form}
 use Rattle.sa_grammar.specs.ExpressionForms.{items_or, result_or, class_call_form, optional_type_form, first_form, going_form}
 use Rattle.sa_grammar.specs.ExpressionForms.{placed_post_form, post_form, power_form, unary_form, operation_form, product_form, sum_form, comparison_form, expr_form}
-use Rattle.sa_grammar.proofs.Tested.{sign_stands, word_stands, feature_stands, number_stands, character_stands, text_stands, lexeme, a_sign}
+use Rattle.sa_grammar.proofs.Tested.{sign_met, sign_stands, word_stands, feature_stands, number_stands, character_stands, text_stands, lexeme, a_sign}
 use Rattle.sa_grammar.proofs.Shorter.{opened}
-use Rattle.sa_grammar.proofs.Sound.{After, Sound, sound_shorter, Separated, last, more, Placed, stands}
+use Rattle.sa_grammar.proofs.Sound.{After, Sound, sound_shorter, Listed, last, more, Placed, stands}
 use Rattle.sa_grammar.proofs.Sound.{IsSound, sound-give, sound-refuse, sound-shift, sound-either, sound-follow, sound-list, sound-repeat, sound-placed, sound-make, sound-until, sound-up}
 use Rattle.sa_grammar.proofs.TypeForms.{sound_type}
 use Rattle.sa_grammar.proofs.Operators.{Precedence, AreOperators, prefix_of_lexeme}
@@ -44,24 +45,25 @@ Spells (expr s x) = IsExpr s (around_of x)
 Spells (unary s x) = IsUnary s (around_of x)
 Spells (power s x) = IsPower s (around_of x)
 Spells (post s x) = IsPost s (around_of x)
+Spells stmts = IsStmts
 
 -- ---- lists
 
-pub separated_exprs : {s : Scope} {x : Around} {ls : List Lexeme} {es : List Expr} → Separated (IsExpr s x) ls es → IsExprs s x ls es
+pub separated_exprs : {s : Scope} {x : Around} {ls : List Lexeme} {es : List Expr} → Listed (IsExpr s x) ls es → IsExprs s x ls es
 separated_exprs (last one) = exprs.last_expr one
-separated_exprs (more one comma others) = exprs.more_exprs one comma (separated_exprs others)
+separated_exprs (more {l = l} one comma others) = exprs.more_exprs one (sign_stands sign.Comma l comma) (separated_exprs others)
 
-pub exprs_separated : {s : Scope} {x : Around} {ls : List Lexeme} {es : List Expr} → IsExprs s x ls es → Separated (IsExpr s x) ls es
+pub exprs_separated : {s : Scope} {x : Around} {ls : List Lexeme} {es : List Expr} → IsExprs s x ls es → Listed (IsExpr s x) ls es
 exprs_separated (exprs.last_expr one) = last one
-exprs_separated (exprs.more_exprs one comma others) = more one comma (exprs_separated others)
+exprs_separated (exprs.more_exprs one comma others) = more one (sign_met comma) (exprs_separated others)
 
-separated_args : {s : Scope} {ls : List Lexeme} {args : List Given} → Separated (IsArg s) ls args → IsArgList s ls args
+separated_args : {s : Scope} {ls : List Lexeme} {args : List Given} → Listed (IsArg s) ls args → IsArgList s ls args
 separated_args (last one) = exprs.last_arg one
-separated_args (more one comma others) = exprs.more_args one comma (separated_args others)
+separated_args (more {l = l} one comma others) = exprs.more_args one (sign_stands sign.Comma l comma) (separated_args others)
 
-pub args_separated : {s : Scope} {ls : List Lexeme} {args : List Given} → IsArgList s ls args → Separated (IsArg s) ls args
+pub args_separated : {s : Scope} {ls : List Lexeme} {args : List Given} → IsArgList s ls args → Listed (IsArg s) ls args
 args_separated (exprs.last_arg one) = last one
-args_separated (exprs.more_args one comma others) = more one comma (args_separated others)
+args_separated (exprs.more_args one comma others) = more one (sign_met comma) (args_separated others)
 
 -- texts, and one more
 texts_more : {ls : List Lexeme} {bytes added : List ℕ} (l : Lexeme) → IsTexts ls bytes → l.kind ≡ token.Text added → IsTexts (ls ++ l ∷ []) (bytes ++ added)

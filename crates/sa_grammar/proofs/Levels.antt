@@ -1,18 +1,18 @@
 -- Two levels above the number of lexemes read the same.
 use Rattle.std.proofs.Common.{◌≡◌, ℕ, zero, suc, ◌<◌, ◌≤◌, Bool, true, false, cond, List, [], ◌∷◌, length, refl, ap, ◌∙◌, arith, Option}
-use Rattle.sa_lex.specs.declared.sign.Sign.TheVariants as sign
 use Rattle.sa_lex.specs.declared.token.TokenKind.{TokenKind}
 use Rattle.sa_tree.specs.declared.expr.Op.{Op}
 use Rattle.sa_tree.specs.declared.expr.Expr.{Expr}
 use Rattle.sa_parse_expr.specs.Lexemes.{Lexeme}
 use Rattle.sa_grammar.specs.Arounds.{Where, outside, in_array}
 use Rattle.sa_grammar.specs.Readings.{Reading, Read, Refused}
-use Rattle.sa_grammar.specs.Tests.{is_sign, logical_kind, comparing_kind, adding_kind, multiplying_kind}
-use Rattle.sa_grammar.specs.Forms.{Form, give, refuse, shift, either, follow, list, repeat, placed, nest, type, expr, unary, power, post, opens}
+use Rattle.sa_grammar.specs.Tests.{logical_kind, comparing_kind, adding_kind, multiplying_kind}
+use Rattle.sa_grammar.specs.Forms.{Form, give, refuse, shift, either, follow, separated, repeat, placed, nest, type, expr, unary, power, post, stmts, opens}
 use Rattle.sa_grammar.specs.Forms.{Reader, behind, with_read, place_of, listed, repeated, run, Nested, Tree}
 use Rattle.sa_grammar.specs.TypeForms.{type_form}
 use Rattle.sa_grammar.specs.ExpressionForms.{first_form, items_or, result_or, class_call_form, placed_post_form, post_form, power_form, unary_form}
 use Rattle.sa_grammar.specs.ExpressionForms.{operation_form, product_form, sum_form, comparison_form, expr_form}
+use Rattle.sa_grammar.specs.StatementForms.{assign_form, simple_form, stmt_form, optional_stmt_form, stmts_form}
 use Rattle.sa_grammar.specs.Grammar.{form_of, nested_to}
 use Rattle.sa_grammar.proofs.Shorter.{NoLonger, NoLonger-run, behind_one}
 use Rattle.sa_parse_expr.specs.declared.grammar.Scope.{Scope}
@@ -29,18 +29,26 @@ behind-same : {A B : Type 0} (go other : A → Reader B) (ls : List Lexeme) (v :
 behind-same go other ls (Read a mid) h e = e a mid h
 behind-same go other ls (Refused rest) h e = refl
 
-module _ {A : Type 0} (most : ℕ) (item other : Reader A) (short : (ls : List Lexeme) → NoLonger ls (item ls)) (each : (ls : List Lexeme) → length ls < most → item ls ≡ other ls) where
-  behind_one-same : (f g : ℕ) (a : A) (size : ℕ) → ((ms : List Lexeme) → length ms < size → listed f item ms ≡ listed g other ms) → (ms : List Lexeme) → length ms ≤ size → behind_one f item a ms ≡ behind_one g other a ms
+module _ {A : Type 0} (most : ℕ) (test : Lexeme → Bool) (item other : Reader A) (short : (ls : List Lexeme) → NoLonger ls (item ls)) (each : (ls : List Lexeme) → length ls < most → item ls ≡ other ls) where
+  behind_one-same : (f g : ℕ) (a : A) (size : ℕ) → ((ms : List Lexeme) → length ms < size → listed f test item ms ≡ listed g test other ms) → (ms : List Lexeme) → length ms ≤ size
+      → behind_one f test item a ms ≡ behind_one g test other a ms
   behind_one-same f g a size e [] h = refl
-  behind_one-same f g a size e (l ∷ ms) h = cond-both (is_sign sign.Comma l) (ap (with_read (λ others. a ∷ others)) (e ms (omega arith))) refl
+  behind_one-same f g a size e (l ∷ ms) h = cond-both (test l) (ap (with_read (λ others. a ∷ others)) (e ms (omega arith))) refl
 
-  listed-same : (f g : ℕ) (ls : List Lexeme) → length ls < most → length ls < f → length ls < g → listed f item ls ≡ listed g other ls
+  listed-same : (f g : ℕ) (ls : List Lexeme) → length ls < most → length ls < f → length ls < g → listed f test item ls ≡ listed g test other ls
   listed-same zero g ls h i j = absurd (omega arith)
   listed-same (suc f) zero ls h i j = absurd (omega arith)
   listed-same (suc f) (suc g) ls h i j =
-      behind-same (behind_one f item) (behind_one g other) ls (item ls) (short ls)
+      behind-same (behind_one f test item) (behind_one g test other) ls (item ls) (short ls)
       (λ a ms le. behind_one-same f g a (length ls) (λ ms lt. listed-same f g ms (omega arith) (omega arith) (omega arith)) ms le)
-      ∙ ap (behind (behind_one g other)) (each ls h)
+      ∙ ap (behind (behind_one g test other)) (each ls h)
+
+  -- where the first one is the same, of one lexeme more
+  listed-first : (f g : ℕ) (ls : List Lexeme) → item ls ≡ other ls → length ls ≤ most → length ls ≤ f → length ls ≤ g → listed (suc f) test item ls ≡ listed (suc g) test other ls
+  listed-first f g ls first h i j =
+      behind-same (behind_one f test item) (behind_one g test other) ls (item ls) (short ls)
+      (λ a ms le. behind_one-same f g a (length ls) (λ ms lt. listed-same f g ms (omega arith) (omega arith) (omega arith)) ms le)
+      ∙ ap (behind (behind_one g test other)) first
 
 module _ {A : Type 0} (most : ℕ) (test : Lexeme → Bool) (step other : A → Lexeme → Reader A) (short : (a : A) (l : Lexeme) (ls : List Lexeme) → NoLonger ls (step a l ls))
     (each : (a : A) (l : Lexeme) (ls : List Lexeme) → length ls < most → step a l ls ≡ other a l ls) where
@@ -61,7 +69,7 @@ Guarded refuse = Unit {0}
 Guarded (shift test go other) = Guarded other
 Guarded (either one other) = Guarded one × Guarded other
 Guarded (follow {A = A} first next) = Guarded first × ((a : A) → Guarded (next a))
-Guarded (list item) = ⊥
+Guarded (separated test item) = Guarded item
 Guarded (repeat test step a) = Unit {0}
 Guarded (placed form) = Guarded form
 Guarded (nest n) = ⊥
@@ -78,12 +86,12 @@ module _ (most m n : ℕ) (below_m : most ≤ m) (below_n : most ≤ n) (M N : (
   run-same (follow first next) ls h =
       behind-same (λ a. run m M (next a)) (λ a. run n N (next a)) ls (run m M first ls) (NoLonger-run m M short first ls) (λ a ms le. run-same (next a) ms (omega arith))
       ∙ ap (behind (λ a. run n N (next a))) (run-same first ls h)
-  run-same (list item) ls h =
-      listed-same most (run m M item) (run n N item) (λ ms. NoLonger-run m M short item ms) (λ ms lt. run-same item ms lt) (suc m) (suc n) ls h (omega arith) (omega arith)
+  run-same (separated test item) ls h =
+      listed-same most test (run m M item) (run n N item) (λ ms. NoLonger-run m M short item ms) (λ ms lt. run-same item ms lt) (suc m) (suc n) ls h (omega arith) (omega arith)
   run-same (repeat test step a) ls h =
       repeated-same most test (λ tree l. run m M (step tree l)) (λ tree l. run n N (step tree l)) (λ tree l ms. NoLonger-run m M short (step tree l) ms)
       (λ tree l ms lt. run-same (step tree l) ms lt) (suc m) (suc n) a ls (omega arith) (omega arith) (omega arith)
-  run-same (placed form) ls h = ap (with_read (λ a. (place_of ls, a))) (run-same form ls h)
+  run-same (placed form) ls h = ap (behind (λ a more. Read (place_of ls, a) more)) (run-same form ls h)
   run-same (nest x) ls h = below x ls h
 
   -- a guarded form may have one lexeme more
@@ -97,11 +105,12 @@ module _ (most m n : ℕ) (below_m : most ≤ m) (below_n : most ≤ n) (M N : (
   guarded-same (follow first next) g ls h =
       behind-same (λ a. run m M (next a)) (λ a. run n N (next a)) ls (run m M first ls) (NoLonger-run m M short first ls) (λ a ms le. guarded-same (next a) (g.1 a) ms (omega arith))
       ∙ ap (behind (λ a. run n N (next a))) (guarded-same first g.0 ls h)
-  guarded-same (list item) g ls h = absurd g
+  guarded-same (separated test item) g ls h =
+      listed-first most test (run m M item) (run n N item) (λ ms. NoLonger-run m M short item ms) (λ ms lt. run-same item ms lt) m n ls (guarded-same item g ls h) h (omega arith) (omega arith)
   guarded-same (repeat test step a) g ls h =
       repeated-same most test (λ tree l. run m M (step tree l)) (λ tree l. run n N (step tree l)) (λ tree l ms. NoLonger-run m M short (step tree l) ms)
       (λ tree l ms lt. run-same (step tree l) ms lt) (suc m) (suc n) a ls h (omega arith) (omega arith)
-  guarded-same (placed form) g ls h = ap (with_read (λ a. (place_of ls, a))) (guarded-same form g ls h)
+  guarded-same (placed form) g ls h = ap (behind (λ a more. Read (place_of ls, a) more)) (guarded-same form g ls h)
   guarded-same (nest x) g ls h = absurd g
 
 -- ---- the productions that nest
@@ -139,6 +148,14 @@ guarded_expr s x =
     guarded_operation logical_kind (comparison_form s x) (guarded_operation comparing_kind (sum_form s x)
     (guarded_operation adding_kind (product_form s x) (guarded_operation multiplying_kind (unary_form s x) (guarded_unary s x))))
 
+guarded_assign : (a : Expr) → Guarded (assign_form a)
+unfolding assign_form
+guarded_assign a = tt
+
+guarded_stmts : Guarded stmts_form
+unfolding stmts_form optional_stmt_form stmt_form simple_form
+guarded_stmts = ((((guarded_expr Plain outside, λ a. guarded_assign a), λ s. tt), tt), λ all. tt)
+
 guarded : (x : Nested) → Guarded (form_of x)
 unfolding form_of
 guarded type = guarded_type
@@ -146,6 +163,7 @@ guarded (expr s x) = guarded_expr s x
 guarded (unary s x) = guarded_unary s x
 guarded (power s x) = guarded_power s x
 guarded (post s x) = guarded_post s x
+guarded stmts = guarded_stmts
 
 short_to : (n : ℕ) (x : Nested) (ls : List Lexeme) → NoLonger ls (nested_to n x ls)
 unfolding nested_to

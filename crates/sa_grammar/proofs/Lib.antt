@@ -1,3 +1,4 @@
+pub mod BodiesComplete
 pub mod Complete
 pub mod Exact
 pub mod ExpressionEnds
@@ -12,6 +13,10 @@ pub mod OperationsComplete
 pub mod Operators
 pub mod Shorter
 pub mod Sound
+pub mod StatementEnds
+pub mod StatementsComplete
+pub mod StatementsExact
+pub mod StatementsSound
 pub mod Tested
 pub mod TypeForms
 pub mod TypesExact

@@ -8,7 +8,7 @@ use Rattle.sa_parse_expr.specs.Lexemes.{Lexeme}
 use Rattle.sa_parse_expr.specs.Types as types
 use Rattle.sa_grammar.specs.Arounds.{around_of}
 use Rattle.sa_grammar.specs.Readings.{Begins, Read}
-use Rattle.sa_grammar.specs.Forms.{Reader, Nested, Tree, type, expr, unary, power, post}
+use Rattle.sa_grammar.specs.Forms.{Reader, Nested, Tree, type, expr, unary, power, post, stmts}
 use Rattle.sa_grammar.specs.Grammar.{form_of, nested_to}
 use Rattle.sa_grammar.proofs.Tested.{lexeme, a_word}
 use Rattle.sa_grammar.proofs.Sound.{Sound, sound-refused, IsSound}
@@ -16,7 +16,9 @@ use Rattle.sa_grammar.proofs.Complete.{Reads}
 use Rattle.sa_grammar.proofs.TypeForms.{sound_type, type_read}
 use Rattle.sa_grammar.proofs.ExpressionStarts.{origin, true_lexeme, a_post, a_power, a_unary, an_expr}
 use Rattle.sa_grammar.proofs.ExpressionsSound.{Spells, sound_expr, sound_unary, sound_power, sound_post}
+use Rattle.sa_grammar.proofs.StatementsSound.{no_stmts, sound_stmts}
 use Rattle.sa_grammar.proofs.ExpressionsComplete.{EndsOf}
+use Rattle.sa_grammar.proofs.BodiesComplete.{stmts_read}
 use Rattle.sa_grammar.proofs.OperationsComplete.{expr_read, unary_read, power_read, post_read}
 
 begins : (n : Nested) → Begins (Spells n) []
@@ -25,6 +27,7 @@ begins (expr s x) = record { more = true_lexeme ∷ []; tree = tree.Bool true or
 begins (unary s x) = record { more = true_lexeme ∷ []; tree = tree.Bool true origin; spelled = a_unary s (around_of x) }
 begins (power s x) = record { more = true_lexeme ∷ []; tree = tree.Bool true origin; spelled = a_power s (around_of x) }
 begins (post s x) = record { more = true_lexeme ∷ []; tree = tree.Bool true origin; spelled = a_post s (around_of x) }
+begins stmts = record { more = []; tree = []; spelled = no_stmts }
 
 form_sound : (level : ℕ) (nested : (n : Nested) → Reader (Tree n)) → ((n : Nested) → Sound (Spells n) (nested n)) → (n : Nested) → IsSound level nested (Spells n) (form_of n)
 unfolding form_of
@@ -33,6 +36,7 @@ form_sound level nested inside (expr s x) = sound_expr level nested inside s x
 form_sound level nested inside (unary s x) = sound_unary level nested inside s x
 form_sound level nested inside (power s x) = sound_power level nested inside s x
 form_sound level nested inside (post s x) = sound_post level nested inside s x
+form_sound level nested inside stmts = sound_stmts level nested inside
 
 pub all_sound : (level : ℕ) (n : Nested) → Sound (Spells n) (nested_to level n)
 unfolding nested_to
@@ -48,6 +52,7 @@ module _ (level : ℕ) (nested : (n : Nested) → Reader (Tree n))
   form_read (unary s x) ls t rest h small ends = unary_read level nested inside s x rest h small ends
   form_read (power s x) ls t rest h small ends = power_read level nested inside s x rest h small ends
   form_read (post s x) ls t rest h small ends = post_read level nested inside s x rest h small ends
+  form_read stmts ls t rest h small ends = stmts_read level nested inside rest h small ends
 
 pub all_complete : (level : ℕ) (n : Nested) (ls : List Lexeme) (t : Tree n) (rest : List Lexeme) → Spells n ls t → length ls < level → EndsOf n rest → nested_to level n (ls ++ rest) ≡ Read t rest
 unfolding nested_to

@@ -116,7 +116,7 @@ module _ (level : ℕ) (nested : (n : Nested) → Reader (Tree n))
   unary_read s x rest (exprs.prefix {ls = ls} {o = o} {e = e} is h) small ends =
       reads-met (ap is_some (prefix_met is))
       (reads-as (ap (λ op. tree.Unary (or_any op) e o.pos) (prefix_met is)) (reads-make (nest_read level nested inside (unary s x) ls e rest h (omega arith) ends)))
-  unary_read s x rest (exprs.power {ls = ls} h) small ends = reads-other (prefix_shut ls rest (power_starts h)) (power_read s x rest h small ends)
+  unary_read s x rest (exprs.power {ls = ls} h) small ends = reads-other (prefix_shut s ls rest (power_starts h)) (power_read s x rest h small ends)
 
 module _ (level : ℕ) (nested : (n : Nested) → Reader (Tree n)) {s : Scope} {p : Precedence} {x : Around} {operators : TokenKind → Option Op} (are : AreOperators p operators)
     (operand : Form Expr) (after : TokenKind → Bool) (operator_ends : (op : Op) (o : Lexeme) → IsOperator p op o → (rest : List Lexeme) → Ends after (o ∷ rest))

@@ -1,15 +1,13 @@
 -- What is left isn't longer than what was there, and a form that opens with a lexeme takes it.
 use Rattle.std.proofs.Common.{◌≡◌, ℕ, zero, suc, ◌≤◌, Bool, true, false, cond, ◌||◌, List, [], ◌∷◌, length, refl, ap, arith}
-use Rattle.sa_lex.specs.declared.sign.Sign.TheVariants as sign
 use Rattle.sa_parse_expr.specs.Lexemes.{Lexeme}
 use Rattle.sa_grammar.specs.Readings.{Reading, Read, Refused}
-use Rattle.sa_grammar.specs.Tests.{is_sign}
-use Rattle.sa_grammar.specs.Forms.{Form, give, refuse, shift, either, follow, list, repeat, placed, nest, opens}
+use Rattle.sa_grammar.specs.Forms.{Form, give, refuse, shift, either, follow, separated, repeat, placed, nest, opens}
 use Rattle.sa_grammar.specs.Forms.{Reader, behind, with_read, shifted, chosen, place_of, listed, repeated, run, Nested, Tree}
 
--- what follows one of a list: a comma and others, or the end of the list
-abbrev pub behind_one : {A : Type 0} → ℕ → Reader A → A → Reader (List A)
-behind_one fuel item a = shifted (is_sign sign.Comma) (λ _ ms. with_read (λ others. a ∷ others) (listed fuel item ms)) (λ ms. Read (a ∷ []) ms)
+-- what follows one of a list: a lexeme that meets the test, and others, or the end of the list
+abbrev pub behind_one : {A : Type 0} → ℕ → (Lexeme → Bool) → Reader A → A → Reader (List A)
+behind_one fuel test item a = shifted test (λ _ ms. with_read (λ others. a ∷ others) (listed fuel test item ms)) (λ ms. Read (a ∷ []) ms)
 
 abbrev pub NoLonger : {A : Type 0} → List Lexeme → Reading A → Type 0
 NoLonger ls (Read tree rest) = length rest ≤ length ls
@@ -46,15 +44,16 @@ module _ {A : Type 0} (test : Lexeme → Bool) (one other : Reader A) (first : (
   NoLonger-chosen [] = second []
   NoLonger-chosen (l ∷ ls) = NoLonger-either (test l) (l ∷ ls)
 
-NoLonger-one : {A : Type 0} (item : Reader A) (fuel : ℕ) → ((ls : List Lexeme) → NoLonger ls (listed fuel item ls)) → (a : A) (ls : List Lexeme) → NoLonger ls (behind_one fuel item a ls)
-NoLonger-one item fuel all a ls =
-    NoLonger-shifted (is_sign sign.Comma) (λ _ ms. with_read (λ others. a ∷ others) (listed fuel item ms)) (λ ms. Read (a ∷ []) ms)
-    (λ l ms. NoLonger-with (λ others. a ∷ others) ms (listed fuel item ms) (all ms)) (λ ms. omega arith) ls
+NoLonger-one : {A : Type 0} (test : Lexeme → Bool) (item : Reader A) (fuel : ℕ) → ((ls : List Lexeme) → NoLonger ls (listed fuel test item ls))
+    → (a : A) (ls : List Lexeme) → NoLonger ls (behind_one fuel test item a ls)
+NoLonger-one test item fuel all a ls =
+    NoLonger-shifted test (λ _ ms. with_read (λ others. a ∷ others) (listed fuel test item ms)) (λ ms. Read (a ∷ []) ms)
+    (λ l ms. NoLonger-with (λ others. a ∷ others) ms (listed fuel test item ms) (all ms)) (λ ms. omega arith) ls
 
-NoLonger-listed : {A : Type 0} (item : Reader A) → ((ls : List Lexeme) → NoLonger ls (item ls)) → (fuel : ℕ) (ls : List Lexeme) → NoLonger ls (listed fuel item ls)
-NoLonger-listed item each zero ls = omega arith
-NoLonger-listed item each (suc fuel) ls =
-    NoLonger-behind (behind_one fuel item) ls (λ a ms. NoLonger-one item fuel (λ xs. NoLonger-listed item each fuel xs) a ms) (item ls) (each ls)
+NoLonger-listed : {A : Type 0} (test : Lexeme → Bool) (item : Reader A) → ((ls : List Lexeme) → NoLonger ls (item ls)) → (fuel : ℕ) (ls : List Lexeme) → NoLonger ls (listed fuel test item ls)
+NoLonger-listed test item each zero ls = omega arith
+NoLonger-listed test item each (suc fuel) ls =
+    NoLonger-behind (behind_one fuel test item) ls (λ a ms. NoLonger-one test item fuel (λ xs. NoLonger-listed test item each fuel xs) a ms) (item ls) (each ls)
 
 NoLonger-repeated : {A : Type 0} (test : Lexeme → Bool) (step : A → Lexeme → Reader A) → ((a : A) (l : Lexeme) (ls : List Lexeme) → NoLonger ls (step a l ls))
     → (n : ℕ) (a : A) (ls : List Lexeme) → NoLonger ls (repeated n test step a ls)
@@ -73,10 +72,10 @@ module _ (level : ℕ) (nested : (n : Nested) → Reader (Tree n)) (each : (n : 
       NoLonger-chosen (opens one) (run level nested one) (run level nested other) (λ ms. NoLonger-run one ms) (λ ms. NoLonger-run other ms) ls
   NoLonger-run (follow first next) ls =
       NoLonger-behind (λ a. run level nested (next a)) ls (λ a ms. NoLonger-run (next a) ms) (run level nested first ls) (NoLonger-run first ls)
-  NoLonger-run (list item) ls = NoLonger-listed (run level nested item) (λ ms. NoLonger-run item ms) (suc level) ls
+  NoLonger-run (separated test item) ls = NoLonger-listed test (run level nested item) (λ ms. NoLonger-run item ms) (suc level) ls
   NoLonger-run (repeat test step a) ls =
       NoLonger-repeated test (λ tree l. run level nested (step tree l)) (λ tree l ms. NoLonger-run (step tree l) ms) (suc level) a ls
-  NoLonger-run (placed form) ls = NoLonger-with (λ a. (place_of ls, a)) ls (run level nested form ls) (NoLonger-run form ls)
+  NoLonger-run (placed form) ls = NoLonger-behind (λ a more. Read (place_of ls, a) more) ls (λ a ms. omega arith) (run level nested form ls) (NoLonger-run form ls)
   NoLonger-run (nest n) ls = each n ls
 
   -- one of two, by a test
@@ -94,14 +93,14 @@ module _ (level : ℕ) (nested : (n : Nested) → Reader (Tree n)) (each : (n : 
       one_of ls (run level nested one (l ∷ ls)) (run level nested other (l ∷ ls)) (opens one l) (opens other l) (λ k. opened one l ls k) (λ k. opened other l ls k) h
   opened (follow first next) l ls h =
       NoLonger-behind (λ a. run level nested (next a)) ls (λ a ms. NoLonger-run (next a) ms) (run level nested first (l ∷ ls)) (opened first l ls h)
-  opened (list item) l ls h =
-      NoLonger-behind (behind_one level (run level nested item)) ls
-      (λ a ms. NoLonger-one (run level nested item) level (λ xs. NoLonger-listed (run level nested item) (λ ms. NoLonger-run item ms) level xs) a ms) (run level nested item (l ∷ ls)) (opened item l ls h)
+  opened (separated test item) l ls h =
+      NoLonger-behind (behind_one level test (run level nested item)) ls
+      (λ a ms. NoLonger-one test (run level nested item) level (λ xs. NoLonger-listed test (run level nested item) (λ ms. NoLonger-run item ms) level xs) a ms) (run level nested item (l ∷ ls)) (opened item l ls h)
   opened (repeat test step a) l ls h =
       let next = repeated level test (λ tree l. run level nested (step tree l)) in
       one_of ls (behind next (run level nested (step a l) ls)) (Read a (l ∷ ls)) (test l) false
       (λ _. NoLonger-behind next ls (λ b ms. NoLonger-repeated test (λ tree l. run level nested (step tree l)) (λ tree l ms. NoLonger-run (step tree l) ms) level b ms)
       (run level nested (step a l) ls) (NoLonger-run (step a l) ls))
       (λ k. absurd (cc)) (ap (λ b. b || false) h)
-  opened (placed form) l ls h = NoLonger-with (λ a. (place_of (l ∷ ls), a)) ls (run level nested form (l ∷ ls)) (opened form l ls h)
+  opened (placed form) l ls h = NoLonger-behind (λ a more. Read (place_of (l ∷ ls), a) more) ls (λ a ms. omega arith) (run level nested form (l ∷ ls)) (opened form l ls h)
   opened (nest n) l ls h = absurd (cc)

@@ -5,13 +5,14 @@ use Rattle.std.proofs.lemmas.Bool.{cond-true, cond-false}
 use Rattle.sa_lex.specs.declared.token.TokenKind.TheVariants as token
 use Rattle.sa_lex.specs.declared.sign.Sign.{Sign}
 use Rattle.sa_lex.specs.declared.sign.Sign.TheVariants as sign
+use Rattle.sa_lex.specs.declared.word.Word.{Word}
 use Rattle.sa_tree.specs.declared.pos.Pos.{Pos}
-use Rattle.sa_parse_expr.specs.Lexemes.{Lexeme, IsSign}
+use Rattle.sa_parse_expr.specs.Lexemes.{Lexeme, IsSign, IsWord}
 use Rattle.sa_grammar.specs.Readings.{Spelling, Begins, Reading, Read, Refused}
 use Rattle.sa_grammar.specs.Tests.{is_sign}
-use Rattle.sa_grammar.specs.Forms.{Form, give, refuse, shift, either, follow, list, repeat, placed, make, until, opens}
+use Rattle.sa_grammar.specs.Forms.{Form, give, refuse, shift, either, follow, separated, repeat, placed, list, make, until, until_word, opens}
 use Rattle.sa_grammar.specs.Forms.{Reader, behind, with_read, shifted, chosen, place_of, listed, repeated, run, Nested, Tree}
-use Rattle.sa_grammar.proofs.Tested.{sign_stands, lexeme, a_sign}
+use Rattle.sa_grammar.proofs.Tested.{sign_stands, word_stands, lexeme, a_sign, a_word}
 use Rattle.sa_grammar.proofs.Shorter.{behind_one, NoLonger}
 
 -- another list that may stand behind what was taken: it is empty, or begins with the same lexeme
@@ -214,21 +215,25 @@ module _ {A : Type 0} (R : Spelling A) (test : Lexeme → Bool) (go : Lexeme →
   sound-shifted : Sound R (shifted test go other)
   sound-shifted = record { begins = without.begins; answers = answers }
 
--- ---- one or several with `,` between them
+-- ---- one or several with a lexeme between them that meets a test
 
-pub data Separated {A : Type 0} (P : Spelling A) : List Lexeme → List A → Type 0 where
-  last : {ls : List Lexeme} {a : A} → P ls a → Separated P ls (a ∷ [])
-  more : {ls ms : List Lexeme} {comma : Lexeme} {a : A} {others : List A} → P ls a → IsSign sign.Comma comma → Separated P ms others → Separated P (ls ++ comma ∷ ms) (a ∷ others)
+pub data Separated {A : Type 0} (test : Lexeme → Bool) (P : Spelling A) : List Lexeme → List A → Type 0 where
+  last : {ls : List Lexeme} {a : A} → P ls a → Separated test P ls (a ∷ [])
+  more : {ls ms : List Lexeme} {l : Lexeme} {a : A} {others : List A} → P ls a → test l ≡ true → Separated test P ms others → Separated test P (ls ++ l ∷ ms) (a ∷ others)
 
-module _ {A : Type 0} (P : Spelling A) (item : Reader A) (sound : Sound P item) where
-  sound-listed : (n : ℕ) → Sound (Separated P) (listed n item)
-  sound-listed zero = sound-refused (Separated P) (record { more = sound.begins.more; tree = sound.begins.tree ∷ []; spelled = last sound.begins.spelled })
+-- with `,` between them
+abbrev pub Listed : {A : Type 0} → Spelling A → List Lexeme → List A → Type 0
+Listed P = Separated (is_sign sign.Comma) P
+
+module _ {A : Type 0} (test : Lexeme → Bool) (P : Spelling A) (item : Reader A) (sound : Sound P item) where
+  sound-listed : (n : ℕ) → Sound (Separated test P) (listed n test item)
+  sound-listed zero = sound-refused (Separated test P) (record { more = sound.begins.more; tree = sound.begins.tree ∷ []; spelled = last sound.begins.spelled })
   sound-listed (suc n) =
-      sound-behind P (Separated P) item (behind_one n item) sound
-      (λ ls a one. sound-shifted (After ls (Separated P)) (is_sign sign.Comma) (λ _ ms. with_read (λ others. a ∷ others) (listed n item ms)) (λ ms. Read (a ∷ []) ms)
-      (λ comma is. sound-with (Separated P) (After (comma ∷ []) (After ls (Separated P))) (listed n item) (λ others. a ∷ others) (sound-listed n)
-      (λ ms others rest. more one (sign_stands sign.Comma comma is) rest))
-      (sound-read (After ls (Separated P)) (a ∷ []) (rw append-nil (last one))))
+      sound-behind P (Separated test P) item (behind_one n test item) sound
+      (λ ls a one. sound-shifted (After ls (Separated test P)) test (λ _ ms. with_read (λ others. a ∷ others) (listed n test item ms)) (λ ms. Read (a ∷ []) ms)
+      (λ l is. sound-with (Separated test P) (After (l ∷ []) (After ls (Separated test P))) (listed n test item) (λ others. a ∷ others) (sound-listed n)
+      (λ ms others rest. more one is rest))
+      (sound-read (After ls (Separated test P)) (a ∷ []) (rw append-nil (last one))))
 
 -- ---- one of two, by a test
 
@@ -326,7 +331,7 @@ module _ {A : Type 0} (P : Spelling A) (some : (a : A) → P [] a → ⊥) where
   placed_spelled (l ∷ ls) a h = stands h
 
   placed_answers : (r : Reader A) (ls : List Lexeme) (v : Reading A) → Answers P r ls v
-      → Answers (Placed P) (λ xs. with_read (λ a. (place_of xs, a)) (r xs)) ls (with_read (λ a. (place_of ls, a)) v)
+      → Answers (Placed P) (λ xs. behind (λ a more. Read (place_of xs, a) more) (r xs)) ls (behind (λ a more. Read (place_of ls, a) more) v)
   placed_answers r ls (Read a rest) t =
       let place : place_of ls ≡ place_of t.front = ap place_of t.parts ∙ place_of_front t.front rest a t.spelled in
       record {
@@ -334,7 +339,7 @@ module _ {A : Type 0} (P : Spelling A) (some : (a : A) → P [] a → ⊥) where
         parts = t.parts;
         spelled = subst (λ p. Placed P t.front (p, a)) (sym place) (placed_spelled t.front a t.spelled);
         local = λ other agree.
-            ap (with_read (λ b. (place_of (t.front ++ other), b))) (t.local other agree)
+            ap (behind (λ b more. Read (place_of (t.front ++ other), b) more)) (t.local other agree)
             ∙ ap (λ p. Read (p, a) other) (place_of_front t.front other a t.spelled ∙ sym place);
       }
   placed_answers r ls (Refused rest) s = record {
@@ -345,10 +350,10 @@ module _ {A : Type 0} (P : Spelling A) (some : (a : A) → P [] a → ⊥) where
       tree = (place_of (s.front ++ s.begins.more), s.begins.tree);
       spelled = placed_spelled (s.front ++ s.begins.more) s.begins.tree s.begins.spelled;
     };
-    local = λ other agree. ap (with_read (λ b. (place_of (s.front ++ other), b))) (s.local other agree);
+    local = λ other agree. ap (behind (λ b more. Read (place_of (s.front ++ other), b) more)) (s.local other agree);
   }
 
-  sound-with_place : (r : Reader A) → Sound P r → Sound (Placed P) (λ xs. with_read (λ a. (place_of xs, a)) (r xs))
+  sound-with_place : (r : Reader A) → Sound P r → Sound (Placed P) (λ xs. behind (λ a more. Read (place_of xs, a) more) (r xs))
   sound-with_place r sound = record {
     begins = record {
       more = sound.begins.more;
@@ -366,6 +371,50 @@ answered_shorter R r ls (Refused rest) s = let sum : length ls ≡ length s.fron
 
 pub sound_shorter : {A : Type 0} (R : Spelling A) (r : Reader A) → Sound R r → (ls : List Lexeme) → NoLonger ls (r ls)
 sound_shorter R r sound ls = answered_shorter R r ls (r ls) (sound.answers ls)
+
+-- ---- behind a lexeme that a reader takes
+
+abbrev others : List Lexeme → List Lexeme
+others [] = []
+others (l ∷ ls) = ls
+
+abbrev first_or : Lexeme → List Lexeme → Lexeme
+first_or other [] = other
+first_or other (l ∷ ls) = l
+
+module _ {A : Type 0} (R : Spelling A) (r behind_it : Reader A) (l : Lexeme) (same_reading : (ls : List Lexeme) → r (l ∷ ls) ≡ behind_it ls) where
+  taken_first : (a : A) (ls front rest : List Lexeme) → l ∷ ls ≡ front ++ rest → length rest ≤ length ls → R front a
+      → ((other : List Lexeme) → Agrees rest other → r (front ++ other) ≡ Read a other) → Took (After (l ∷ []) R) behind_it ls a rest
+  taken_first a ls [] rest parts le spelled local = let size : suc (length ls) ≡ length rest = ap length parts in absurd (omega arith)
+  taken_first a ls (f ∷ front) rest parts le spelled local = let same_first : f ≡ l = sym (ap (first_or l) parts) in record {
+    front = front;
+    parts = ap others parts;
+    spelled = subst (λ x. R (x ∷ front) a) same_first spelled;
+    local = λ other agree. sym (same_reading (front ++ other)) ∙ ap (λ x. r (x ∷ (front ++ other))) (sym same_first) ∙ local other agree;
+  }
+
+  stopped_behind : (ls front rest : List Lexeme) → l ∷ ls ≡ front ++ rest → length rest ≤ length ls → Begins R front
+      → ((other : List Lexeme) → Agrees rest other → r (front ++ other) ≡ Refused other) → Stopped (After (l ∷ []) R) behind_it ls rest
+  stopped_behind ls [] rest parts le begins local = let size : suc (length ls) ≡ length rest = ap length parts in absurd (omega arith)
+  stopped_behind ls (f ∷ front) rest parts le begins local = let same_first : f ≡ l = sym (ap (first_or l) parts) in record {
+    front = front;
+    parts = ap others parts;
+    begins = record { more = begins.more; tree = begins.tree; spelled = subst (λ x. R (x ∷ (front ++ begins.more)) begins.tree) same_first begins.spelled };
+    local = λ other agree. sym (same_reading (front ++ other)) ∙ ap (λ x. r (x ∷ (front ++ other))) (sym same_first) ∙ local other agree;
+  }
+
+  answers_behind : (ls : List Lexeme) (v : Reading A) → NoLonger ls v → Answers R r (l ∷ ls) v → Answers (After (l ∷ []) R) behind_it ls v
+  answers_behind ls (Read a rest) le t = taken_first a ls t.front rest t.parts le t.spelled t.local
+  answers_behind ls (Refused rest) le s = stopped_behind ls s.front rest s.parts le s.begins s.local
+
+  begun_behind : (v : Reading A) → Answers (After (l ∷ []) R) behind_it [] v → Begins (After (l ∷ []) R) []
+  begun_behind (Read a rest) t = record { more = t.front; tree = a; spelled = t.spelled }
+  begun_behind (Refused rest) s = record { more = s.front ++ s.begins.more; tree = s.begins.tree; spelled = s.begins.spelled }
+
+  pub sound-behind_lexeme : Sound R r → ((ls : List Lexeme) → NoLonger ls (r (l ∷ ls))) → Sound (After (l ∷ []) R) behind_it
+  sound-behind_lexeme sound takes =
+      let all = λ (ls : List Lexeme). subst (Answers (After (l ∷ []) R) behind_it ls) (same_reading ls) (answers_behind ls (r (l ∷ ls)) (takes ls) (sound.answers (l ∷ ls))) in
+      record { begins = begun_behind (behind_it []) (all []); answers = all }
 
 -- ---- forms
 
@@ -393,9 +442,13 @@ module _ {level : ℕ} {nested : (n : Nested) → Reader (Tree n)} where
     reader = sound-behind P R (run level nested first) (λ a. run level nested (next a)) sound.reader (λ ls a is. (inside ls a is).reader);
   }
 
+  pub sound-separated : {A : Type 0} {P : Spelling A} {R : Spelling (List A)} {test : Lexeme → Bool} {item : Form A}
+      → IsSound level nested P item → ((ls : List Lexeme) (all : List A) → Separated test P ls all → R ls all) → IsSound level nested R (separated test item)
+  sound-separated {P = P} {R = R} {test = test} {item = item} sound up = record { reader = sound-as (sound-listed test P (run level nested item) sound.reader (suc level)) up }
+
   pub sound-list : {A : Type 0} {P : Spelling A} {R : Spelling (List A)} {item : Form A}
-      → IsSound level nested P item → ((ls : List Lexeme) (all : List A) → Separated P ls all → R ls all) → IsSound level nested R (list item)
-  sound-list {P = P} {R = R} {item = item} sound up = record { reader = sound-as (sound-listed P (run level nested item) sound.reader (suc level)) up }
+      → IsSound level nested P item → ((ls : List Lexeme) (all : List A) → Listed P ls all → R ls all) → IsSound level nested R (list item)
+  sound-list sound up = sound-separated sound up
 
   pub sound-either : {A : Type 0} {R : Spelling A} {one other : Form A}
       → IsSound level nested R one → IsSound level nested R other → ((l : Lexeme) (ls : List Lexeme) → opens one l ≡ true → NoLonger ls (run level nested one (l ∷ ls)))
@@ -427,3 +480,10 @@ module _ {level : ℕ} {nested : (n : Nested) → Reader (Tree n)} where
       sound-follow sound (λ ls a is.
       sound-shift (λ l closes. sound-give (up ls a l is (sign_stands sign l closes)))
       (sound-refuse (record { more = lexeme (token.Sign sign) ∷ []; tree = a; spelled = up ls a (lexeme (token.Sign sign)) is (a_sign sign) })))
+
+  pub sound-until_word : {A : Type 0} {P : Spelling A} {R : Spelling A} {form : Form A} {w : Word}
+      → IsSound level nested P form → ((ls : List Lexeme) (a : A) (l : Lexeme) → P ls a → IsWord w l → R (ls ++ l ∷ []) a) → IsSound level nested R (until_word w form)
+  sound-until_word {w = w} sound up =
+      sound-follow sound (λ ls a is.
+      sound-shift (λ l closes. sound-give (up ls a l is (word_stands w l closes)))
+      (sound-refuse (record { more = lexeme (token.Word w) ∷ []; tree = a; spelled = up ls a (lexeme (token.Word w)) is (a_word w) })))

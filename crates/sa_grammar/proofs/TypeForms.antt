@@ -23,26 +23,26 @@ use Rattle.sa_grammar.specs.Forms.{Reader, Nested, Tree, type, nest, follow, mak
 use Rattle.sa_grammar.specs.TypeForms.{once_form, mode_form, given_types_form, mode_type_form, bound_args_form, bound_result_form, type_form}
 use Rattle.sa_grammar.specs.Grammar.{form_of, nested_to}
 use Rattle.sa_grammar.proofs.Tested.{sign_stands, word_stands, class_stands, sign_met, word_met, class_met, other_sign, other_word, lexeme, a_word}
-use Rattle.sa_grammar.proofs.Sound.{Shut, Sound, sound-refused, IsSound, sound-give, sound-refuse, sound-shift, sound-follow, sound-list, sound-make, sound-until, Separated, last, more}
+use Rattle.sa_grammar.proofs.Sound.{Shut, Sound, sound-refused, IsSound, sound-give, sound-refuse, sound-shift, sound-follow, sound-list, sound-make, sound-until, Listed, last, more}
 use Rattle.sa_grammar.proofs.Complete.{Reads, reads-give, reads-met, reads-other, reads-follow, reads-make, reads-joined, reads-until, reads-list}
 
 -- ---- lists
 
-pub separated_types : {ls : List Lexeme} {ts : List Ty} → Separated IsType ls ts → IsTypes ls ts
+pub separated_types : {ls : List Lexeme} {ts : List Ty} → Listed IsType ls ts → IsTypes ls ts
 separated_types (last one) = types.last_type one
-separated_types (more one comma others) = types.more_types one comma (separated_types others)
+separated_types (more {l = l} one comma others) = types.more_types one (sign_stands sign.Comma l comma) (separated_types others)
 
-pub types_separated : {ls : List Lexeme} {ts : List Ty} → IsTypes ls ts → Separated IsType ls ts
+pub types_separated : {ls : List Lexeme} {ts : List Ty} → IsTypes ls ts → Listed IsType ls ts
 types_separated (types.last_type one) = last one
-types_separated (types.more_types one comma others) = more one comma (types_separated others)
+types_separated (types.more_types one comma others) = more one (sign_met comma) (types_separated others)
 
-separated_args : {callable : CallableKind} {ls : List Lexeme} {args : List ModeTy} → Separated (IsModeType callable) ls args → IsModeTypes callable ls args
+separated_args : {callable : CallableKind} {ls : List Lexeme} {args : List ModeTy} → Listed (IsModeType callable) ls args → IsModeTypes callable ls args
 separated_args (last one) = types.last_arg one
-separated_args (more one comma others) = types.more_args one comma (separated_args others)
+separated_args (more {l = l} one comma others) = types.more_args one (sign_stands sign.Comma l comma) (separated_args others)
 
-args_separated : {callable : CallableKind} {ls : List Lexeme} {args : List ModeTy} → IsModeTypes callable ls args → Separated (IsModeType callable) ls args
+args_separated : {callable : CallableKind} {ls : List Lexeme} {args : List ModeTy} → IsModeTypes callable ls args → Listed (IsModeType callable) ls args
 args_separated (types.last_arg one) = last one
-args_separated (types.more_args one comma others) = more one comma (args_separated others)
+args_separated (types.more_args one comma others) = more one (sign_met comma) (args_separated others)
 
 -- ---- the forms are sound
 

@@ -2,14 +2,16 @@
 use Rattle.std.specs.Prelude.{ℕ, zero, suc, Bool, false, cond, ◌||◌, List, [], ◌∷◌}
 use Rattle.sa_lex.specs.declared.sign.Sign.{Sign}
 use Rattle.sa_lex.specs.declared.sign.Sign.TheVariants as sign
+use Rattle.sa_lex.specs.declared.word.Word.{Word}
 use Rattle.sa_tree.specs.declared.pos.Pos.{Pos}
 use Rattle.sa_tree.specs.declared.ty.Ty.{Ty}
 use Rattle.sa_tree.specs.declared.expr.Expr.{Expr}
+use Rattle.sa_tree.specs.declared.stmt.Stmt.{Stmt}
 use Rattle.sa_parse_expr.specs.declared.grammar.Scope.{Scope}
 use Rattle.sa_parse_expr.specs.Lexemes.{Lexeme}
 use Rattle.sa_grammar.specs.Arounds.{Where}
 use Rattle.sa_grammar.specs.Readings.{Reading, Read, Refused}
-use Rattle.sa_grammar.specs.Tests.{is_sign}
+use Rattle.sa_grammar.specs.Tests.{is_sign, is_word}
 
 -- the productions that nest in themselves
 pub data Nested : Type 0 where
@@ -18,6 +20,7 @@ pub data Nested : Type 0 where
   unary : Scope → Where → Nested
   power : Scope → Where → Nested
   post : Scope → Where → Nested
+  stmts : Nested
 
 -- what they spell
 abbrev pub Tree : Nested → Type 0
@@ -26,6 +29,7 @@ Tree (expr s x) = Expr
 Tree (unary s x) = Expr
 Tree (power s x) = Expr
 Tree (post s x) = Expr
+Tree stmts = List Stmt
 
 -- a form that gives an `A`
 pub data Form : Type 0 → Type 1 where
@@ -39,8 +43,8 @@ pub data Form : Type 0 → Type 1 where
   either : {A : Type 0} → Form A → Form A → Form A
   -- one form, and behind it another
   follow : {A B : Type 0} → Form A → (A → Form B) → Form B
-  -- one or several, with `,` between them
-  list : {A : Type 0} → Form A → Form (List A)
+  -- one or several, with a lexeme that meets the test between them
+  separated : {A : Type 0} → (Lexeme → Bool) → Form A → Form (List A)
   -- as long as a lexeme meets the test it is taken, and the form behind it makes another tree of the one so far
   repeat : {A : Type 0} → (Lexeme → Bool) → (A → Lexeme → Form A) → A → Form A
   -- a form, with the position where it begins
@@ -52,9 +56,17 @@ pub data Form : Type 0 → Type 1 where
 abbrev pub make : {A B : Type 0} → (A → B) → Form A → Form B
 make f form = follow form (λ a. give (f a))
 
+-- one or several, with `,` between them
+abbrev pub list : {A : Type 0} → Form A → Form (List A)
+list item = separated (is_sign sign.Comma) item
+
 -- a form, and a sign behind it
 abbrev pub until : {A : Type 0} → Sign → Form A → Form A
 until s form = follow form (λ a. shift (is_sign s) (λ _. give a) refuse)
+
+-- a form, and a word behind it
+abbrev pub until_word : {A : Type 0} → Word → Form A → Form A
+until_word w form = follow form (λ a. shift (is_word w) (λ _. give a) refuse)
 
 -- whether a form takes this lexeme first; of a production that nests it isn't asked
 abbrev pub opens : {A : Type 0} → Form A → Lexeme → Bool
@@ -63,7 +75,7 @@ opens refuse l = false
 opens (shift test go other) l = test l || opens other l
 opens (either one other) l = opens one l || opens other l
 opens (follow first next) l = opens first l
-opens (list item) l = opens item l
+opens (separated test item) l = opens item l
 opens (repeat test step a) l = test l
 opens (placed form) l = opens form l
 opens (nest n) l = false
@@ -92,13 +104,11 @@ abbrev pub place_of : List Lexeme → Pos
 place_of [] = record { file = 0; at = 0 }
 place_of (l ∷ ls) = l.pos
 
--- one or several with `,` between them, so many at most
-abbrev pub listed : {A : Type 0} → ℕ → Reader A → Reader (List A)
-listed zero item ls = Refused ls
-listed (suc n) item ls =
-    behind
-    (λ a. shifted (is_sign sign.Comma) (λ _ more. with_read (λ others. a ∷ others) (listed n item more)) (λ more. Read (a ∷ []) more))
-    (item ls)
+-- one or several with a lexeme between them, so many at most
+abbrev pub listed : {A : Type 0} → ℕ → (Lexeme → Bool) → Reader A → Reader (List A)
+listed zero test item ls = Refused ls
+listed (suc n) test item ls =
+    behind (λ a. shifted test (λ _ more. with_read (λ others. a ∷ others) (listed n test item more)) (λ more. Read (a ∷ []) more)) (item ls)
 
 -- one less than so many turns at most
 abbrev pub repeated : {A : Type 0} → ℕ → (Lexeme → Bool) → (A → Lexeme → Reader A) → A → Reader A
@@ -112,7 +122,7 @@ run level nested refuse ls = Refused ls
 run level nested (shift test go other) ls = shifted test (λ l. run level nested (go l)) (run level nested other) ls
 run level nested (either one other) ls = chosen (opens one) (run level nested one) (run level nested other) ls
 run level nested (follow first next) ls = behind (λ a. run level nested (next a)) (run level nested first ls)
-run level nested (list item) ls = listed (suc level) (run level nested item) ls
+run level nested (separated test item) ls = listed (suc level) test (run level nested item) ls
 run level nested (repeat test step a) ls = repeated (suc level) test (λ tree l. run level nested (step tree l)) a ls
-run level nested (placed form) ls = with_read (λ a. (place_of ls, a)) (run level nested form ls)
+run level nested (placed form) ls = behind (λ a more. Read (place_of ls, a) more) (run level nested form ls)
 run level nested (nest n) ls = nested n ls

@@ -1,9 +1,10 @@
 -- The reader of the grammar: each production that nests, by its form.
 use Rattle.std.specs.Prelude.{ℕ, zero, suc, length}
 use Rattle.sa_grammar.specs.Readings.{Refused}
-use Rattle.sa_grammar.specs.Forms.{Form, Reader, Nested, Tree, type, expr, unary, power, post, run}
+use Rattle.sa_grammar.specs.Forms.{Form, Reader, Nested, Tree, type, expr, unary, power, post, stmts, run}
 use Rattle.sa_grammar.specs.TypeForms.{type_form}
 use Rattle.sa_grammar.specs.ExpressionForms.{expr_form, unary_form, power_form, post_form}
+use Rattle.sa_grammar.specs.StatementForms.{stmts_form}
 
 unfoldable pub form_of : (n : Nested) → Form (Tree n)
 form_of type = type_form
@@ -11,6 +12,7 @@ form_of (expr s x) = expr_form s x
 form_of (unary s x) = unary_form s x
 form_of (power s x) = power_form s x
 form_of (post s x) = post_form s x
+form_of stmts = stmts_form
 
 -- the productions that nest, to a level of nesting
 unfoldable pub nested_to : ℕ → (n : Nested) → Reader (Tree n)

@@ -4,9 +4,11 @@ use Rattle.sa_parse_expr.specs.Lexemes.{Lexeme}
 use Rattle.sa_parse_expr.specs.declared.grammar.Scope.{Scope}
 use Rattle.sa_parse_expr.specs.Types.{IsType, IsTypes}
 use Rattle.sa_parse_expr.specs.Expressions.{IsExpr, IsExprs, IsPost}
+use Rattle.sa_parse.specs.Statements.{IsStmt, IsStmts}
 use Rattle.sa_grammar.specs.Arounds.{Where, around_of}
 use Rattle.sa_grammar.specs.Readings.{IsUnique, IsRead}
-use Rattle.sa_grammar.specs.Forms.{list, nest, type, expr, post}
+use Rattle.sa_grammar.specs.Forms.{list, nest, type, expr, post, stmts}
+use Rattle.sa_grammar.specs.StatementForms.{stmt_form}
 use Rattle.sa_grammar.specs.Grammar.{read_as}
 
 -- lexemes spell one type at most
@@ -44,3 +46,17 @@ OneListOfExprs = (s : Scope) (x : Where) → IsUnique (IsExprs s (around_of x))
 
 abbrev pub ListsOfExprsAreRead : Type 0
 ListsOfExprsAreRead = (s : Scope) (x : Where) (ls : List Lexeme) → IsRead (IsExprs s (around_of x)) ls (read_as (list (nest (expr s x))) ls)
+
+-- the same of statements, with those that they hold
+abbrev pub OneStmt : Type 0
+OneStmt = IsUnique IsStmt
+
+abbrev pub StmtsAreRead : Type 0
+StmtsAreRead = (ls : List Lexeme) → IsRead IsStmt ls (read_as stmt_form ls)
+
+-- the same of statements with `;` between them, of which each may be absent
+abbrev pub OneListOfStmts : Type 0
+OneListOfStmts = IsUnique IsStmts
+
+abbrev pub ListsOfStmtsAreRead : Type 0
+ListsOfStmtsAreRead = (ls : List Lexeme) → IsRead IsStmts ls (read_as (nest stmts) ls)

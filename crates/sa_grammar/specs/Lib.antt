@@ -4,5 +4,6 @@ pub mod Forms
 pub mod Grammar
 pub mod Law
 pub mod Readings
+pub mod StatementForms
 pub mod Tests
 pub mod TypeForms

@@ -31,6 +31,10 @@ is_feature_kind token.Lower = true
 is_feature_kind token.IterName = true
 is_feature_kind _ = false
 
+abbrev pub is_lower_kind : TokenKind → Bool
+is_lower_kind token.Lower = true
+is_lower_kind _ = false
+
 abbrev pub is_number_kind : TokenKind → Bool
 is_number_kind (token.Int value) = true
 is_number_kind _ = false
@@ -54,6 +58,9 @@ is_class l = is_class_kind l.kind
 
 abbrev pub is_feature : Lexeme → Bool
 is_feature l = is_feature_kind l.kind
+
+abbrev pub is_lower : Lexeme → Bool
+is_lower l = is_lower_kind l.kind
 
 abbrev pub is_number : Lexeme → Bool
 is_number l = is_number_kind l.kind

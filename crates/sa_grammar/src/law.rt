@@ -1,6 +1,7 @@
 //! The law, as what functions of empty bodies ensure.
 
 ghost use Rattle.sa_grammar.specs.Law.{ExprsAreRead, ListsOfExprsAreRead, OneExpr, OneListOfExprs, OnePost, PostsAreRead};
+ghost use Rattle.sa_grammar.specs.Law.{ListsOfStmtsAreRead, OneListOfStmts, OneStmt, StmtsAreRead};
 ghost use Rattle.sa_grammar.specs.Law.{ListsOfTypesAreRead, OneListOfTypes, OneType, TypesAreRead};
 
 /// Lexemes spell one type at most.
@@ -51,4 +52,24 @@ pub fn one_list_of_exprs()
 /// Lexemes are read as far as they begin a list of expressions.
 pub fn lists_of_exprs_are_read()
     ensures { ListsOfExprsAreRead }
+{}
+
+/// Lexemes spell one statement at most.
+pub fn one_stmt()
+    ensures { OneStmt }
+{}
+
+/// Lexemes are read as far as they begin a statement.
+pub fn stmts_are_read()
+    ensures { StmtsAreRead }
+{}
+
+/// Lexemes spell one list of statements at most.
+pub fn one_list_of_stmts()
+    ensures { OneListOfStmts }
+{}
+
+/// Lexemes are read as far as they begin a list of statements.
+pub fn lists_of_stmts_are_read()
+    ensures { ListsOfStmtsAreRead }
 {}
