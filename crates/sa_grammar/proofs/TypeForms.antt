@@ -128,8 +128,8 @@ kind_no_mode l rest kind e out inout into once = record {
 
 -- no mode begins a type
 type_no_mode : {ls : List Lexeme} {t : Ty} (rest : List Lexeme) → IsType ls t → NoMode (ls ++ rest)
-type_no_mode rest (types.named {c = c} {ls = ls} (class_name e) given) = kind_no_mode c (ls ++ rest) token.ClassName e refl refl refl refl
-type_no_mode rest (types.named {c = c} {ls = ls} (abstract_name e) given) = kind_no_mode c (ls ++ rest) token.AbstractName e refl refl refl refl
+type_no_mode rest (types.named {c = c} {ls = ls} (class_name e) among) = kind_no_mode c (ls ++ rest) token.ClassName e refl refl refl refl
+type_no_mode rest (types.named {c = c} {ls = ls} (abstract_name e) among) = kind_no_mode c (ls ++ rest) token.AbstractName e refl refl refl refl
 type_no_mode rest (types.same {w = w} is) = kind_no_mode w rest (token.Word word.Same) is.kind refl refl refl refl
 type_no_mode rest (types.rout {w = w} {ls = ls} {ms = ms} is first second) = kind_no_mode w ((ls ++ ms) ++ rest) (token.Word word.Rout) is.kind refl refl refl refl
 type_no_mode rest (types.iter {w = w} {ls = ls} {ms = ms} is first second) = kind_no_mode w ((ls ++ ms) ++ rest) (token.Word word.Iter) is.kind refl refl refl refl
@@ -204,7 +204,7 @@ module _ (level : ℕ) (nested : (n : Nested) → Reader (Tree n))
 
   pub type_read : {ls : List Lexeme} {t : Ty} (rest : List Lexeme) → IsType ls t → length ls < suc level → EndsType rest → Reads level nested type_form (ls ++ rest) t rest
   unfolding type_form
-  type_read rest (types.named class given) small ends = reads-met (class_met class) (reads-make (given_read rest given (omega arith) ends.brace))
+  type_read rest (types.named class among) small ends = reads-met (class_met class) (reads-make (given_read rest among (omega arith) ends.brace))
   type_read rest (types.same is) small ends = reads-other (ap is_class_kind is.kind) (reads-met (word_met is) reads-give)
   type_read rest (types.rout {w = w} is first second) small ends =
       reads-other (ap is_class_kind is.kind) (reads-other (other_word word.Same refl is)
