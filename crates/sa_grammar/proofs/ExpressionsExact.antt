@@ -5,21 +5,15 @@ use Rattle.sa_parse_expr.specs.declared.grammar.Scope.{Scope}
 use Rattle.sa_parse_expr.specs.Lexemes.{Lexeme}
 use Rattle.sa_parse_expr.specs.Expressions.{IsExpr, IsExprs, IsPost}
 use Rattle.sa_grammar.specs.Arounds.{Where, around_of}
-use Rattle.sa_grammar.specs.Forms.{Nested, Tree, list, nest, expr, post}
+use Rattle.sa_grammar.specs.Forms.{list, nest, expr, post}
 use Rattle.sa_grammar.specs.Grammar.{nested_to}
 use Rattle.sa_grammar.specs.Law.{OneExpr, ExprsAreRead, OnePost, PostsAreRead, OneListOfExprs, ListsOfExprsAreRead}
 use Rattle.sa_grammar.proofs.Sound.{IsSound, sound-list}
 use Rattle.sa_grammar.proofs.Complete.{Reads, reads-list}
 use Rattle.sa_grammar.proofs.FormsExact.{form_unique, form_exact}
-use Rattle.sa_grammar.proofs.ExpressionsSound.{Spells, nested_sound, separated_exprs, exprs_separated}
+use Rattle.sa_grammar.proofs.ExpressionsSound.{separated_exprs, exprs_separated}
 use Rattle.sa_grammar.proofs.ExpressionsComplete.{EndsOf, comma_ends, nest_read}
-use Rattle.sa_grammar.proofs.Nesting.{all_sound, all_complete}
-
-pub nest_sound : (x : Nested) (n : ℕ) → IsSound n (nested_to n) (Spells x) (nest x)
-nest_sound x n = nested_sound n (nested_to n) (all_sound n) x
-
-pub nest_reads : (x : Nested) → EndsOf x [] → (n : ℕ) (ls : List Lexeme) (t : Tree x) → Spells x ls t → length ls < n → Reads n (nested_to n) (nest x) (ls ++ []) t []
-nest_reads x end n ls t h small = nest_read n (nested_to n) (all_complete n) x ls t [] h small end
+use Rattle.sa_grammar.proofs.Nesting.{all_complete, nest_sound, nest_reads}
 
 module _ (s : Scope) (x : Where) where
   list_sound : (n : ℕ) → IsSound n (nested_to n) (IsExprs s (around_of x)) (list (nest (expr s x)))

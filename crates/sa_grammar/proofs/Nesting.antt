@@ -8,16 +8,16 @@ use Rattle.sa_parse_expr.specs.Lexemes.{Lexeme}
 use Rattle.sa_parse_expr.specs.Types as types
 use Rattle.sa_grammar.specs.Arounds.{around_of}
 use Rattle.sa_grammar.specs.Readings.{Begins, Read}
-use Rattle.sa_grammar.specs.Forms.{Reader, Nested, Tree, type, expr, unary, power, post, stmts}
+use Rattle.sa_grammar.specs.Forms.{Reader, Nested, Tree, nest, type, expr, unary, power, post, stmts}
 use Rattle.sa_grammar.specs.Grammar.{form_of, nested_to}
 use Rattle.sa_grammar.proofs.Tested.{lexeme, a_word}
 use Rattle.sa_grammar.proofs.Sound.{Sound, sound-refused, IsSound}
 use Rattle.sa_grammar.proofs.Complete.{Reads}
 use Rattle.sa_grammar.proofs.TypeForms.{sound_type, type_read}
 use Rattle.sa_grammar.proofs.ExpressionStarts.{origin, true_lexeme, a_post, a_power, a_unary, an_expr}
-use Rattle.sa_grammar.proofs.ExpressionsSound.{Spells, sound_expr, sound_unary, sound_power, sound_post}
+use Rattle.sa_grammar.proofs.ExpressionsSound.{Spells, nested_sound, sound_expr, sound_unary, sound_power, sound_post}
 use Rattle.sa_grammar.proofs.StatementsSound.{no_stmts, sound_stmts}
-use Rattle.sa_grammar.proofs.ExpressionsComplete.{EndsOf}
+use Rattle.sa_grammar.proofs.ExpressionsComplete.{EndsOf, nest_read}
 use Rattle.sa_grammar.proofs.BodiesComplete.{stmts_read}
 use Rattle.sa_grammar.proofs.OperationsComplete.{expr_read, unary_read, power_read, post_read}
 
@@ -58,3 +58,11 @@ pub all_complete : (level : ℕ) (n : Nested) (ls : List Lexeme) (t : Tree n) (r
 unfolding nested_to
 all_complete zero n ls t rest h small ends = absurd (omega arith)
 all_complete (suc level) n ls t rest h small ends = (form_read level (nested_to level) (all_complete level) n ls t rest h small ends).is
+
+-- ---- as forms
+
+pub nest_sound : (x : Nested) (n : ℕ) → IsSound n (nested_to n) (Spells x) (nest x)
+nest_sound x n = nested_sound n (nested_to n) (all_sound n) x
+
+pub nest_reads : (x : Nested) → EndsOf x [] → (n : ℕ) (ls : List Lexeme) (t : Tree x) → Spells x ls t → length ls < n → Reads n (nested_to n) (nest x) (ls ++ []) t []
+nest_reads x end n ls t h small = nest_read n (nested_to n) (all_complete n) x ls t [] h small end

@@ -12,8 +12,7 @@ use Rattle.sa_grammar.proofs.Complete.{Reads}
 use Rattle.sa_grammar.proofs.FormsExact.{form_unique, form_exact}
 use Rattle.sa_grammar.proofs.StatementsSound.{sound_stmt}
 use Rattle.sa_grammar.proofs.BodiesComplete.{stmt_read}
-use Rattle.sa_grammar.proofs.ExpressionsExact.{nest_sound, nest_reads}
-use Rattle.sa_grammar.proofs.Nesting.{all_sound, all_complete}
+use Rattle.sa_grammar.proofs.Nesting.{all_sound, all_complete, nest_sound, nest_reads}
 
 stmt_sound : (n : ℕ) → IsSound n (nested_to n) IsStmt stmt_form
 stmt_sound n = sound_stmt n (nested_to n) (all_sound n)

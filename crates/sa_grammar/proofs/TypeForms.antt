@@ -1,5 +1,5 @@
 -- Types: each of their forms is sound and complete.
-use Rattle.std.proofs.Common.{◌≡◌, ℕ, zero, suc, ◌+◌, ◌<◌, List, [], ◌∷◌, ◌++◌, length, refl, ap, ◌∙◌, false, arith, length-append, Option}
+use Rattle.std.proofs.Common.{◌≡◌, ℕ, suc, ◌+◌, ◌<◌, List, [], ◌∷◌, ◌++◌, length, refl, ap, ◌∙◌, false, arith, length-append, Option}
 use Rattle.sa_lex.specs.declared.token.TokenKind.{TokenKind}
 use Rattle.sa_lex.specs.declared.token.TokenKind.TheVariants as token
 use Rattle.sa_lex.specs.declared.sign.Sign.{Sign}
@@ -21,9 +21,8 @@ use Rattle.sa_grammar.specs.Readings.{Read}
 use Rattle.sa_grammar.specs.Tests.{is_sign, is_word, is_word_kind, is_class_kind}
 use Rattle.sa_grammar.specs.Forms.{Reader, Nested, Tree, type, nest, follow, make}
 use Rattle.sa_grammar.specs.TypeForms.{once_form, mode_form, given_types_form, mode_type_form, bound_args_form, bound_result_form, type_form}
-use Rattle.sa_grammar.specs.Grammar.{form_of, nested_to}
 use Rattle.sa_grammar.proofs.Tested.{sign_stands, word_stands, class_stands, sign_met, word_met, class_met, other_sign, other_word, lexeme, a_word}
-use Rattle.sa_grammar.proofs.Sound.{Shut, Sound, sound-refused, IsSound, sound-give, sound-refuse, sound-shift, sound-follow, sound-list, sound-make, sound-until, Listed, last, more}
+use Rattle.sa_grammar.proofs.Sound.{Shut, Sound, IsSound, sound-give, sound-refuse, sound-shift, sound-follow, sound-list, sound-make, sound-until, Listed, last, more}
 use Rattle.sa_grammar.proofs.Complete.{Reads, reads-give, reads-met, reads-other, reads-follow, reads-make, reads-joined, reads-until, reads-list}
 
 -- ---- lists
@@ -47,7 +46,7 @@ args_separated (types.more_args one comma others) = more one (sign_met comma) (a
 -- ---- the forms are sound
 
 module _ (level : ℕ) (nested : (n : Nested) → Reader (Tree n)) (inside : Sound IsType (nested type)) where
-  pub sound_nested : IsSound level nested IsType (nest type)
+  sound_nested : IsSound level nested IsType (nest type)
   sound_nested = record { reader = inside }
 
   sound_once : (callable : CallableKind) → IsSound level nested (IsMode callable) (once_form callable)
@@ -96,11 +95,6 @@ module _ (level : ℕ) (nested : (n : Nested) → Reader (Tree n)) (inside : Sou
       (sound-shift (λ w is. sound-follow (sound_args Iter) (λ ls args first. sound-make sound_result (λ ms gives second. types.iter (word_stands word.Iter w is) first second)))
       (sound-refuse (record { more = lexeme (token.Word word.Same) ∷ []; tree = ty.Same (record { file = 0; at = 0 }); spelled = types.same (a_word word.Same) })))))
 
-pub types_sound : (n : ℕ) → Sound IsType (nested_to n type)
-unfolding nested_to form_of
-types_sound zero = sound-refused IsType (record { more = lexeme (token.Word word.Same) ∷ []; tree = ty.Same (record { file = 0; at = 0 }); spelled = types.same (a_word word.Same) })
-types_sound (suc n) = (sound_type n (nested_to n) (types_sound n)).reader
-
 -- ---- the forms are complete
 
 -- what doesn't go on with a type
@@ -128,8 +122,8 @@ kind_no_mode l rest kind e out inout into once = record {
 
 -- no mode begins a type
 type_no_mode : {ls : List Lexeme} {t : Ty} (rest : List Lexeme) → IsType ls t → NoMode (ls ++ rest)
-type_no_mode rest (types.named {c = c} {ls = ls} (class_name e) given) = kind_no_mode c (ls ++ rest) token.ClassName e refl refl refl refl
-type_no_mode rest (types.named {c = c} {ls = ls} (abstract_name e) given) = kind_no_mode c (ls ++ rest) token.AbstractName e refl refl refl refl
+type_no_mode rest (types.named {c = c} {ls = ls} (class_name e) among) = kind_no_mode c (ls ++ rest) token.ClassName e refl refl refl refl
+type_no_mode rest (types.named {c = c} {ls = ls} (abstract_name e) among) = kind_no_mode c (ls ++ rest) token.AbstractName e refl refl refl refl
 type_no_mode rest (types.same {w = w} is) = kind_no_mode w rest (token.Word word.Same) is.kind refl refl refl refl
 type_no_mode rest (types.rout {w = w} {ls = ls} {ms = ms} is first second) = kind_no_mode w ((ls ++ ms) ++ rest) (token.Word word.Rout) is.kind refl refl refl refl
 type_no_mode rest (types.iter {w = w} {ls = ls} {ms = ms} is first second) = kind_no_mode w ((ls ++ ms) ++ rest) (token.Word word.Iter) is.kind refl refl refl refl
@@ -157,7 +151,7 @@ module _ (level : ℕ) (nested : (n : Nested) → Reader (Tree n)) where
 
 module _ (level : ℕ) (nested : (n : Nested) → Reader (Tree n))
     (inside : (ls : List Lexeme) (t : Ty) (rest : List Lexeme) → IsType ls t → length ls < level → EndsType rest → nested type (ls ++ rest) ≡ Read t rest) where
-  pub one_read : (ls : List Lexeme) (t : Ty) (rest : List Lexeme) → IsType ls t → length ls < level → EndsType rest → Reads level nested (nest type) (ls ++ rest) t rest
+  one_read : (ls : List Lexeme) (t : Ty) (rest : List Lexeme) → IsType ls t → length ls < level → EndsType rest → Reads level nested (nest type) (ls ++ rest) t rest
   one_read ls t rest one small ends = record { is = inside ls t rest one small ends }
 
   given_read : {ls : List Lexeme} {ts : List Ty} (rest : List Lexeme) → IsGivenTypes ls ts → length ls < level → Shut (is_sign sign.LeftBrace) rest → Reads level nested given_types_form (ls ++ rest) ts rest
@@ -204,7 +198,7 @@ module _ (level : ℕ) (nested : (n : Nested) → Reader (Tree n))
 
   pub type_read : {ls : List Lexeme} {t : Ty} (rest : List Lexeme) → IsType ls t → length ls < suc level → EndsType rest → Reads level nested type_form (ls ++ rest) t rest
   unfolding type_form
-  type_read rest (types.named class given) small ends = reads-met (class_met class) (reads-make (given_read rest given (omega arith) ends.brace))
+  type_read rest (types.named class among) small ends = reads-met (class_met class) (reads-make (given_read rest among (omega arith) ends.brace))
   type_read rest (types.same is) small ends = reads-other (ap is_class_kind is.kind) (reads-met (word_met is) reads-give)
   type_read rest (types.rout {w = w} is first second) small ends =
       reads-other (ap is_class_kind is.kind) (reads-other (other_word word.Same refl is)
@@ -212,8 +206,3 @@ module _ (level : ℕ) (nested : (n : Nested) → Reader (Tree n))
   type_read rest (types.iter {w = w} is first second) small ends =
       reads-other (ap is_class_kind is.kind) (reads-other (other_word word.Same refl is) (reads-other (other_word word.Rout refl is)
       (reads-met (word_met is) (bound_read Iter (λ args gives. ty.Iter args gives w.pos) rest first second (omega arith) ends))))
-
-pub types_complete : (n : ℕ) (ls : List Lexeme) (t : Ty) (rest : List Lexeme) → IsType ls t → length ls < n → EndsType rest → nested_to n type (ls ++ rest) ≡ Read t rest
-unfolding nested_to form_of
-types_complete zero ls t rest one small ends = absurd (omega arith)
-types_complete (suc n) ls t rest one small ends = (type_read n (nested_to n) (types_complete n) rest one small ends).is

@@ -10,30 +10,26 @@ use Rattle.sa_grammar.specs.Law.{OneType, TypesAreRead, OneListOfTypes, ListsOfT
 use Rattle.sa_grammar.proofs.Sound.{IsSound, sound-list}
 use Rattle.sa_grammar.proofs.Complete.{Reads, reads-list}
 use Rattle.sa_grammar.proofs.FormsExact.{form_unique, form_exact}
-use Rattle.sa_grammar.proofs.TypeForms.{EndsType, sign_ends, separated_types, types_separated, sound_nested, one_read, types_sound, types_complete}
+use Rattle.sa_grammar.proofs.TypeForms.{EndsType, sign_ends, separated_types, types_separated}
+use Rattle.sa_grammar.proofs.ExpressionsComplete.{nest_read}
+use Rattle.sa_grammar.proofs.Nesting.{all_complete, nest_sound, nest_reads}
 
 end_ends : EndsType []
 end_ends = record { brace = tt; colon = tt }
 
-type_sound : (n : ℕ) → IsSound n (nested_to n) IsType (nest type)
-type_sound n = sound_nested n (nested_to n) (types_sound n)
-
-type_reads : (n : ℕ) (ls : List Lexeme) (t : Ty) → IsType ls t → length ls < n → Reads n (nested_to n) (nest type) (ls ++ []) t []
-type_reads n ls t one small = one_read n (nested_to n) (types_complete n) ls t [] one small end_ends
-
 list_sound : (n : ℕ) → IsSound n (nested_to n) IsTypes (list (nest type))
-list_sound n = sound-list (type_sound n) (λ ls ts. separated_types)
+list_sound n = sound-list (nest_sound type n) (λ ls ts. separated_types)
 
 list_reads : (n : ℕ) (ls : List Lexeme) (ts : List Ty) → IsTypes ls ts → length ls < n → Reads n (nested_to n) (list (nest type)) (ls ++ []) ts []
 list_reads n ls ts all small =
-    reads-list n (nested_to n) IsType EndsType (nest type) (one_read n (nested_to n) (types_complete n)) (sign_ends sign.Comma refl refl)
+    reads-list n (nested_to n) IsType EndsType (nest type) (nest_read n (nested_to n) (all_complete n) type) (sign_ends sign.Comma refl refl)
     [] (types_separated all) small end_ends tt
 
 pub one_type : OneType
-one_type = form_unique IsType (nest type) type_sound type_reads
+one_type = form_unique IsType (nest type) (nest_sound type) (nest_reads type end_ends)
 
 pub types_are_read : TypesAreRead
-types_are_read = form_exact IsType (nest type) type_sound type_reads
+types_are_read = form_exact IsType (nest type) (nest_sound type) (nest_reads type end_ends)
 
 pub one_list_of_types : OneListOfTypes
 one_list_of_types = form_unique IsTypes (list (nest type)) list_sound list_reads
