@@ -1,1 +1,2 @@
+pub mod SpelledMembers
 pub mod SpelledStatements
