@@ -1,4 +1,4 @@
-use Rattle.std.proofs.Common.{◌≡◌, Some, refl, arith, rules}
+use Rattle.std.proofs.Common.{◌≡◌, ◌∷◌, [], ◌+◌, ◌∙◌, ap, length, length-append, Some, refl, arith, rules}
 use Rattle.sa_lex.specs.declared.token.TokenKind.TheVariants as token
 use Rattle.sa_lex.specs.declared.sign.Sign.TheVariants as sign
 use Rattle.sa_parse_expr.specs.Places.{kind_at}
@@ -20,10 +20,11 @@ more-preserved c =
     let begun = c.more.invariant in
     let comma : kind_at c.args.tokens.now.list.now c.more.next ≡ Some (token.Sign sign.Comma) = search rules in
     let one = c.in_ok-name in
+    let longer : length c.push-in-more.new.self ≡ length c.more.features + 1 = ap length c.in_ok-push-2.ensures.ok ∙ length-append c.more.features (_ ∷ []) in
     record {
       behind = (omega (arith, begun.behind.0, one.ensures.next.0), one.ensures.next.1);
       number = first_of (omega (arith, begun.number, one.ensures.next.0), grind arith);
-      count = first_of (grind arith, search rules);
+      count = omega (arith, begun.count, longer, one.ensures.next.0);
       spelled = more_counted c.args.tokens.now c.args.access c.args.first c.args.from c.more.next one.end c.more.number _ _ _ one.name c.in_ok-value-2.value begun.spelled comma one.ensures.spelled (omega (arith, one.ensures.next.0)) refl (first_of (cc, search rules, grind arith));
     }
 

@@ -1,4 +1,4 @@
-use Rattle.std.proofs.Common.{◌≡◌, ◌∷◌, List, ap, length, refl, subst, ◌∙◌, arith, rules}
+use Rattle.std.proofs.Common.{◌≡◌, ◌∷◌, List, [], ◌+◌, ap, length-append, length, refl, subst, ◌∙◌, arith, rules}
 use Rattle.std.specs.Vec.Iter.{into_iter_items}
 use Rattle.sa_tree.specs.declared.stmt.Local.{Local}
 use Rattle.sa_parse.proofs.SpelledMembers.{SharedsOf, one_yielded, all_yielded, no_shared, more_shareds, shared}
@@ -22,10 +22,11 @@ more-preserved c =
     let begun = c.more.invariant in
     let steps : into_iter_items c.more.name-iterator ≡ c.in-Some.name ∷ into_iter_items c.next.new.self = c.in-Some.ensures.steps.0 in
     let one = c.in_ok-parts in
+    let longer : length c.push.new.self ≡ length c.more.features + 1 = ap length c.in_ok-push.ensures.ok ∙ length-append c.more.features (_ ∷ []) in
     record {
       behind = (omega (arith, c.in_ok-names.ensures.next.0, c.in_ok-at.ensures.next.0, one.ensures.next.0), one.ensures.next.1);
       past = omega (arith, one.ensures.next.0);
-      count = first_of (grind arith, search rules);
+      count = omega (arith, begun.count, longer, c.in-Some.ensures.steps.1);
       names = one_yielded _ _ _ _ c.in-Some.name begun.names steps;
       left =
           let was = begun.left in
