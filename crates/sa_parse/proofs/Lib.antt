@@ -1,1 +1,2 @@
+pub mod SpelledClasses
 pub mod SpelledStatements

@@ -200,9 +200,13 @@ abbrev pub contracts_from : ℕ → List Written → List Contract
 contracts_from class [] = []
 contracts_from class (w ∷ others) = contracts_of class w ++ contracts_from (class + 1) others
 
--- the tokens of this text, which is that of file `file`, spell what was parsed. The first class has the place `first`
-pub record Spells (text : List ℕ) (file : ℕ) (file_kind : FileKind) (first : ℕ) (tokens : List Token) (parsed : Parsed) : Type 0 where
+-- these lexemes spell what was parsed. The first class has the place `first`
+pub record AreSpelled (file_kind : FileKind) (first : ℕ) (ls : List Lexeme) (parsed : Parsed) : Type 0 where
   pub written : List Written
-  pub spelled : IsFile file_kind (lexemes_of file text tokens) written
+  pub spelled : IsFile file_kind ls written
   pub classes : parsed.classes ≡ map class_of written
   pub contracts : parsed.contracts ≡ contracts_from first written
+
+-- the tokens of this text, which is that of file `file`, spell what was parsed. The first class has the place `first`
+abbrev pub Spells : List ℕ → ℕ → FileKind → ℕ → List Token → Parsed → Type 0
+Spells text file file_kind first tokens parsed = AreSpelled file_kind first (lexemes_of file text tokens) parsed

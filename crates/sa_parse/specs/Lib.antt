@@ -2,6 +2,7 @@ pub mod Bodies
 pub mod Classes
 pub mod Conditions
 pub mod Features
+pub mod Insides
 pub mod Names
 pub mod Refusals
 pub mod Signatures

@@ -14,8 +14,13 @@
 //! members       = [member] {";" [member]}
 //! ```
 
-ghost use Rattle.std.specs.Prelude.{◌≡◌, ◌+◌, ◌<◌, ◌≤◌, [], ◌∷◌, ◌++◌, IfErr, IfOk, OnOk, length};
-ghost use Rattle.sa_parse.specs.Features.{features_of};
+ghost use Rattle.std.specs.Prelude.{◌≡◌, ◌+◌, ◌<◌, ◌≤◌, [], ◌∷◌, ◌++◌, IfErr, IfOk, OnOk, length, option_to_list};
+ghost use Rattle.sa_parse.specs.Classes.{IsAbstractHead, IsConcreteHead, IsEdges, IsKind, IsOptionalSignature, IsParam, IsParamList, IsParams};
+ghost use Rattle.sa_parse.specs.Classes.{IsSignatures, IsTypesAfter, contract_of, invariants_of};
+ghost use Rattle.sa_parse.specs.Features.{enclosing, features_of};
+ghost use Rattle.sa_parse.specs.Insides.{Adds, AddsMember, AreMembers, IsAbstractClassRead, IsAbstractInside, IsClassRead, IsConcreteInside};
+ghost use Rattle.sa_parse.specs.Insides.{features_alone, whole};
+ghost use Rattle.sa_parse_expr.specs.Lexemes.{between};
 ghost use Rattle.sa_parse_expr.specs.Places.{IsBehind, IsFrom, IsUnexpected};
 
 use crate::contract::Clauses;
@@ -61,7 +66,7 @@ pub(crate) struct Inside {
 
 impl Inside {
     fn new(alloc: Global) -> Inside
-        ensures { result.features ≡ [] }
+        ensures { result ≡ features_alone [] }
     {
         Inside {
             includes: Items::new(alloc),
@@ -73,8 +78,10 @@ impl Inside {
 
     /// Puts what a member of the class at this place gives at the end.
     fn put(&mut self, class: u32, member: Declaration) -> Result<(), AllocError>
-        requires { length self.old.features < 4294967296 }
-        ensures { OnOk result (self.new.features ≡ self.old.features ++ features_of member) }
+        requires few { length self.old.features < 4294967296 }
+        requires once { length (option_to_list self.old.invariant ++ invariants_of member) ≤ 1 }
+        ensures features { OnOk result (self.new.features ≡ self.old.features ++ features_of member) }
+        ensures added { OnOk result (Adds class self.old (member ∷ []) self.new) }
     {
         match member {
             Declaration::Variables(features) => self.features.append(features),
@@ -95,7 +102,11 @@ impl Inside {
         clauses: Clauses,
     ) -> Result<(), AllocError>
         requires { length self.old.features < 4294967296 }
-        ensures { OnOk result (self.new.features ≡ self.old.features ++ feature ∷ []) }
+        ensures features { OnOk result (self.new.features ≡ self.old.features ++ feature ∷ []) }
+        ensures clauses { OnOk result (self.new.clauses
+            ≡ self.old.clauses ++ contract_of class (length self.old.features) clauses.pre clauses.post) }
+        ensures includes { OnOk result (self.new.includes ≡ self.old.includes) }
+        ensures invariant { OnOk result (self.new.invariant ≡ self.old.invariant) }
     {
         let place = self.features.len() as u32;
         if let Some(contract) = clauses.of(class, place) {
@@ -114,7 +125,9 @@ pub(crate) struct WholeClass {
     pub(crate) invariant: Option<Condition>,
 }
 
-fn whole_class(kind: Kind, head: Head, inside: Inside) -> WholeClass {
+fn whole_class(kind: Kind, head: Head, inside: Inside) -> WholeClass
+    ensures { result ≡ whole kind head inside }
+{
     let class = Class {
         kind,
         name: head.name,
@@ -141,6 +154,7 @@ pub(crate) fn class(
     from: u32,
 ) -> Result<(WholeClass, u32), FrontFault>
     ensures next { IfOk result (λ read. IsBehind tokens.now.list.now from read.1) }
+    ensures spelled { IfOk result (λ read. IsClassRead file_kind place (between tokens.now from read.1) read.0) }
     ensures refused { IfErr result (IsUnexpected tokens.now.file) }
 {
     if tokens.is_word(from, Word::Abstract) {
@@ -157,6 +171,7 @@ fn abstract_class(
     from: u32,
 ) -> Result<(WholeClass, u32), FrontFault>
     ensures next { IfOk result (λ read. IsBehind tokens.now.list.now from read.1) }
+    ensures spelled { IfOk result (λ read. IsAbstractClassRead (between tokens.now from read.1) read.0) }
     ensures refused { IfErr result (IsUnexpected tokens.now.file) }
 {
     let next = tokens.after_word(from, Word::Class)?;
@@ -168,6 +183,7 @@ fn abstract_class(
 /// `ANAME params subs [">" types]`
 fn abstract_head(alloc: Global, tokens: &Tokens<'_>, from: u32) -> Result<(Head, u32), FrontFault>
     ensures next { IfOk result (λ read. IsBehind tokens.now.list.now from read.1) }
+    ensures spelled { IfOk result (λ read. IsAbstractHead (between tokens.now from read.1) read.0) }
     ensures refused { IfErr result (IsUnexpected tokens.now.file) }
 {
     let (name, next) = abstract_name(alloc, tokens, from)?;
@@ -185,6 +201,7 @@ fn abstract_head(alloc: Global, tokens: &Tokens<'_>, from: u32) -> Result<(Head,
 fn edges(alloc: Global, tokens: &Tokens<'_>, from: u32) -> Result<(DeclaredEdges, u32), FrontFault>
     requires { from ≤ length tokens.now.list.now }
     ensures next { IfOk result (λ read. IsFrom tokens.now.list.now from read.1) }
+    ensures spelled { IfOk result (λ read. IsEdges (between tokens.now from read.1) read.0) }
     ensures refused { IfErr result (IsUnexpected tokens.now.file) }
 {
     let (below, next) = types_after(alloc, tokens, Sign::Less, from)?;
@@ -200,6 +217,7 @@ fn abstract_inside(
     from: u32,
 ) -> Result<(Inside, u32), FrontFault>
     ensures next { IfOk result (λ read. IsBehind tokens.now.list.now from read.1) }
+    ensures spelled { IfOk result (λ read. IsAbstractInside (between tokens.now from read.1) read.0) }
     ensures refused { IfErr result (IsUnexpected tokens.now.file) }
 {
     let next = tokens.after_word(from, Word::Is)?;
@@ -220,6 +238,7 @@ fn concrete_class(
     from: u32,
 ) -> Result<(WholeClass, u32), FrontFault>
     ensures next { IfOk result (λ read. IsBehind tokens.now.list.now from read.1) }
+    ensures spelled { IfOk result (λ read. IsClassRead file_kind place (between tokens.now from read.1) read.0) }
     ensures refused { IfErr result (IsUnexpected tokens.now.file) }
 {
     let (kind, next) = kind(tokens, from);
@@ -239,6 +258,7 @@ fn concrete_class(
 fn kind(tokens: &Tokens<'_>, from: u32) -> (Kind, u32)
     ensures from { from ≤ result.1 }
     ensures within { from ≤ length tokens.now.list.now → result.1 ≤ length tokens.now.list.now }
+    ensures spelled { IsKind (between tokens.now from result.1) result.0 }
 {
     match tokens.kind(from) {
         Some(TokenKind::Word(Word::Immutable)) => (Kind::Immutable, from + 1),
@@ -250,6 +270,7 @@ fn kind(tokens: &Tokens<'_>, from: u32) -> (Kind, u32)
 /// `CNAME params subs`
 fn concrete_head(alloc: Global, tokens: &Tokens<'_>, from: u32) -> Result<(Head, u32), FrontFault>
     ensures next { IfOk result (λ read. IsBehind tokens.now.list.now from read.1) }
+    ensures spelled { IfOk result (λ read. IsConcreteHead (between tokens.now from read.1) read.0) }
     ensures refused { IfErr result (IsUnexpected tokens.now.file) }
 {
     let (name, next) = class_name(alloc, tokens, from)?;
@@ -275,6 +296,7 @@ fn concrete_inside(
     from: u32,
 ) -> Result<(Inside, u32), FrontFault>
     ensures next { IfOk result (λ read. IsBehind tokens.now.list.now from read.1) }
+    ensures spelled { IfOk result (λ read. IsConcreteInside (enclosing class.entry) class.entry.place (between tokens.now from read.1) read.0) }
     ensures refused { IfErr result (IsUnexpected tokens.now.file) }
 {
     let next = tokens.after_word(from, Word::Is)?;
@@ -287,6 +309,7 @@ fn concrete_inside(
 fn params(alloc: Global, tokens: &Tokens<'_>, from: u32) -> Result<(Items<Param>, u32), FrontFault>
     requires { from ≤ length tokens.now.list.now }
     ensures next { IfOk result (λ read. IsFrom tokens.now.list.now from read.1) }
+    ensures spelled { IfOk result (λ read. IsParams (between tokens.now from read.1) read.0) }
     ensures refused { IfErr result (IsUnexpected tokens.now.file) }
 {
     if !tokens.is_sign(from, Sign::LeftBrace) {
@@ -303,6 +326,7 @@ fn param_list(
     from: u32,
 ) -> Result<(Items<Param>, u32), FrontFault>
     ensures next { IfOk result (λ read. IsBehind tokens.now.list.now from read.1) }
+    ensures spelled { IfOk result (λ read. IsParamList (between tokens.now from read.1) read.0) }
     ensures refused { IfErr result (IsUnexpected tokens.now.file) }
 {
     let (first, mut next) = param(alloc, tokens, from)?;
@@ -319,6 +343,7 @@ fn param_list(
 /// `CNAME ["<" type]`
 fn param(alloc: Global, tokens: &Tokens<'_>, from: u32) -> Result<(Param, u32), FrontFault>
     ensures next { IfOk result (λ read. IsBehind tokens.now.list.now from read.1) }
+    ensures spelled { IfOk result (λ read. IsParam (between tokens.now from read.1) read.0) }
     ensures refused { IfErr result (IsUnexpected tokens.now.file) }
 {
     let (name, next) = class_name(alloc, tokens, from)?;
@@ -339,6 +364,7 @@ fn types_after(
 ) -> Result<(Items<Ty>, u32), FrontFault>
     requires { from ≤ length tokens.now.list.now }
     ensures next { IfOk result (λ read. IsFrom tokens.now.list.now from read.1) }
+    ensures spelled { IfOk result (λ read. IsTypesAfter sign (between tokens.now from read.1) read.0) }
     ensures refused { IfErr result (IsUnexpected tokens.now.file) }
 {
     if !tokens.is_sign(from, sign) {
@@ -356,6 +382,7 @@ fn signatures(
 ) -> Result<(Items<Feature>, u32), FrontFault>
     requires { from ≤ length tokens.now.list.now }
     ensures next { IfOk result (λ read. IsFrom tokens.now.list.now from read.1) }
+    ensures spelled { IfOk result (λ read. IsSignatures (between tokens.now from read.1) read.0) }
     ensures refused { IfErr result (IsUnexpected tokens.now.file) }
 {
     let (first, mut next) = optional_signature(alloc, tokens, sharing, from)?;
@@ -382,6 +409,7 @@ fn optional_signature(
 ) -> Result<(Option<Feature>, u32), FrontFault>
     requires { from ≤ length tokens.now.list.now }
     ensures next { IfOk result (λ read. IsFrom tokens.now.list.now from read.1) }
+    ensures spelled { IfOk result (λ read. IsOptionalSignature (between tokens.now from read.1) (option_to_list read.0)) }
     ensures refused { IfErr result (IsUnexpected tokens.now.file) }
 {
     if !tokens.is_feature_name(from) {
@@ -401,6 +429,7 @@ fn members(
 ) -> Result<(Inside, u32), FrontFault>
     requires { from ≤ length tokens.now.list.now }
     ensures next { IfOk result (λ read. IsFrom tokens.now.list.now from read.1) }
+    ensures spelled { IfOk result (λ read. AreMembers (enclosing class.entry) class.entry.place (between tokens.now from read.1) read.0) }
     ensures refused { IfErr result (IsUnexpected tokens.now.file) }
 {
     let mut inside = Inside::new(alloc);
@@ -424,6 +453,7 @@ fn add_member(
     requires count { length inside.old.features ≤ from }
     ensures count { IfOk result (λ next. length inside.new.features ≤ next) }
     ensures next { IfOk result (IsFrom tokens.now.list.now from) }
+    ensures spelled { IfOk result (λ next. AddsMember (enclosing class.entry) class.entry.place (between tokens.now from next) inside.old inside.new) }
     ensures refused { IfErr result (IsUnexpected tokens.now.file) }
 {
     if !begins_member(tokens.kind(from), class, inside) {

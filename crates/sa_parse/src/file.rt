@@ -4,10 +4,15 @@
 //! file = [class] {";" [class]}
 //! ```
 
-ghost use Rattle.std.specs.Prelude.{◌≡◌, ◌+◌, ◌<◌, ◌≤◌, [], All, IfErr, IfOk, OnOk, length};
+ghost use Rattle.std.specs.Prelude.{◌≡◌, ◌+◌, ◌<◌, ◌≤◌, [], ◌++◌, All, IfErr, IfOk, OnOk, length, map, option_to_list};
+ghost use Rattle.std.specs.List.{flat_map};
 ghost use Rattle.sa_lex.specs.Token.{IsWithin};
 ghost use Rattle.sa_parse_expr.specs.Level.{AreTaken};
+ghost use Rattle.sa_parse_expr.specs.Lexemes.{between};
 ghost use Rattle.sa_parse_expr.specs.Places.{IsFrom, IsUnexpected};
+ghost use Rattle.sa_tree.specs.declared.contract.Contract.TheVariants as contract;
+ghost use Rattle.sa_parse.specs.Classes.{Spells};
+ghost use Rattle.sa_parse.specs.Insides.{IsOptionalClassRead, class_read, contracts_read};
 ghost use Rattle.sa_parse.specs.Refusals.{IsRefusal};
 
 use crate::class::{WholeClass, class};
@@ -36,7 +41,8 @@ pub struct Parsed {
 
 impl Parsed {
     fn new(alloc: Global) -> Parsed
-        ensures { result.classes ≡ [] }
+        ensures classes { result.classes ≡ [] }
+        ensures contracts { result.contracts ≡ [] }
     {
         Parsed {
             classes: Items::new(alloc),
@@ -46,7 +52,10 @@ impl Parsed {
 
     /// Puts the class with this place at the end, and its contracts.
     fn put(&mut self, place: u32, one: Option<WholeClass>) -> Result<(), AllocError>
-        ensures { OnOk result (length self.new.classes ≤ length self.old.classes + 1) }
+        ensures count { OnOk result (length self.new.classes ≤ length self.old.classes + 1) }
+        ensures classes { OnOk result (self.new.classes ≡ self.old.classes ++ map class_read (option_to_list one)) }
+        ensures contracts { OnOk result (self.new.contracts
+            ≡ self.old.contracts ++ flat_map (contracts_read place) (option_to_list one)) }
     {
         let Some(
             WholeClass {
@@ -69,7 +78,9 @@ impl Parsed {
         clauses: Items<Contract>,
         invariant: Option<Condition>,
     ) -> Result<(), AllocError>
-        ensures { OnOk result (self.new.classes ≡ self.old.classes) }
+        ensures classes { OnOk result (self.new.classes ≡ self.old.classes) }
+        ensures contracts { OnOk result (self.new.contracts
+            ≡ self.old.contracts ++ clauses ++ map (contract.Invariant class) (option_to_list invariant)) }
     {
         self.contracts.append(clauses)?;
         match invariant {
@@ -98,6 +109,7 @@ pub fn parse(
     requires short { length src.now < 4294967295 }
     requires few { first + length tokens.now < 4294967295 }
     ensures taken { OnOk result (AreTaken tokens.now (length tokens.now)) }
+    ensures spelled { IfOk result (Spells src.now file file_kind first tokens.now) }
     ensures refused { IfErr result (IsRefusal tokens.now file) }
 {
     scan(alloc, tokens, file)?;
@@ -117,7 +129,8 @@ fn classes(
     first: u32,
 ) -> Result<Parsed, FrontFault>
     requires { first + length tokens.now.list.now < 4294967295 }
-    ensures { IfErr result (IsUnexpected tokens.now.file) }
+    ensures spelled { IfOk result (Spells tokens.now.src.now tokens.now.file file_kind first tokens.now.list.now) }
+    ensures refused { IfErr result (IsUnexpected tokens.now.file) }
 {
     let mut sharing = Sharing::new();
     let mut parsed = Parsed::new(alloc);
@@ -146,6 +159,7 @@ fn optional_class(
 ) -> Result<(Option<WholeClass>, u32), FrontFault>
     requires { from ≤ length tokens.now.list.now }
     ensures next { IfOk result (λ read. IsFrom tokens.now.list.now from read.1) }
+    ensures spelled { IfOk result (λ read. IsOptionalClassRead file_kind place (between tokens.now from read.1) read.0) }
     ensures refused { IfErr result (IsUnexpected tokens.now.file) }
 {
     if !begins_class(tokens.kind(from)) {
