@@ -55,3 +55,7 @@ pub data IsInvariant : List Lexeme → Condition → Type 0 where
       → IsWord word.Invariant w → IsSign sign.Colon colon → IsBool bool → IsWord word.Is is
       → IsWord word.Return gives → IsCondition Plain ls holds → IsClosing ms
       → IsInvariant (w ∷ colon ∷ bool ∷ is ∷ gives ∷ ls ++ ms) holds
+
+-- what stands behind the word of an invariant
+abbrev pub EndsInvariant : List Lexeme → Condition → Type 0
+EndsInvariant ls holds = (w : Lexeme) → IsWord word.Invariant w → IsInvariant (w ∷ ls) holds

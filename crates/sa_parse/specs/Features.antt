@@ -1,6 +1,8 @@
 -- Features: a relation for each production of their grammar, with a case for each of its alternatives.
-use Rattle.std.specs.Prelude.{◌≡◌, ◌+◌, ℕ, true, false, List, [], ◌∷◌, ◌++◌, Option, Some, None, map}
+use Rattle.std.specs.Prelude.{◌≡◌, ⊤, ◌+◌, ℕ, Bool, true, false, List, [], ◌∷◌, ◌++◌, Option, Some, None, map}
+use Rattle.std.specs.List.{AllByRecursion}
 use Rattle.sa_lex.specs.declared.sign.Sign.TheVariants as sign
+use Rattle.sa_lex.specs.declared.word.Word.{Word}
 use Rattle.sa_lex.specs.declared.word.Word.TheVariants as word
 use Rattle.sa_tree.specs.declared.ty.Ty.{Ty}
 use Rattle.sa_tree.specs.declared.expr.Expr.{Expr}
@@ -14,10 +16,12 @@ use Rattle.sa_tree.specs.declared.class.Part.{Part}
 use Rattle.sa_tree.specs.declared.class.Part.TheVariants as part
 use Rattle.sa_tree.specs.declared.class.Feature.{Feature}
 use Rattle.sa_tree.specs.declared.class.Change.{Change}
+use Rattle.sa_tree.specs.declared.class.Include.{Include}
 use Rattle.sa_tree.specs.declared.contract.Condition.{Condition}
 use Rattle.sa_parse_expr.specs.Lexemes.{Lexeme, IsWord, IsSign, IsFeature}
 use Rattle.sa_parse_expr.specs.Types.{IsType}
 use Rattle.sa_parse.specs.declared.contract.Clauses.{Clauses}
+use Rattle.sa_parse.specs.declared.member.ClassContext.{ClassContext}
 use Rattle.sa_parse.specs.declared.member.Declaration.{Declaration}
 use Rattle.sa_parse.specs.declared.member.Declaration.TheVariants as member
 use Rattle.sa_parse.specs.declared.declared.SharedParts.{SharedParts}
@@ -26,7 +30,7 @@ use Rattle.sa_parse.specs.declared.file.FileKind.TheVariants.{Prelude, Program}
 use Rattle.sa_parse.specs.declared.signature.Signature.{Signature}
 use Rattle.sa_parse.specs.Conditions.{IsClauses, IsInvariant, no_clauses}
 use Rattle.sa_parse.specs.Names.{IsLower, IsMoreNames, IsNames, name_of}
-use Rattle.sa_parse.specs.Signatures.{IsSig}
+use Rattle.sa_parse.specs.Signatures.{AgreeOnTypes, IsSig}
 use Rattle.sa_parse.specs.Statements.{IsAssigned, IsBody, IsValue}
 
 -- ---- access
@@ -67,6 +71,15 @@ pub data IsOptionalChanges : List Lexeme → List Change → Type 0 where
   absent : IsOptionalChanges [] []
   given : {ls : List Lexeme} {changes : List Change} → IsChanges ls changes → IsOptionalChanges ls changes
 
+-- type [changes], behind `include`
+pub data IsBrought (private : Bool) : List Lexeme → Include → Type 0 where
+  brought : {ls ms : List Lexeme} {t : Ty} {changes : List Change} → IsType ls t → IsOptionalChanges ms changes
+      → IsBrought private (ls ++ ms) (record { ty = t; private = private; changes = changes })
+
+abbrev pub is_private : Access → Bool
+is_private Private = true
+is_private _ = false
+
 -- ---- attributes, shareds and constants: a feature for each name, with a type and an initialiser of its own
 
 -- a feature without arguments
@@ -102,6 +115,34 @@ pub data IsConstants : Access → List Lexeme → List Feature → Type 0 where
       → IsWord word.Const w → IsLower l → IsAssigned ls value → IsMoreNames ms names
       → IsConstants access (w ∷ l ∷ ls ++ ms) (counted_from 0 access value (name_of l ∷ names))
 
+-- what stands behind the word of attributes or shareds
+abbrev pub EndsDeclared : Word → Access → List Lexeme → List Feature → Type 0
+EndsDeclared v access ls features = (w : Lexeme) → IsWord v w → IsDeclared access (w ∷ ls) features
+
+-- what stands behind the word of constants
+abbrev pub EndsConstants : Access → List Lexeme → List Feature → Type 0
+EndsConstants access ls features = (w : Lexeme) → IsWord word.Const w → IsConstants access (w ∷ ls) features
+
+-- what stands behind the first name of constants of no written type
+abbrev pub EndsCountedConstants : Access → Local → List Lexeme → List Feature → Type 0
+EndsCountedConstants access first ls features = (l : Lexeme) → IsLower l → first ≡ name_of l → EndsConstants access (l ∷ ls) features
+
+-- what stands behind the name of a constant and its colon
+abbrev pub EndsTypedConstant : Access → Local → List Lexeme → List Feature → Type 0
+EndsTypedConstant access name ls features =
+    (l colon : Lexeme) → IsLower l → name ≡ name_of l → IsSign sign.Colon colon → EndsConstants access (l ∷ colon ∷ ls) features
+
+-- the initialiser of a shared or of a constant
+abbrev pub initialiser_of : Part → Option Expr
+initialiser_of (part.Shared value) = value
+initialiser_of (part.Const value number) = value
+initialiser_of _ = None
+
+-- the features of a declaration have one type and one initialiser. Those that several names share are read for each of them
+abbrev pub AgreeOnParts : List Feature → Type 0
+AgreeOnParts [] = ⊤
+AgreeOnParts (f ∷ features) = AllByRecursion (λ g. (g.result ≡ f.result) × (initialiser_of g.part ≡ initialiser_of f.part)) features
+
 -- ---- features
 
 -- the feature of a signature
@@ -113,6 +154,9 @@ pub record Enclosing : Type 0 where
   pub name : List ℕ
   pub kind : Kind
   pub file_kind : FileKind
+
+abbrev pub enclosing : ClassContext → Enclosing
+enclosing class = record { name = class.name.now; kind = class.kind; file_kind = class.file_kind }
 
 -- whole_body = "is" stmts "end"
 pub data IsWholeBody : List Lexeme → List Stmt → Type 0 where
@@ -130,6 +174,11 @@ pub data IsCalled (class : Enclosing) : Access → List Lexeme → Feature → C
   builtin : {access : Access} {w : Lexeme} {ls : List Lexeme} {sig : Signature}
       → class.file_kind ≡ Prelude → IsWord word.Builtin w → IsSig ls sig
       → IsCalled class access (w ∷ ls) (feature_of sig access (part.Builtin class.name sig.name.name)) no_clauses
+
+-- what stands behind the word of a built-in feature
+abbrev pub EndsBuiltin : Enclosing → Access → List Lexeme → Feature → Type 0
+EndsBuiltin class access ls feature =
+    (w : Lexeme) → class.file_kind ≡ Prelude → IsWord word.Builtin w → IsCalled class access (w ∷ ls) feature no_clauses
 
 -- member = ["private"] (routine | stub | builtin | const | include) | ["private" | "readonly"] (attr | shared) | invariant.
 -- The prelude has no invariants
@@ -150,7 +199,18 @@ pub data IsMember (class : Enclosing) : List Lexeme → Declaration → Type 0 w
   invariant : {ls : List Lexeme} {holds : Condition} → class.file_kind ≡ Program → IsInvariant ls holds
       → IsMember class ls (member.Invariant holds)
 
+-- what stands behind ["private"]
+abbrev pub EndsMember : Enclosing → Access → List Lexeme → Declaration → Type 0
+EndsMember class access ms member = (ls : List Lexeme) → IsPrivate ls access → IsMember class (ls ++ ms) member
+
 -- ---- what members give
+
+-- what its names share is one
+abbrev pub Agrees : Declaration → Type 0
+Agrees (member.Variables features) = AgreeOnParts features
+Agrees (member.Called feature clauses) = AgreeOnTypes feature.formals
+Agrees (member.Include brought) = ⊤
+Agrees (member.Invariant holds) = ⊤
 
 -- the features of a member
 abbrev pub features_of : Declaration → List Feature

@@ -1,10 +1,13 @@
 -- Signatures: a relation for each production of their grammar, with a case for each of its alternatives.
-use Rattle.std.specs.Prelude.{List, [], ◌∷◌, ◌++◌, Option, Some, None, map}
+use Rattle.std.specs.Prelude.{◌≡◌, ⊤, List, [], ◌∷◌, ◌++◌, Option, Some, None, map}
+use Rattle.std.specs.List.{AllByRecursion}
 use Rattle.sa_lex.specs.declared.token.TokenKind.{TokenKind}
 use Rattle.sa_lex.specs.declared.token.TokenKind.TheVariants.{IterName}
 use Rattle.sa_lex.specs.declared.sign.Sign.TheVariants as sign
 use Rattle.sa_tree.specs.declared.ty.Mode.{Mode}
+use Rattle.sa_tree.specs.declared.pos.Pos.{Pos}
 use Rattle.sa_tree.specs.declared.ty.Ty.{Ty}
+use Rattle.sa_tree.specs.declared.ty.Ty.TheVariants as ty
 use Rattle.sa_tree.specs.declared.stmt.Local.{Local}
 use Rattle.sa_tree.specs.declared.class.Formal.{Formal}
 use Rattle.sa_parse_expr.specs.declared.types.CallableKind.{CallableKind}
@@ -18,6 +21,11 @@ use Rattle.sa_parse.specs.Names.{IsNames, name_of}
 abbrev pub callable_of : TokenKind → CallableKind
 callable_of IterName = Iter
 callable_of _ = Routine
+
+-- the same of what stands at a place, if anything does
+abbrev pub callable_standing : Option TokenKind → CallableKind
+callable_standing None = Routine
+callable_standing (Some kind) = callable_of kind
 
 -- an argument of this name
 abbrev pub formal_of : Mode → Ty → Local → Formal
@@ -53,3 +61,18 @@ pub data IsSig : List Lexeme → Signature → Type 0 where
   sig : {f : Lexeme} {ls ms : List Lexeme} {formals : List Formal} {gives : Option Ty}
       → IsFeature f → IsArguments (callable_of f.kind) ls formals → IsWrittenResult ms gives
       → IsSig (f ∷ ls ++ ms) (record { name = name_of f; formals = formals; result = gives })
+
+-- ---- what names share
+
+-- where a type stands, which is at its first token
+abbrev pub stands_at : Ty → Pos
+stands_at (ty.Named name given pos) = pos
+stands_at (ty.Same pos) = pos
+stands_at (ty.Rout args gives pos) = pos
+stands_at (ty.Iter args gives pos) = pos
+
+-- arguments whose types stand at one place have one type. The type that several names share is read for each of them
+abbrev pub AgreeOnTypes : List Formal → Type 0
+AgreeOnTypes [] = ⊤
+AgreeOnTypes (f ∷ formals) =
+    AllByRecursion (λ g. stands_at g.ty ≡ stands_at f.ty → g.ty ≡ f.ty) formals × AgreeOnTypes formals

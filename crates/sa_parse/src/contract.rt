@@ -10,7 +10,10 @@
 //!
 //! `result` and `initial` may stand in the expression of a `post` alone.
 
-ghost use Rattle.std.specs.Prelude.{◌≤◌, IfErr, IfOk, length};
+ghost use Rattle.std.specs.Prelude.{◌≡◌, ◌≤◌, IfErr, IfOk, length, option_to_list};
+ghost use Rattle.sa_parse.specs.Classes.{contract_of};
+ghost use Rattle.sa_parse.specs.Conditions.{EndsInvariant, IsClause, IsClauses, IsClosing, IsCondition, no_clauses};
+ghost use Rattle.sa_parse_expr.specs.Lexemes.{between};
 ghost use Rattle.sa_parse_expr.specs.Places.{IsBehind, IsFrom, IsUnexpected};
 
 use crate::file::FileKind;
@@ -29,7 +32,9 @@ pub(crate) struct Clauses {
 
 impl Clauses {
     /// Those of a feature for which none is written.
-    pub(crate) fn none() -> Clauses {
+    pub(crate) fn none() -> Clauses
+        ensures { result ≡ no_clauses }
+    {
         Clauses {
             pre: None,
             post: None,
@@ -37,7 +42,9 @@ impl Clauses {
     }
 
     /// The contract that they are of this feature of this class, if one of them is written.
-    pub(crate) fn of(self, class: u32, feature: u32) -> Option<Contract> {
+    pub(crate) fn of(self, class: u32, feature: u32) -> Option<Contract>
+        ensures { option_to_list result ≡ contract_of class feature self.pre self.post }
+    {
         if self.pre.is_none() && self.post.is_none() {
             return None;
         }
@@ -60,6 +67,7 @@ pub(crate) fn feature_clauses(
 ) -> Result<(Clauses, u32), FrontFault>
     requires { from ≤ length tokens.now.list.now }
     ensures next { IfOk result (λ read. IsFrom tokens.now.list.now from read.1) }
+    ensures spelled { IfOk result (λ read. IsClauses file_kind (between tokens.now from read.1) read.0) }
     ensures refused { IfErr result (IsUnexpected tokens.now.file) }
 {
     if file_kind == FileKind::Prelude {
@@ -80,6 +88,7 @@ fn clause(
 ) -> Result<(Option<Condition>, u32), FrontFault>
     requires { from ≤ length tokens.now.list.now }
     ensures next { IfOk result (λ read. IsFrom tokens.now.list.now from read.1) }
+    ensures spelled { IfOk result (λ read. IsClause word scope (between tokens.now from read.1) read.0) }
     ensures refused { IfErr result (IsUnexpected tokens.now.file) }
 {
     if !tokens.is_word(from, word) {
@@ -97,6 +106,7 @@ fn condition(
     from: u32,
 ) -> Result<(Condition, u32), FrontFault>
     ensures next { IfOk result (λ read. IsBehind tokens.now.list.now from read.1) }
+    ensures spelled { IfOk result (λ read. IsCondition scope (between tokens.now from read.1) read.0) }
     ensures refused { IfErr result (IsUnexpected tokens.now.file) }
 {
     let (test, next) = read_condition(alloc, tokens, scope, from)?;
@@ -111,6 +121,7 @@ pub(crate) fn invariant(
     from: u32,
 ) -> Result<(Condition, u32), FrontFault>
     ensures next { IfOk result (λ read. IsBehind tokens.now.list.now from read.1) }
+    ensures spelled { IfOk result (λ read. EndsInvariant (between tokens.now from read.1) read.0) }
     ensures refused { IfErr result (IsUnexpected tokens.now.file) }
 {
     let next = tokens.after_sign(from, Sign::Colon)?;
@@ -124,6 +135,7 @@ pub(crate) fn invariant(
 /// The place behind `[";"] "end"`.
 fn after_closing(tokens: &Tokens<'_>, from: u32) -> Result<u32, FrontFault>
     ensures next { IfOk result (IsBehind tokens.now.list.now from) }
+    ensures spelled { IfOk result (λ next. IsClosing (between tokens.now from next)) }
     ensures refused { IfErr result (IsUnexpected tokens.now.file) }
 {
     if tokens.is_sign(from, Sign::Semicolon) {

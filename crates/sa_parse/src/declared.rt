@@ -11,7 +11,13 @@
 //! so that each feature has its own. A constant without a written type has no type in the tree; it is the initialiser
 //! plus the number of names before it.
 
-ghost use Rattle.std.specs.Prelude.{◌+◌, ◌≤◌, IfErr, IfOk, length};
+ghost use Rattle.std.specs.Prelude.{◌≡◌, ◌+◌, ◌≤◌, ℕ, IfErr, IfOk, Some, length};
+ghost use Rattle.sa_lex.specs.declared.word.Word.TheVariants as word;
+ghost use Rattle.sa_tree.specs.declared.class.Part.TheVariants as part;
+ghost use Rattle.sa_parse.specs.Features.{AgreeOnParts, EndsConstants, EndsCountedConstants, EndsDeclared, EndsTypedConstant};
+ghost use Rattle.sa_parse.specs.Features.{IsSharedParts, variable_of};
+ghost use Rattle.sa_parse.specs.Statements.{IsAssigned};
+ghost use Rattle.sa_parse_expr.specs.Lexemes.{between};
 ghost use Rattle.sa_parse_expr.specs.Places.{IsBehind, IsFrom, IsUnexpected};
 
 use crate::names::{lower_name, lower_names};
@@ -24,7 +30,9 @@ use sqlite_items::Items;
 use std::alloc::Global;
 
 /// A feature without arguments.
-fn variable(alloc: Global, access: Access, name: Local, ty: Option<Ty>, part: Part) -> Feature {
+fn variable(alloc: Global, access: Access, name: Local, ty: Option<Ty>, part: Part) -> Feature
+    ensures { result ≡ variable_of access ty part name }
+{
     Feature {
         name,
         access,
@@ -41,7 +49,9 @@ struct SharedParts {
     value: Option<Expr>,
 }
 
-fn shared_of(alloc: Global, access: Access, name: Local, parts: SharedParts) -> Feature {
+fn shared_of(alloc: Global, access: Access, name: Local, parts: SharedParts) -> Feature
+    ensures { result ≡ variable_of access (Some parts.ty) (part.Shared parts.value) name }
+{
     variable(
         alloc,
         access,
@@ -61,6 +71,7 @@ pub(crate) fn attr(
 ) -> Result<(Items<Feature>, u32), FrontFault>
     ensures count { IfOk result (λ read. from + length read.0 ≤ read.1) }
     ensures next { IfOk result (λ read. IsBehind tokens.now.list.now from read.1) }
+    ensures spelled { IfOk result (λ read. AgreeOnParts read.0 → EndsDeclared word.Attr access (between tokens.now from read.1) read.0) }
     ensures refused { IfErr result (IsUnexpected tokens.now.file) }
 {
     let (names, next) = lower_names(alloc, tokens, from)?;
@@ -85,6 +96,7 @@ pub(crate) fn shared(
 ) -> Result<(Items<Feature>, u32), FrontFault>
     ensures count { IfOk result (λ read. from + length read.0 ≤ read.1) }
     ensures next { IfOk result (λ read. IsBehind tokens.now.list.now from read.1) }
+    ensures spelled { IfOk result (λ read. AgreeOnParts read.0 → EndsDeclared word.Shared access (between tokens.now from read.1) read.0) }
     ensures refused { IfErr result (IsUnexpected tokens.now.file) }
 {
     let (names, next) = lower_names(alloc, tokens, from)?;
@@ -107,6 +119,7 @@ fn counted_parts(
     from: u32,
 ) -> Result<(SharedParts, u32), FrontFault>
     ensures next { IfOk result (λ read. IsBehind tokens.now.list.now from read.1) }
+    ensures spelled { IfOk result (λ read. IsSharedParts (between tokens.now from read.1) read.0) }
     ensures refused { IfErr result (IsUnexpected tokens.now.file) }
 {
     let (parts, next) = shared_parts(alloc, tokens, from)?;
@@ -121,6 +134,7 @@ fn shared_parts(
     from: u32,
 ) -> Result<(SharedParts, u32), FrontFault>
     ensures next { IfOk result (λ read. IsBehind tokens.now.list.now from read.1) }
+    ensures spelled { IfOk result (λ read. IsSharedParts (between tokens.now from read.1) read.0) }
     ensures refused { IfErr result (IsUnexpected tokens.now.file) }
 {
     let (ty, next) = read_type(alloc, tokens, from)?;
@@ -138,6 +152,7 @@ pub(crate) fn constants(
 ) -> Result<(Items<Feature>, u32), FrontFault>
     ensures count { IfOk result (λ read. from + length read.0 ≤ read.1) }
     ensures next { IfOk result (λ read. IsBehind tokens.now.list.now from read.1) }
+    ensures spelled { IfOk result (λ read. AgreeOnParts read.0 → EndsConstants access (between tokens.now from read.1) read.0) }
     ensures refused { IfErr result (IsUnexpected tokens.now.file) }
 {
     let (first, next) = lower_name(alloc, tokens, from)?;
@@ -158,6 +173,7 @@ fn typed_constant(
 ) -> Result<(Items<Feature>, u32), FrontFault>
     ensures count { IfOk result (λ read. from + length read.0 ≤ read.1) }
     ensures next { IfOk result (λ read. IsBehind tokens.now.list.now from read.1) }
+    ensures spelled { IfOk result (λ read. EndsTypedConstant access name (between tokens.now from read.1) read.0) }
     ensures refused { IfErr result (IsUnexpected tokens.now.file) }
 {
     let (ty, next) = read_type(alloc, tokens, from)?;
@@ -181,6 +197,8 @@ fn counted_constants(
     requires { from ≤ length tokens.now.list.now }
     ensures count { IfOk result (λ read. from + length read.0 ≤ read.1 + 1) }
     ensures next { IfOk result (λ read. IsFrom tokens.now.list.now from read.1) }
+    ensures spelled { IfOk result (λ read. AgreeOnParts read.0
+        → EndsCountedConstants access first (between tokens.now from read.1) read.0) }
     ensures refused { IfErr result (IsUnexpected tokens.now.file) }
 {
     let (value, mut next) = assigned(alloc, tokens, from)?;
@@ -207,7 +225,8 @@ fn counted_value(
     from: u32,
 ) -> Result<Option<Expr>, FrontFault>
     requires { from ≤ length tokens.now.list.now }
-    ensures { IfErr result (IsUnexpected tokens.now.file) }
+    ensures spelled { IfOk result (λ value. (next : ℕ) × IsAssigned (between tokens.now from next) value) }
+    ensures refused { IfErr result (IsUnexpected tokens.now.file) }
 {
     let (value, next) = assigned(alloc, tokens, from)?;
     sharing.count(tokens, from, next)?;

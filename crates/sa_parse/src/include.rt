@@ -10,7 +10,9 @@
 //!
 //! F is a lower name or the name of an iter. Whether both names of a change are of one kind isn't decided here.
 
-ghost use Rattle.std.specs.Prelude.{◌≤◌, IfErr, IfOk, length};
+ghost use Rattle.std.specs.Prelude.{◌≡◌, ◌≤◌, IfErr, IfOk, length};
+ghost use Rattle.sa_parse.specs.Features.{IsBrought, IsChange, IsChanges, IsNewName, IsOptionalChanges, is_private};
+ghost use Rattle.sa_parse_expr.specs.Lexemes.{between};
 ghost use Rattle.sa_parse_expr.specs.Places.{IsBehind, IsFrom, IsUnexpected};
 
 use crate::names::feature_name;
@@ -27,7 +29,9 @@ struct NewName {
     name: Option<Name>,
 }
 
-fn change_of(left: Local, new: NewName) -> Change {
+fn change_of(left: Local, new: NewName) -> Change
+    ensures { result ≡ record { from = left; to = new.name; access = new.access } }
+{
     Change {
         from: left,
         to: new.name,
@@ -43,6 +47,7 @@ pub(crate) fn include(
     from: u32,
 ) -> Result<(Include, u32), FrontFault>
     ensures next { IfOk result (λ read. IsBehind tokens.now.list.now from read.1) }
+    ensures spelled { IfOk result (λ read. IsBrought (is_private access) (between tokens.now from read.1) read.0) }
     ensures refused { IfErr result (IsUnexpected tokens.now.file) }
 {
     let (ty, next) = read_type(alloc, tokens, from)?;
@@ -63,6 +68,7 @@ fn optional_changes(
 ) -> Result<(Items<Change>, u32), FrontFault>
     requires { from ≤ length tokens.now.list.now }
     ensures next { IfOk result (λ read. IsFrom tokens.now.list.now from read.1) }
+    ensures spelled { IfOk result (λ read. IsOptionalChanges (between tokens.now from read.1) read.0) }
     ensures refused { IfErr result (IsUnexpected tokens.now.file) }
 {
     if !tokens.is_feature_name(from) {
@@ -78,6 +84,7 @@ fn changes(
     from: u32,
 ) -> Result<(Items<Change>, u32), FrontFault>
     ensures next { IfOk result (λ read. IsBehind tokens.now.list.now from read.1) }
+    ensures spelled { IfOk result (λ read. IsChanges (between tokens.now from read.1) read.0) }
     ensures refused { IfErr result (IsUnexpected tokens.now.file) }
 {
     let (first, mut next) = change(alloc, tokens, from)?;
@@ -94,6 +101,7 @@ fn changes(
 /// `F "->" new_name`
 fn change(alloc: Global, tokens: &Tokens<'_>, from: u32) -> Result<(Change, u32), FrontFault>
     ensures next { IfOk result (λ read. IsBehind tokens.now.list.now from read.1) }
+    ensures spelled { IfOk result (λ read. IsChange (between tokens.now from read.1) read.0) }
     ensures refused { IfErr result (IsUnexpected tokens.now.file) }
 {
     let (left, next) = feature_name(alloc, tokens, from)?;
@@ -106,6 +114,7 @@ fn change(alloc: Global, tokens: &Tokens<'_>, from: u32) -> Result<(Change, u32)
 fn new_name(alloc: Global, tokens: &Tokens<'_>, from: u32) -> Result<(NewName, u32), FrontFault>
     requires { from ≤ length tokens.now.list.now }
     ensures next { IfOk result (λ read. IsFrom tokens.now.list.now from read.1) }
+    ensures spelled { IfOk result (λ read. IsNewName (between tokens.now from read.1) read.0.access read.0.name) }
     ensures refused { IfErr result (IsUnexpected tokens.now.file) }
 {
     let (access, next) = match tokens.kind(from) {

@@ -13,9 +13,15 @@
 //! whole_body = "is" stmts "end"
 //! ```
 
-ghost use Rattle.std.specs.Prelude.{◌+◌, ◌≤◌, IfErr, IfOk, length};
-ghost use Rattle.sa_parse.specs.Features.{features_of};
-ghost use Rattle.sa_parse_expr.specs.Places.{IsBehind, IsUnexpected};
+ghost use Rattle.std.specs.Prelude.{◌≡◌, ◌+◌, ◌≤◌, IfErr, IfOk, Some, length};
+ghost use Rattle.sa_lex.specs.declared.token.TokenKind.TheVariants as token;
+ghost use Rattle.sa_lex.specs.declared.word.Word.TheVariants as word;
+ghost use Rattle.sa_parse.specs.declared.file.FileKind.TheVariants.{Program};
+ghost use Rattle.sa_parse.specs.Features.{AgreeOnParts, Agrees, EndsBuiltin, EndsMember, IsDeclared, IsMember, IsWholeBody};
+ghost use Rattle.sa_parse.specs.Features.{enclosing, feature_of, features_of};
+ghost use Rattle.sa_parse.specs.Signatures.{AgreeOnTypes};
+ghost use Rattle.sa_parse_expr.specs.Lexemes.{between};
+ghost use Rattle.sa_parse_expr.specs.Places.{IsBehind, IsUnexpected, kind_at};
 
 use crate::body::read_body;
 use crate::contract::{Clauses, feature_clauses, invariant};
@@ -53,7 +59,9 @@ pub(crate) enum Declaration {
 }
 
 /// The feature of a signature.
-pub(crate) fn of_sig(sig: Signature, access: Access, part: Part) -> Feature {
+pub(crate) fn of_sig(sig: Signature, access: Access, part: Part) -> Feature
+    ensures { result ≡ feature_of sig access part }
+{
     Feature {
         name: sig.name,
         access,
@@ -71,8 +79,10 @@ pub(crate) fn member(
     sharing: &mut Sharing,
     from: u32,
 ) -> Result<(Declaration, u32), FrontFault>
+    requires { kind_at tokens.now.list.now from ≡ Some (token.Word word.Invariant) → class.entry.file_kind ≡ Program }
     ensures count { IfOk result (λ read. from + length (features_of read.0) ≤ read.1) }
     ensures next { IfOk result (λ read. IsBehind tokens.now.list.now from read.1) }
+    ensures spelled { IfOk result (λ read. Agrees read.0 → IsMember (enclosing class.entry) (between tokens.now from read.1) read.0) }
     ensures refused { IfErr result (IsUnexpected tokens.now.file) }
 {
     match tokens.kind(from) {
@@ -102,6 +112,8 @@ fn after_access(
 ) -> Result<(Declaration, u32), FrontFault>
     ensures count { IfOk result (λ read. from + length (features_of read.0) ≤ read.1) }
     ensures next { IfOk result (λ read. IsBehind tokens.now.list.now from read.1) }
+    ensures spelled { IfOk result (λ read. Agrees read.0
+        → EndsMember (enclosing class.entry) access (between tokens.now from read.1) read.0) }
     ensures refused { IfErr result (IsUnexpected tokens.now.file) }
 {
     match tokens.kind(from) {
@@ -131,6 +143,7 @@ fn variables(
 ) -> Result<(Items<Feature>, u32), FrontFault>
     ensures count { IfOk result (λ read. from + length read.0 ≤ read.1) }
     ensures next { IfOk result (λ read. IsBehind tokens.now.list.now from read.1) }
+    ensures spelled { IfOk result (λ read. AgreeOnParts read.0 → IsDeclared access (between tokens.now from read.1) read.0) }
     ensures refused { IfErr result (IsUnexpected tokens.now.file) }
 {
     match tokens.kind(from) {
@@ -151,6 +164,8 @@ fn called(
 ) -> Result<(Declaration, u32), FrontFault>
     ensures count { IfOk result (λ read. from + length (features_of read.0) ≤ read.1) }
     ensures next { IfOk result (λ read. IsBehind tokens.now.list.now from read.1) }
+    ensures spelled { IfOk result (λ read. Agrees read.0
+        → EndsMember (enclosing class.entry) access (between tokens.now from read.1) read.0) }
     ensures refused { IfErr result (IsUnexpected tokens.now.file) }
 {
     match tokens.kind(from) {
@@ -177,6 +192,8 @@ fn builtin(
     from: u32,
 ) -> Result<(Feature, u32), FrontFault>
     ensures next { IfOk result (λ read. IsBehind tokens.now.list.now from read.1) }
+    ensures spelled { IfOk result (λ read. AgreeOnTypes read.0.formals
+        → EndsBuiltin (enclosing class.entry) access (between tokens.now from read.1) read.0) }
     ensures refused { IfErr result (IsUnexpected tokens.now.file) }
 {
     let (sig, next) = sig(alloc, tokens, sharing, from)?;
@@ -196,6 +213,8 @@ fn routine(
 ) -> Result<(Declaration, u32), FrontFault>
     ensures count { IfOk result (λ read. from + length (features_of read.0) ≤ read.1) }
     ensures next { IfOk result (λ read. IsBehind tokens.now.list.now from read.1) }
+    ensures spelled { IfOk result (λ read. Agrees read.0
+        → EndsMember (enclosing class.entry) access (between tokens.now from read.1) read.0) }
     ensures refused { IfErr result (IsUnexpected tokens.now.file) }
 {
     let (sig, next) = sig(alloc, tokens, sharing, from)?;
@@ -208,6 +227,7 @@ fn routine(
 /// `"is" stmts "end"`
 fn whole_body(alloc: Global, tokens: &Tokens<'_>, from: u32) -> Result<(Body, u32), FrontFault>
     ensures next { IfOk result (λ read. IsBehind tokens.now.list.now from read.1) }
+    ensures spelled { IfOk result (λ read. IsWholeBody (between tokens.now from read.1) read.0) }
     ensures refused { IfErr result (IsUnexpected tokens.now.file) }
 {
     let (body, next) = read_body(alloc, tokens, Word::Is, from)?;

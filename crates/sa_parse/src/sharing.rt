@@ -1,7 +1,9 @@
 //! Types and initialisers that several names share.
 
 ghost use Rattle.std.specs.Prelude.{IfErr, IfOk};
+ghost use Rattle.sa_parse_expr.specs.Lexemes.{between};
 ghost use Rattle.sa_parse_expr.specs.Places.{IsBehind, IsUnexpected};
+ghost use Rattle.sa_parse_expr.specs.Types.{IsType};
 
 use sa_parse_expr::{Tokens, read_type};
 use sa_tree::{FrontFault, NoMemory, Ty};
@@ -47,6 +49,7 @@ pub(crate) fn counted_type(
     from: u32,
 ) -> Result<(Ty, u32), FrontFault>
     ensures next { IfOk result (λ read. IsBehind tokens.now.list.now from read.1) }
+    ensures spelled { IfOk result (λ read. IsType (between tokens.now from read.1) read.0) }
     ensures refused { IfErr result (IsUnexpected tokens.now.file) }
 {
     let (ty, next) = read_type(alloc, tokens, from)?;

@@ -10,8 +10,10 @@
 //!
 //! F is a lower name or the name of an iter. `once` is a mode in the signatures of iters alone.
 
-ghost use Rattle.std.specs.Prelude.{◌≤◌, IfErr, IfOk, length};
-ghost use Rattle.sa_parse_expr.specs.Places.{IsBehind, IsFrom, IsUnexpected};
+ghost use Rattle.std.specs.Prelude.{◌≡◌, ◌≤◌, IfErr, IfOk, length};
+ghost use Rattle.sa_parse.specs.Signatures.{AgreeOnTypes, IsArguments, IsFormal, IsFormals, IsSig, IsWrittenResult, callable_standing};
+ghost use Rattle.sa_parse_expr.specs.Lexemes.{between};
+ghost use Rattle.sa_parse_expr.specs.Places.{IsBehind, IsFrom, IsUnexpected, kind_at};
 
 use crate::names::{feature_name, lower_names};
 use crate::sharing::{Sharing, counted_type};
@@ -30,7 +32,9 @@ pub(crate) struct Signature {
 }
 
 /// What kind of callable a feature is of the name that stands there.
-fn callable_at(tokens: &Tokens<'_>, at: u32) -> CallableKind {
+fn callable_at(tokens: &Tokens<'_>, at: u32) -> CallableKind
+    ensures { result ≡ callable_standing (kind_at tokens.now.list.now at) }
+{
     match tokens.kind(at) {
         Some(TokenKind::IterName) => CallableKind::Iter,
         _ => CallableKind::Routine,
@@ -45,6 +49,7 @@ pub(crate) fn sig(
     from: u32,
 ) -> Result<(Signature, u32), FrontFault>
     ensures next { IfOk result (λ read. IsBehind tokens.now.list.now from read.1) }
+    ensures spelled { IfOk result (λ read. AgreeOnTypes read.0.formals → IsSig (between tokens.now from read.1) read.0) }
     ensures refused { IfErr result (IsUnexpected tokens.now.file) }
 {
     let callable = callable_at(tokens, from);
@@ -69,6 +74,7 @@ fn arguments(
 ) -> Result<(Items<Formal>, u32), FrontFault>
     requires { from ≤ length tokens.now.list.now }
     ensures next { IfOk result (λ read. IsFrom tokens.now.list.now from read.1) }
+    ensures spelled { IfOk result (λ read. AgreeOnTypes read.0 → IsArguments callable (between tokens.now from read.1) read.0) }
     ensures refused { IfErr result (IsUnexpected tokens.now.file) }
 {
     if !tokens.is_sign(from, Sign::LeftParen) {
@@ -87,6 +93,7 @@ fn formals(
     from: u32,
 ) -> Result<(Items<Formal>, u32), FrontFault>
     ensures next { IfOk result (λ read. IsBehind tokens.now.list.now from read.1) }
+    ensures spelled { IfOk result (λ read. AgreeOnTypes read.0 → IsFormals callable (between tokens.now from read.1) read.0) }
     ensures refused { IfErr result (IsUnexpected tokens.now.file) }
 {
     let (mut list, mut next) = formal(alloc, tokens, sharing, callable, from)?;
@@ -107,6 +114,7 @@ fn formal(
     from: u32,
 ) -> Result<(Items<Formal>, u32), FrontFault>
     ensures next { IfOk result (λ read. IsBehind tokens.now.list.now from read.1) }
+    ensures spelled { IfOk result (λ read. AgreeOnTypes read.0 → IsFormal callable (between tokens.now from read.1) read.0) }
     ensures refused { IfErr result (IsUnexpected tokens.now.file) }
 {
     let (mode, next) = read_mode(tokens, callable, from);
@@ -131,6 +139,7 @@ fn written_result(
 ) -> Result<(Option<Ty>, u32), FrontFault>
     requires { from ≤ length tokens.now.list.now }
     ensures next { IfOk result (λ read. IsFrom tokens.now.list.now from read.1) }
+    ensures spelled { IfOk result (λ read. IsWrittenResult (between tokens.now from read.1) read.0) }
     ensures refused { IfErr result (IsUnexpected tokens.now.file) }
 {
     if !tokens.is_sign(from, Sign::Colon) {
