@@ -1,11 +1,12 @@
 -- Classes and files, as they are read: a lemma for each case of their productions.
-use Rattle.std.proofs.Common.{◌≡◌, ℕ, ◌+◌, ◌-◌, ◌<◌, ◌≤◌, List, [], ◌∷◌, ◌++◌, length, map, Option, Some, None, option_to_list, Result, Ok, Err, IfOk, inl, inr, refl, sym, ap, ◌∙◌, subst, append_assoc, arith}
-use Rattle.std.specs.List.{flat_map}
-use Rattle.std.proofs.lemmas.Bool.{cases_lt}
+use Rattle.std.proofs.Common.{◌≡◌, suc, ℕ, ◌+◌, ◌-◌, ◌<◌, ◌≤◌, List, [], ◌∷◌, ◌++◌, length, map, slice_range, Option, Some, None, option_to_list, Result, Ok, Err, IfOk, OnOk, true, false, not, ◌&&◌, is_none, inl, inr, refl, sym, ap, ◌∙◌, subst, append_assoc, arith}
+use Rattle.std.specs.List.{flat_map, AllByRecursion}
+use Rattle.std.proofs.lemmas.Bool.{cases_lt, false≢true}
 use Rattle.std.proofs.lemmas.List.{append-nil, length-append, length-map, map-append, take_all}
 use Rattle.std.proofs.lemmas.List.Concat.{flat_map-append}
 use Rattle.std.proofs.lemmas.Option.{none-some}
 use Rattle.sa_lex.specs.declared.sign.Sign.{Sign}
+use Rattle.sa_lex.specs.declared.token.Token.{Token}
 use Rattle.sa_lex.specs.declared.token.TokenKind.{TokenKind}
 use Rattle.sa_lex.specs.declared.token.TokenKind.TheVariants as token
 use Rattle.sa_lex.specs.declared.sign.Sign.TheVariants as sign
@@ -13,10 +14,13 @@ use Rattle.sa_lex.specs.declared.word.Word.TheVariants as word
 use Rattle.sa_tree.specs.declared.refusal.FrontFault.{FrontFault}
 use Rattle.sa_tree.specs.declared.ty.Ty.{Ty}
 use Rattle.sa_tree.specs.declared.stmt.Local.{Local}
+use Rattle.sa_tree.specs.declared.class.Access.TheVariants.{Public}
+use Rattle.sa_tree.specs.declared.class.Part.TheVariants as part
 use Rattle.sa_tree.specs.declared.class.Kind.{Kind}
 use Rattle.sa_tree.specs.declared.class.Kind.TheVariants.{Reference, Immutable, Abstract, Partial}
 use Rattle.sa_tree.specs.declared.class.Param.{Param}
 use Rattle.sa_tree.specs.declared.class.Feature.{Feature}
+use Rattle.sa_tree.specs.declared.class.Include.{Include}
 use Rattle.sa_tree.specs.declared.contract.Condition.{Condition}
 use Rattle.sa_tree.specs.declared.contract.Contract.{Contract}
 use Rattle.sa_tree.specs.declared.contract.Contract.TheVariants as contract
@@ -29,14 +33,20 @@ use Rattle.sa_parse.specs.declared.class.DeclaredEdges.{DeclaredEdges}
 use Rattle.sa_parse.specs.declared.class.Head.{Head}
 use Rattle.sa_parse.specs.declared.class.Inside.{Inside}
 use Rattle.sa_parse.specs.declared.class.WholeClass.{WholeClass}
+use Rattle.sa_parse.specs.declared.contract.Clauses.{Clauses}
 use Rattle.sa_parse.specs.declared.file.FileKind.{FileKind}
+use Rattle.sa_parse.specs.declared.file.FileKind.TheVariants.{Prelude, Program}
 use Rattle.sa_parse.specs.declared.file.Parsed.{Parsed}
 use Rattle.sa_parse.specs.declared.member.Declaration.{Declaration}
 use Rattle.sa_parse.specs.declared.member.Declaration.TheVariants as member
+use Rattle.sa_parse.specs.Conditions.{IsInvariant}
 use Rattle.sa_parse.specs.Names.{IsName, one_name}
-use Rattle.sa_parse.specs.Features.{Enclosing, IsMember, features_of}
+use Rattle.sa_parse.specs.Starts.{begins_member, is_prelude}
+use Rattle.sa_parse.specs.declared.signature.Signature.{Signature}
+use Rattle.sa_parse.specs.Signatures.{AgreeOnTypes, IsSig}
+use Rattle.sa_parse.specs.Features.{Agrees, Enclosing, IsMember, feature_of, features_of}
 use Rattle.sa_parse.specs.Classes as classes
-use Rattle.sa_parse.specs.Classes.{IsClassName, IsAbstractName, IsParam, IsParamList, IsParams, IsTypesAfter, IsEdges, IsAbstractHead, IsConcreteHead, IsOptionalSignature, IsSignatures, IsMembers, IsKind, IsWholeClass, IsOptionalClass, IsFile, Written, includes_of, invariants_of, class_of, contract_of, clauses_from, contracts_of, contracts_from, AreSpelled, Spells}
+use Rattle.sa_parse.specs.Classes.{IsClassName, IsAbstractName, IsParam, IsParamList, IsParams, IsTypesAfter, IsEdges, IsAbstractHead, IsConcreteHead, IsOptionalSignature, IsSignatures, IsMembers, IsKind, IsWholeClass, IsOptionalClass, IsFile, Written, AgreeOnArguments, AgreesInside, includes_of, invariants_of, class_of, contract_of, clauses_from, contracts_of, contracts_from, AreSpelled, Spells}
 use Rattle.sa_parse.specs.Insides as insides
 use Rattle.sa_parse.specs.Insides.{Adds, AddsMember, AreMembers, IsOptionalMember, IsAbstractInside, IsConcreteInside, IsClassRead, IsAbstractClassRead, IsOptionalClassRead, features_alone, whole, class_read, contracts_read}
 
@@ -77,10 +87,22 @@ IsParam-bounded : {ns ls : List Lexeme} {less : Lexeme} {one : Local} {bound : T
 IsParam-bounded (one_name is) less bound = classes.bounded is less bound
 
 IsAbstractHead-named : {ns ps es : List Lexeme} {one : Local} {params : List Param} {edges : DeclaredEdges} → IsName IsAbstractName ns one → IsParams ps params → IsEdges es edges → IsAbstractHead (ns ++ (ps ++ es)) (record { name = one; params = params; edges = edges })
-IsAbstractHead-named (one_name is) params edges = classes.abstract_head is params edges
+IsAbstractHead-named (one_name is) params both = classes.abstract_head is params both
 
 IsConcreteHead-named : {ns ps bs : List Lexeme} {one : Local} {params : List Param} {below : List Ty} → IsName IsClassName ns one → IsParams ps params → IsTypesAfter sign.Less bs below → IsConcreteHead (ns ++ (ps ++ bs)) (record { name = one; params = params; edges = record { below = below; above = [] } })
 IsConcreteHead-named (one_name is) params below = classes.concrete_head is params below
+
+-- the feature of a signature that was read
+pub given_signature : (ls : List Lexeme) (sig : Signature) (f : Feature) → (AgreeOnTypes sig.formals → IsSig ls sig) → f ≡ feature_of sig Public part.Signature → AgreeOnArguments (f ∷ []) → IsOptionalSignature ls (f ∷ [])
+given_signature ls sig f is same agree = rw same (IsOptionalSignature.given (is (subst (λ (x : Feature). AgreeOnTypes x.formals) same agree.0)))
+
+-- ---- what holds of each of two lists, one behind the other
+
+parts_of : {X : Type 0} (P : X → Type 0) (xs ys : List X) → AllByRecursion P (xs ++ ys) → AllByRecursion P xs × AllByRecursion P ys
+parts_of P [] ys all = (tt, all)
+parts_of P (x ∷ xs) ys (here, all) =
+    let both = parts_of P xs ys all in
+    ((here, both.0), both.1)
 
 -- ---- what members give
 
@@ -97,7 +119,7 @@ clauses_from-append class place [] ns =
     ap (λ (n : ℕ). clauses_from class n ns) same
 clauses_from-append class place (member.Called feature clauses ∷ ms) ns =
     let here = contract_of class place clauses.pre clauses.post in
-    let same : place + 1 + length (flat_map features_of ms) ≡ place + (1 + length (flat_map features_of ms)) = omega arith in
+    let same : place + 1 + length (flat_map features_of ms) ≡ place + suc (length (flat_map features_of ms)) = omega arith in
     ap (λ (cs : List Contract). here ++ cs) (clauses_from-append class (place + 1) ms ns)
     ∙ (sym (append_assoc here (clauses_from class (place + 1) ms) (clauses_from class (place + 1 + length (flat_map features_of ms)) ns))
     ∙ ap (λ (n : ℕ). (here ++ clauses_from class (place + 1) ms) ++ clauses_from class n ns) same)
@@ -139,25 +161,109 @@ Adds-both place old mid new ms ns first second =
     }
 
 AreMembers-one : {class : Enclosing} {place : ℕ} {ls : List Lexeme} {inside : Inside} → AddsMember class place ls (features_alone []) inside → AreMembers class place ls inside
-AreMembers-one is = record { members = is.members; spelled = IsMembers-one is.spelled; added = is.added }
+AreMembers-one is = record { members = is.members; spelled = λ agree. IsMembers-one (is.spelled agree); added = is.added }
 
 AreMembers-more : {class : Enclosing} {place : ℕ} {ls ms : List Lexeme} {semicolon : Lexeme} {old new : Inside} → AreMembers class place ls old → IsSign sign.Semicolon semicolon → AddsMember class place ms old new → AreMembers class place (ls ++ semicolon ∷ ms) new
 AreMembers-more {place = place} {old = old} {new = new} is semicolon more = record {
   members = is.members ++ more.members;
-  spelled = IsMembers-more is.spelled semicolon more.spelled;
+  spelled =
+      λ agree.
+      let both = parts_of Agrees is.members more.members agree in
+      IsMembers-more (is.spelled both.0) semicolon (more.spelled both.1);
   added = Adds-both place (features_alone []) old new is.members more.members is.added more.added;
 }
 
--- ---- whole classes
+-- ---- what putting a member behind the others does to an inside
+
+pub variables_added : {U E : Type 0} (r : Result U E) (place : ℕ) (old new : Inside) (features : List Feature)
+    → OnOk r (new.features ≡ old.features ++ features) → new.includes ≡ old.includes → new.clauses ≡ old.clauses → new.invariant ≡ old.invariant
+    → OnOk r (Adds place old (member.Variables features ∷ []) new)
+variables_added (Ok done) place old new features put same_includes same_clauses same_invariant = record {
+  includes = same_includes ∙ sym (append-nil old.includes);
+  features = put ∙ ap (λ (fs : List Feature). old.features ++ fs) (sym (append-nil features));
+  clauses = same_clauses ∙ sym (append-nil old.clauses);
+  invariant = ap option_to_list same_invariant ∙ sym (append-nil (option_to_list old.invariant));
+}
+variables_added (Err fault) place old new features put same_includes same_clauses same_invariant = tt
+
+pub include_added : {U E : Type 0} (r : Result U E) (place : ℕ) (old new : Inside) (brought : Include)
+    → OnOk r (new.includes ≡ old.includes ++ brought ∷ []) → new.features ≡ old.features → new.clauses ≡ old.clauses → new.invariant ≡ old.invariant
+    → OnOk r (Adds place old (member.Include brought ∷ []) new)
+include_added (Ok done) place old new brought put same_features same_clauses same_invariant = record {
+  includes = put;
+  features = same_features ∙ sym (append-nil old.features);
+  clauses = same_clauses ∙ sym (append-nil old.clauses);
+  invariant = ap option_to_list same_invariant ∙ sym (append-nil (option_to_list old.invariant));
+}
+include_added (Err fault) place old new brought put same_features same_clauses same_invariant = tt
+
+pub called_added : {U E : Type 0} (r : Result U E) (place : ℕ) (old new : Inside) (feature : Feature) (clauses : Clauses)
+    → OnOk r (new.features ≡ old.features ++ feature ∷ [])
+    → OnOk r (new.clauses ≡ old.clauses ++ contract_of place (length old.features) clauses.pre clauses.post)
+    → OnOk r (new.includes ≡ old.includes) → OnOk r (new.invariant ≡ old.invariant)
+    → OnOk r (Adds place old (member.Called feature clauses ∷ []) new)
+called_added (Ok done) place old new feature clauses put contract same_includes same_invariant = record {
+  includes = same_includes ∙ sym (append-nil old.includes);
+  features = put;
+  clauses = contract ∙ ap (λ (cs : List Contract). old.clauses ++ cs) (sym (append-nil (contract_of place (length old.features) clauses.pre clauses.post)));
+  invariant = ap option_to_list same_invariant ∙ sym (append-nil (option_to_list old.invariant));
+}
+called_added (Err fault) place old new feature clauses put contract same_includes same_invariant = tt
+
+-- the invariant of a class that had none
+only_invariant : (o : Option Condition) (holds : Condition) → length (option_to_list o ++ holds ∷ []) ≤ 1 → holds ∷ [] ≡ option_to_list o ++ holds ∷ []
+only_invariant None holds once = refl
+only_invariant (Some other) holds once = absurd (omega (arith, once))
+
+pub invariant_added : (place : ℕ) (old new : Inside) (holds : Condition)
+    → length (option_to_list old.invariant ++ holds ∷ []) ≤ 1 → new ≡ record { includes = old.includes; features = old.features; clauses = old.clauses; invariant = Some holds }
+    → Adds place old (member.Invariant holds ∷ []) new
+invariant_added place old new holds once same = rw same (record {
+  includes = sym (append-nil old.includes);
+  features = sym (append-nil old.features);
+  clauses = sym (append-nil old.clauses);
+  invariant = only_invariant old.invariant holds once;
+})
+
+-- a member that was read and put behind the others
+pub one_member : (class : Enclosing) (place : ℕ) (ls : List Lexeme) (old new : Inside) (m : Declaration) → (Agrees m → IsMember class ls m) → Adds place old (m ∷ []) new → AddsMember class place ls old new
+one_member class place ls old new m is added = record {
+  members = m ∷ [];
+  spelled = λ agree. IsOptionalMember.given (is agree.0);
+  added = added;
+}
+
+-- ---- one of the members of a class is an invariant at most
 
 at_most_one : (o : Option Condition) → length (option_to_list o) ≤ 1
 at_most_one None = omega arith
 at_most_one (Some holds) = omega arith
 
+invariant_is : {class : Enclosing} {ls : List Lexeme} {holds : Condition} → IsMember class ls (member.Invariant holds) → IsInvariant ls holds
+invariant_is (IsMember.invariant of_program is) = is
+
+abbrev front_or : Lexeme → List Lexeme → Lexeme
+front_or d [] = d
+front_or d (l ∷ ls) = l
+
+invariant_word : {ls : List Lexeme} {holds : Condition} → IsInvariant ls holds → (l : Lexeme) (rest : List Lexeme) → ls ≡ l ∷ rest → IsWord word.Invariant l
+invariant_word (IsInvariant.invariant w colon bool is gives holds closing) l rest same = subst (IsWord word.Invariant) (ap (front_or l) same) w
+
+begins_invariant : (file_kind : FileKind) (o : Option Condition) → not (is_prelude file_kind) && is_none o ≡ true → (file_kind ≡ Program) × (o ≡ None)
+begins_invariant Prelude o begun = absurd (false≢true begun)
+begins_invariant Program None begun = (refl, refl)
+begins_invariant Program (Some other) begun = absurd (false≢true begun)
+
+-- where the word `invariant` begins a member, the file is of the program
+pub program_there : (kind : Kind) (file_kind : FileKind) (o : Option Condition) (there : Option TokenKind) → begins_member kind file_kind o there ≡ true → there ≡ Some (token.Word word.Invariant) → file_kind ≡ Program
+program_there kind file_kind o there begun same = (begins_invariant file_kind o (subst (λ (k : Option TokenKind). begins_member kind file_kind o k ≡ true) same begun)).0
+
+-- ---- whole classes
+
 abstract_whole : {w : Lexeme} {hs ls : List Lexeme} {head : Head} {inside : Inside} → IsWord word.Class w → IsAbstractHead hs head → IsAbstractInside ls inside → IsAbstractClassRead (w ∷ (hs ++ ls)) (whole Abstract head inside)
-abstract_whole {head = head} w named (insides.abstract_inside {features = features} is list closing) file_kind place a abstract = record {
+abstract_whole {w = v} {hs = hs} {head = head} w named (insides.abstract_inside {is = i} {closing = c} {ls = ls} {features = features} is list closing) file_kind place a abstract = record {
   written = record { kind = Abstract; head = head; signatures = features; members = [] };
-  spelled = classes.abstract_class abstract w named is list closing;
+  spelled = λ agree. rw (sym (append_assoc hs (i ∷ ls) (c ∷ []))) (classes.abstract_class abstract w named is (list agree.0) closing);
   class = rw (append-nil features) refl;
   clauses = refl;
   invariant = refl;
@@ -167,9 +273,13 @@ concrete_whole : {file_kind : FileKind} {place : ℕ} {w : Lexeme} {ks hs ls : L
     → IsKind ks kind → IsWord word.Class w → IsConcreteHead hs head
     → IsConcreteInside (record { name = head.name.name; kind = kind; file_kind = file_kind }) place ls inside
     → IsClassRead file_kind place (ks ++ w ∷ (hs ++ ls)) (whole kind head inside)
-concrete_whole {kind = kind} {head = head} {inside = inside} word w named (insides.concrete_inside is list closing) = record {
+concrete_whole {w = v} {ks = ks} {hs = hs} {kind = kind} {head = head} {inside = inside} word w named (insides.concrete_inside {is = i} {closing = c} {ls = ls} is list closing) = record {
   written = record { kind = kind; head = head; signatures = []; members = list.members };
-  spelled = classes.concrete_class word w named is list.spelled (subst (λ (cs : List Condition). length cs ≤ 1) list.added.invariant (at_most_one inside.invariant)) closing;
+  spelled =
+      λ agree.
+      let once : length (flat_map invariants_of list.members) ≤ 1 = subst (λ (cs : List Condition). length cs ≤ 1) list.added.invariant (at_most_one inside.invariant) in
+      rw (sym (append_assoc ks (v ∷ hs) (i ∷ (ls ++ c ∷ []))), sym (append_assoc (ks ++ v ∷ hs) (i ∷ ls) (c ∷ [])))
+      (classes.concrete_class word w named is (list.spelled agree.1) once closing);
   class = rw (list.added.includes, list.added.features) refl;
   clauses = list.added.clauses;
   invariant = list.added.invariant;
@@ -182,7 +292,7 @@ contracts_from-append class [] more =
     let same : class ≡ class + 0 = omega arith in
     ap (λ (n : ℕ). contracts_from n more) same
 contracts_from-append class (w ∷ ws) more =
-    let same : class + 1 + length ws ≡ class + (1 + length ws) = omega arith in
+    let same : class + 1 + length ws ≡ class + suc (length ws) = omega arith in
     ap (λ (cs : List Contract). contracts_of class w ++ cs) (contracts_from-append (class + 1) ws more)
     ∙ (sym (append_assoc (contracts_of class w) (contracts_from (class + 1) ws) (contracts_from (class + 1 + length ws) more))
     ∙ ap (λ (n : ℕ). (contracts_of class w ++ contracts_from (class + 1) ws) ++ contracts_from n more) same)
@@ -191,10 +301,16 @@ contracts_from-append class (w ∷ ws) more =
 contracts_same : {file_kind : FileKind} (place : ℕ) {ls : List Lexeme} (read : WholeClass) (is : IsClassRead file_kind place ls read) → contracts_read place read ≡ contracts_of place is.written
 contracts_same place read is = rw (is.clauses, is.invariant) refl
 
+-- the clauses and the invariant of a class, put behind the contracts of others
+pub contracts_behind : (old : List Contract) (place : ℕ) (read : WholeClass) → old ++ read.clauses ++ map (contract.Invariant place) (option_to_list read.invariant) ≡ old ++ flat_map (contracts_read place) (read ∷ [])
+contracts_behind old place read =
+    append_assoc old read.clauses (map (contract.Invariant place) (option_to_list read.invariant))
+    ∙ ap (λ (cs : List Contract). old ++ cs) (sym (append-nil (contracts_read place read)))
+
 pub IsOptionalClassRead-given : {file_kind : FileKind} {place : ℕ} {ls : List Lexeme} {read : WholeClass} → IsClassRead file_kind place ls read → IsOptionalClassRead file_kind place ls (Some read)
 IsOptionalClassRead-given {place = place} {read = read} is = record {
   written = is.written ∷ [];
-  spelled = IsOptionalClass.given is.spelled;
+  spelled = λ agree. IsOptionalClass.given (is.spelled agree.0);
   classes = rw is.class refl;
   contracts = rw (contracts_same place read is) refl;
 }
@@ -203,7 +319,7 @@ IsOptionalClassRead-given {place = place} {read = read} is = record {
 AreSpelled-one : {file_kind : FileKind} {first : ℕ} {ls : List Lexeme} {one : Option WholeClass} {parsed : Parsed} → IsOptionalClassRead file_kind first ls one → parsed.classes ≡ map class_read (option_to_list one) → parsed.contracts ≡ flat_map (contracts_read first) (option_to_list one) → AreSpelled file_kind first ls parsed
 AreSpelled-one is same_classes same_contracts = record {
   written = is.written;
-  spelled = IsFile.last is.spelled;
+  spelled = λ agree. IsFile.last (is.spelled agree);
   classes = same_classes ∙ is.classes;
   contracts = same_contracts ∙ is.contracts;
 }
@@ -217,7 +333,10 @@ AreSpelled-more {first = first} {place = place} {old = old} so_far semicolon mor
     let there : place ≡ first + length so_far.written = rw (at, so_far.classes, length-map so_far.written class_of) refl in
     record {
       written = so_far.written ++ more.written;
-      spelled = IsFile-more so_far.spelled semicolon more.spelled;
+      spelled =
+          λ agree.
+          let both = parts_of AgreesInside so_far.written more.written agree in
+          IsFile-more (so_far.spelled both.0) semicolon (more.spelled both.1);
       classes = same_classes ∙ rw (so_far.classes, more.classes) (sym (map-append class_of so_far.written more.written));
       contracts = same_contracts ∙ rw (so_far.contracts, more.contracts, there) (sym (contracts_from-append first so_far.written more.written));
     }
@@ -287,17 +406,21 @@ module _ (t : Tokens) where
   pub no_signature : (place : ℕ) → IsOptionalSignature (between t place place) []
   no_signature place = rw (none t place) IsOptionalSignature.absent
 
-  pub first_signature : (from next : ℕ) (one all : List Feature) → IsOptionalSignature (between t from next) one → all ≡ one → IsSignatures (between t from next) all
-  first_signature from next one all is pushed = rw pushed (IsSignatures.last is)
+  pub first_signature : (from next : ℕ) (one all : List Feature)
+      → (AgreeOnArguments one → IsOptionalSignature (between t from next) one) → all ≡ one → AgreeOnArguments all → IsSignatures (between t from next) all
+  first_signature from next one all is same agree = rw same (IsSignatures.last (is (rw same at agree)))
 
   pub more_signatures : (from mid next : ℕ) (features one all : List Feature)
-      → kind_at t.list.now mid ≡ Some (token.Sign sign.Semicolon) → IsSignatures (between t from mid) features → IsOptionalSignature (between t (mid + 1) next) one
-      → from ≤ mid → mid < next → all ≡ features ++ one → IsSignatures (between t from next) all
-  more_signatures from mid next features one all semicolon first second before behind pushed =
-      rw (parted t from mid next (token.Sign sign.Semicolon) semicolon before behind, pushed) (IsSignatures-more first (record { kind = refl }) second)
+      → kind_at t.list.now mid ≡ Some (token.Sign sign.Semicolon) → (AgreeOnArguments features → IsSignatures (between t from mid) features)
+      → (AgreeOnArguments one → IsOptionalSignature (between t (mid + 1) next) one)
+      → from ≤ mid → mid < next → all ≡ features ++ one → AgreeOnArguments all → IsSignatures (between t from next) all
+  more_signatures from mid next features one all semicolon first second before behind pushed agree =
+      let both = parts_of (λ (feature : Feature). AgreeOnTypes feature.formals) features one (rw pushed at agree) in
+      rw (parted t from mid next (token.Sign sign.Semicolon) semicolon before behind, pushed)
+      (IsSignatures-more (first both.0) (record { kind = refl }) (second both.1))
 
   pub abstract_inside : (from mid next : ℕ) (features : List Feature) (inside : Inside)
-      → kind_at t.list.now from ≡ Some (token.Word word.Is) → kind_at t.list.now mid ≡ Some (token.Word word.End) → IsSignatures (between t (from + 1) mid) features
+      → kind_at t.list.now from ≡ Some (token.Word word.Is) → kind_at t.list.now mid ≡ Some (token.Word word.End) → (AgreeOnArguments features → IsSignatures (between t (from + 1) mid) features)
       → from < mid → next ≡ mid + 1 → inside ≡ features_alone features → IsAbstractInside (between t from next) inside
   abstract_inside from mid next features inside opens closes list before ends same =
       rw (ends, enclosed t from mid (token.Word word.Is) (token.Word word.End) opens closes before, same)
@@ -338,9 +461,26 @@ module _ (t : Tokens) where
   pub no_member : (class : Enclosing) (place from : ℕ) (inside : Inside) → AddsMember class place (between t from from) inside inside
   no_member class place from inside = record {
     members = [];
-    spelled = rw (none t from) IsOptionalMember.absent;
+    spelled = λ agree. rw (none t from) IsOptionalMember.absent;
     added = Adds-none place inside;
   }
+
+  -- no invariant begins behind another one
+  pub at_most_once : (class : Enclosing) (kind : Kind) (file_kind : FileKind) (o : Option Condition) (from next : ℕ) (m : Declaration)
+      → begins_member kind file_kind o (kind_at t.list.now from) ≡ true → IsBehind t.list.now from next → (Agrees m → IsMember class (between t from next) m)
+      → length (option_to_list o ++ invariants_of m) ≤ 1
+  at_most_once class kind file_kind o from next (member.Variables features) begun behind is =
+      subst (λ (cs : List Condition). length cs ≤ 1) (sym (append-nil (option_to_list o))) (at_most_one o)
+  at_most_once class kind file_kind o from next (member.Called feature clauses) begun behind is =
+      subst (λ (cs : List Condition). length cs ≤ 1) (sym (append-nil (option_to_list o))) (at_most_one o)
+  at_most_once class kind file_kind o from next (member.Include brought) begun behind is =
+      subst (λ (cs : List Condition). length cs ≤ 1) (sym (append-nil (option_to_list o))) (at_most_one o)
+  at_most_once class kind file_kind o from next (member.Invariant holds) begun behind is =
+      let stands = standing t from (omega (arith, behind.0, behind.1)) in
+      let first = invariant_word (invariant_is (is tt)) (lexeme_at t from stands.0) (between t (from + 1) next) (front t from next stands.0 stands.1 behind.0) in
+      let there : kind_at t.list.now from ≡ Some (token.Word word.Invariant) = stands.1 ∙ ap (λ (k : TokenKind). Some k) first.kind in
+      let none_yet : o ≡ None = (begins_invariant file_kind o (subst (λ (k : Option TokenKind). begins_member kind file_kind o k ≡ true) there begun)).1 in
+      subst (λ (x : Option Condition). length (option_to_list x ++ holds ∷ []) ≤ 1) (sym none_yet) (omega arith)
 
   -- ---- classes
 
@@ -374,7 +514,7 @@ module _ (t : Tokens) where
   pub no_class : (file_kind : FileKind) (place from : ℕ) → IsOptionalClassRead file_kind place (between t from from) None
   no_class file_kind place from = record {
     written = [];
-    spelled = rw (none t from) IsOptionalClass.absent;
+    spelled = λ agree. rw (none t from) IsOptionalClass.absent;
     classes = refl;
     contracts = refl;
   }
@@ -405,12 +545,20 @@ module _ (t : Tokens) where
     | inr past ↦ past
   ]
 
+  -- what the grammar reads of a token
+  abbrev read_as : Token → Lexeme
+  read_as token = record {
+    kind = token.kind;
+    bytes = slice_range t.src.now token.start token.end;
+    pos = record { file = t.file; at = token.start };
+  }
+
   -- up to the end are all tokens
   up_to_end : (next : ℕ) → length t.list.now ≤ next → between t 0 next ≡ lexemes_of t.file t.src.now t.list.now
   unfolding between
   up_to_end next past =
       let all = lexemes_of t.file t.src.now t.list.now in
-      let many : length all ≤ next - 0 = omega (arith, length-map t.list.now _, past) in
+      let many : length all ≤ next - 0 = omega (arith, length-map t.list.now read_as, past) in
       take_all (next - 0) all many
 
   pub whole_file : (file_kind : FileKind) (first next : ℕ) (parsed : Parsed) → kind_at t.list.now next ≡ None

@@ -1,6 +1,6 @@
 -- Classes and files: a relation for each production of their grammar, with a case for each of its alternatives.
 use Rattle.std.specs.Prelude.{◌≡◌, ℕ, ◌+◌, ◌≤◌, List, [], ◌∷◌, ◌++◌, length, map, Option, Some, None}
-use Rattle.std.specs.List.{flat_map}
+use Rattle.std.specs.List.{flat_map, AllByRecursion}
 use Rattle.sa_lex.specs.declared.token.Token.{Token}
 use Rattle.sa_lex.specs.declared.token.TokenKind.TheVariants.{ClassName, AbstractName}
 use Rattle.sa_lex.specs.declared.sign.Sign.{Sign}
@@ -27,9 +27,9 @@ use Rattle.sa_parse.specs.declared.file.Parsed.{Parsed}
 use Rattle.sa_parse.specs.declared.member.Declaration.{Declaration}
 use Rattle.sa_parse.specs.declared.member.Declaration.TheVariants as member
 use Rattle.sa_parse.specs.declared.signature.Signature.{Signature}
-use Rattle.sa_parse.specs.Features.{Enclosing, IsMember, feature_of, features_of}
+use Rattle.sa_parse.specs.Features.{Agrees, Enclosing, IsMember, feature_of, features_of}
 use Rattle.sa_parse.specs.Names.{name_of}
-use Rattle.sa_parse.specs.Signatures.{IsSig}
+use Rattle.sa_parse.specs.Signatures.{AgreeOnTypes, IsSig}
 
 -- ---- heads
 
@@ -127,6 +127,14 @@ pub record Written : Type 0 where
   pub signatures : List Feature
   pub members : List Declaration
 
+-- what names share is one in these signatures
+abbrev pub AgreeOnArguments : List Feature → Type 0
+AgreeOnArguments = AllByRecursion (λ feature. AgreeOnTypes feature.formals)
+
+-- and in all that is written of the class
+abbrev pub AgreesInside : Written → Type 0
+AgreesInside w = AgreeOnArguments w.signatures × AllByRecursion Agrees w.members
+
 -- its features: the signatures of an abstract class, and else those of its members
 abbrev pub features_written : Written → List Feature
 features_written w = w.signatures ++ flat_map features_of w.members
@@ -200,10 +208,10 @@ abbrev pub contracts_from : ℕ → List Written → List Contract
 contracts_from class [] = []
 contracts_from class (w ∷ others) = contracts_of class w ++ contracts_from (class + 1) others
 
--- these lexemes spell what was parsed. The first class has the place `first`
+-- these lexemes spell what was parsed, where what names share is one. The first class has the place `first`
 pub record AreSpelled (file_kind : FileKind) (first : ℕ) (ls : List Lexeme) (parsed : Parsed) : Type 0 where
   pub written : List Written
-  pub spelled : IsFile file_kind ls written
+  pub spelled : AllByRecursion AgreesInside written → IsFile file_kind ls written
   pub classes : parsed.classes ≡ map class_of written
   pub contracts : parsed.contracts ≡ contracts_from first written
 

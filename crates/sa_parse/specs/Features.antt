@@ -73,7 +73,7 @@ pub data IsOptionalChanges : List Lexeme → List Change → Type 0 where
 
 -- type [changes], behind `include`
 pub data IsBrought (private : Bool) : List Lexeme → Include → Type 0 where
-  brought : {ls ms : List Lexeme} {t : Ty} {changes : List Change} → IsType ls t → IsOptionalChanges ms changes
+  of_type : {ls ms : List Lexeme} {t : Ty} {changes : List Change} → IsType ls t → IsOptionalChanges ms changes
       → IsBrought private (ls ++ ms) (record { ty = t; private = private; changes = changes })
 
 abbrev pub is_private : Access → Bool

@@ -1,6 +1,6 @@
 -- What the readers of classes and files build up, and which lexemes spell it.
 use Rattle.std.specs.Prelude.{◌≡◌, ℕ, List, [], ◌∷◌, ◌++◌, length, map, Option, Some, None, option_to_list}
-use Rattle.std.specs.List.{flat_map}
+use Rattle.std.specs.List.{flat_map, AllByRecursion}
 use Rattle.sa_lex.specs.declared.sign.Sign.TheVariants as sign
 use Rattle.sa_lex.specs.declared.word.Word.TheVariants as word
 use Rattle.sa_tree.specs.declared.class.Kind.{Kind}
@@ -15,8 +15,9 @@ use Rattle.sa_parse.specs.declared.class.WholeClass.{WholeClass}
 use Rattle.sa_parse.specs.declared.file.FileKind.{FileKind}
 use Rattle.sa_parse.specs.declared.file.Parsed.{Parsed}
 use Rattle.sa_parse.specs.declared.member.Declaration.{Declaration}
-use Rattle.sa_parse.specs.Features.{Enclosing, IsMember, features_of}
-use Rattle.sa_parse.specs.Classes.{Written, IsSignatures, IsMembers, IsWholeClass, IsOptionalClass, includes_of, invariants_of, class_of, clauses_from, contracts_from}
+use Rattle.sa_parse.specs.Features.{Agrees, Enclosing, IsMember, features_of}
+use Rattle.sa_parse.specs.Classes.{Written, AgreeOnArguments, AgreesInside, IsSignatures, IsMembers, IsWholeClass, IsOptionalClass}
+use Rattle.sa_parse.specs.Classes.{includes_of, invariants_of, class_of, clauses_from, contracts_from}
 
 -- ---- insides
 
@@ -39,19 +40,19 @@ pub data IsOptionalMember (class : Enclosing) : List Lexeme → List Declaration
 -- these lexemes spell a member or none, and the new inside is the old one with what it gives behind it
 pub record AddsMember (class : Enclosing) (place : ℕ) (ls : List Lexeme) (old new : Inside) : Type 0 where
   pub members : List Declaration
-  pub spelled : IsOptionalMember class ls members
+  pub spelled : AllByRecursion Agrees members → IsOptionalMember class ls members
   pub added : Adds place old members new
 
 -- these lexemes spell members, and the inside is what they give
 pub record AreMembers (class : Enclosing) (place : ℕ) (ls : List Lexeme) (inside : Inside) : Type 0 where
   pub members : List Declaration
-  pub spelled : IsMembers class ls members
+  pub spelled : AllByRecursion Agrees members → IsMembers class ls members
   pub added : Adds place (features_alone []) members inside
 
 -- "is" [sig] {";" [sig]} "end"
 pub data IsAbstractInside : List Lexeme → Inside → Type 0 where
   abstract_inside : {is closing : Lexeme} {ls : List Lexeme} {features : List Feature}
-      → IsWord word.Is is → IsSignatures ls features → IsWord word.End closing
+      → IsWord word.Is is → (AgreeOnArguments features → IsSignatures ls features) → IsWord word.End closing
       → IsAbstractInside (is ∷ ls ++ closing ∷ []) (features_alone features)
 
 -- "is" members "end"
@@ -83,7 +84,7 @@ whole kind head inside =
 -- these lexemes spell the class, which has this place
 pub record IsClassRead (file_kind : FileKind) (place : ℕ) (ls : List Lexeme) (read : WholeClass) : Type 0 where
   pub written : Written
-  pub spelled : IsWholeClass file_kind ls written
+  pub spelled : AgreesInside written → IsWholeClass file_kind ls written
   pub class : read.class ≡ class_of written
   pub clauses : read.clauses ≡ clauses_from place 0 written.members
   pub invariant : option_to_list read.invariant ≡ flat_map invariants_of written.members
@@ -104,6 +105,6 @@ contracts_read place read = read.clauses ++ map (contract.Invariant place) (opti
 -- these lexemes spell the class or none. It has this place
 pub record IsOptionalClassRead (file_kind : FileKind) (place : ℕ) (ls : List Lexeme) (read : Option WholeClass) : Type 0 where
   pub written : List Written
-  pub spelled : IsOptionalClass file_kind ls written
+  pub spelled : AllByRecursion AgreesInside written → IsOptionalClass file_kind ls written
   pub classes : map class_read (option_to_list read) ≡ map class_of written
   pub contracts : flat_map (contracts_read place) (option_to_list read) ≡ contracts_from place written

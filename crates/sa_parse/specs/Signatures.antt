@@ -7,7 +7,9 @@ use Rattle.sa_lex.specs.declared.sign.Sign.TheVariants as sign
 use Rattle.sa_tree.specs.declared.ty.Mode.{Mode}
 use Rattle.sa_tree.specs.declared.pos.Pos.{Pos}
 use Rattle.sa_tree.specs.declared.ty.Ty.{Ty}
-use Rattle.sa_tree.specs.declared.ty.Ty.TheVariants as ty
+use Rattle.sa_tree.specs.declared.ty.Ty.TheOpen.{Ty-F}
+use Rattle.sa_tree.specs.declared.ty.Ty.TheViews.{out-Ty}
+use Rattle.sa_tree.specs.declared.ty.ModeTy.{ModeTy}
 use Rattle.sa_tree.specs.declared.stmt.Local.{Local}
 use Rattle.sa_tree.specs.declared.class.Formal.{Formal}
 use Rattle.sa_parse_expr.specs.declared.types.CallableKind.{CallableKind}
@@ -65,11 +67,14 @@ pub data IsSig : List Lexeme → Signature → Type 0 where
 -- ---- what names share
 
 -- where a type stands, which is at its first token
+abbrev pub stands_level : Ty-F Ty ModeTy → Pos
+stands_level (Ty-F.Named name params pos) = pos
+stands_level (Ty-F.Same pos) = pos
+stands_level (Ty-F.Rout args of pos) = pos
+stands_level (Ty-F.Iter args of pos) = pos
+
 abbrev pub stands_at : Ty → Pos
-stands_at (ty.Named name given pos) = pos
-stands_at (ty.Same pos) = pos
-stands_at (ty.Rout args gives pos) = pos
-stands_at (ty.Iter args gives pos) = pos
+stands_at t = stands_level (out-Ty t)
 
 -- arguments whose types stand at one place have one type. The type that several names share is read for each of them
 abbrev pub AgreeOnTypes : List Formal → Type 0

@@ -15,11 +15,11 @@
 //! ```
 
 ghost use Rattle.std.specs.Prelude.{◌≡◌, ◌+◌, ◌<◌, ◌≤◌, [], ◌∷◌, ◌++◌, IfErr, IfOk, OnOk, length, option_to_list};
-ghost use Rattle.sa_parse.specs.Classes.{IsAbstractHead, IsConcreteHead, IsEdges, IsKind, IsOptionalSignature, IsParam, IsParamList, IsParams};
-ghost use Rattle.sa_parse.specs.Classes.{IsSignatures, IsTypesAfter, contract_of, invariants_of};
+ghost use Rattle.sa_parse.specs.Classes.{AgreeOnArguments, IsAbstractHead, IsConcreteHead, IsEdges, IsKind, IsOptionalSignature};
+ghost use Rattle.sa_parse.specs.Classes.{IsParam, IsParamList, IsParams, IsSignatures, IsTypesAfter, contract_of, invariants_of};
 ghost use Rattle.sa_parse.specs.Features.{enclosing, features_of};
-ghost use Rattle.sa_parse.specs.Insides.{Adds, AddsMember, AreMembers, IsAbstractClassRead, IsAbstractInside, IsClassRead, IsConcreteInside};
-ghost use Rattle.sa_parse.specs.Insides.{features_alone, whole};
+ghost use Rattle.sa_parse.specs.Insides.{Adds, AddsMember, AreMembers, IsAbstractClassRead, IsAbstractInside, IsClassRead};
+ghost use Rattle.sa_parse.specs.Insides.{IsConcreteInside, features_alone, whole};
 ghost use Rattle.sa_parse_expr.specs.Lexemes.{between};
 ghost use Rattle.sa_parse_expr.specs.Places.{IsBehind, IsFrom, IsUnexpected};
 
@@ -296,7 +296,8 @@ fn concrete_inside(
     from: u32,
 ) -> Result<(Inside, u32), FrontFault>
     ensures next { IfOk result (λ read. IsBehind tokens.now.list.now from read.1) }
-    ensures spelled { IfOk result (λ read. IsConcreteInside (enclosing class.entry) class.entry.place (between tokens.now from read.1) read.0) }
+    ensures spelled { IfOk result (λ read.
+        IsConcreteInside (enclosing class.entry) class.entry.place (between tokens.now from read.1) read.0) }
     ensures refused { IfErr result (IsUnexpected tokens.now.file) }
 {
     let next = tokens.after_word(from, Word::Is)?;
@@ -382,7 +383,7 @@ fn signatures(
 ) -> Result<(Items<Feature>, u32), FrontFault>
     requires { from ≤ length tokens.now.list.now }
     ensures next { IfOk result (λ read. IsFrom tokens.now.list.now from read.1) }
-    ensures spelled { IfOk result (λ read. IsSignatures (between tokens.now from read.1) read.0) }
+    ensures spelled { IfOk result (λ read. AgreeOnArguments read.0 → IsSignatures (between tokens.now from read.1) read.0) }
     ensures refused { IfErr result (IsUnexpected tokens.now.file) }
 {
     let (first, mut next) = optional_signature(alloc, tokens, sharing, from)?;
@@ -409,7 +410,8 @@ fn optional_signature(
 ) -> Result<(Option<Feature>, u32), FrontFault>
     requires { from ≤ length tokens.now.list.now }
     ensures next { IfOk result (λ read. IsFrom tokens.now.list.now from read.1) }
-    ensures spelled { IfOk result (λ read. IsOptionalSignature (between tokens.now from read.1) (option_to_list read.0)) }
+    ensures spelled { IfOk result (λ read. AgreeOnArguments (option_to_list read.0)
+        → IsOptionalSignature (between tokens.now from read.1) (option_to_list read.0)) }
     ensures refused { IfErr result (IsUnexpected tokens.now.file) }
 {
     if !tokens.is_feature_name(from) {
@@ -453,7 +455,8 @@ fn add_member(
     requires count { length inside.old.features ≤ from }
     ensures count { IfOk result (λ next. length inside.new.features ≤ next) }
     ensures next { IfOk result (IsFrom tokens.now.list.now from) }
-    ensures spelled { IfOk result (λ next. AddsMember (enclosing class.entry) class.entry.place (between tokens.now from next) inside.old inside.new) }
+    ensures spelled { IfOk result (λ next.
+        AddsMember (enclosing class.entry) class.entry.place (between tokens.now from next) inside.old inside.new) }
     ensures refused { IfErr result (IsUnexpected tokens.now.file) }
 {
     if !begins_member(tokens.kind(from), class, inside) {

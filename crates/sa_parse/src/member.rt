@@ -79,7 +79,7 @@ pub(crate) fn member(
     sharing: &mut Sharing,
     from: u32,
 ) -> Result<(Declaration, u32), FrontFault>
-    requires { kind_at tokens.now.list.now from ≡ Some (token.Word word.Invariant) → class.entry.file_kind ≡ Program }
+    requires { kind_at tokens.now.list.now from ≡ Some (token.Word word.Invariant) → class.file_kind ≡ Program }
     ensures count { IfOk result (λ read. from + length (features_of read.0) ≤ read.1) }
     ensures next { IfOk result (λ read. IsBehind tokens.now.list.now from read.1) }
     ensures spelled { IfOk result (λ read. Agrees read.0 → IsMember (enclosing class.entry) (between tokens.now from read.1) read.0) }
