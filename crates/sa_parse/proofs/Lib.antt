@@ -1,2 +1,3 @@
 pub mod SpelledClasses
+pub mod SpelledMembers
 pub mod SpelledStatements

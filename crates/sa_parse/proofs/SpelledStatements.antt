@@ -30,7 +30,7 @@ use Rattle.sa_parse.specs.Statements.{IsValue, IsValues, IsAssigned, IsOptionalE
 
 -- ---- one more of a list, behind those before
 
-IsMoreNames-more : {ls : List Lexeme} {comma : Lexeme} (l : Lexeme) {ns : List Local} → IsMoreNames ls ns → IsSign sign.Comma comma → IsLower l → IsMoreNames (ls ++ comma ∷ l ∷ []) (ns ++ name_of l ∷ [])
+pub IsMoreNames-more : {ls : List Lexeme} {comma : Lexeme} (l : Lexeme) {ns : List Local} → IsMoreNames ls ns → IsSign sign.Comma comma → IsLower l → IsMoreNames (ls ++ comma ∷ l ∷ []) (ns ++ name_of l ∷ [])
 IsMoreNames-more l names.no_more_names comma is = names.more_names comma is names.no_more_names
 IsMoreNames-more l (names.more_names parting first rest) comma is = names.more_names parting first (IsMoreNames-more l rest comma is)
 

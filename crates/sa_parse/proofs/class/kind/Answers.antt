@@ -7,3 +7,12 @@ returns-in-Some-Word-Immutable-clause-spelled c = immutable_word c.args.tokens.n
 
 pub returns-in-Some-Word-Partial-clause-spelled : goal.returns-in-Some-Word-Partial-clause-spelled
 returns-in-Some-Word-Partial-clause-spelled c = partial_word c.args.tokens.now c.args.from (grind arith)
+
+pub returns-in_default-clause-spelled : goal.returns-in_default-clause-spelled
+returns-in_default-clause-spelled c = no_kind c.args.tokens.now c.args.from
+
+pub returns-in_default-2-clause-spelled : goal.returns-in_default-2-clause-spelled
+returns-in_default-2-clause-spelled c = no_kind c.args.tokens.now c.args.from
+
+pub returns-in_default-3-clause-spelled : goal.returns-in_default-3-clause-spelled
+returns-in_default-3-clause-spelled c = no_kind c.args.tokens.now c.args.from

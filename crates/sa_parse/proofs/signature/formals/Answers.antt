@@ -1,0 +1,26 @@
+use Rattle.std.proofs.Common.{◌≡◌, Some, refl, arith, rules}
+use Rattle.sa_lex.specs.declared.token.TokenKind.TheVariants as token
+use Rattle.sa_lex.specs.declared.sign.Sign.TheVariants as sign
+use Rattle.sa_parse_expr.specs.Places.{kind_at}
+use Rattle.sa_parse.specs.Signatures as sigs
+use Rattle.sa_parse.proofs.SpelledMembers.{more_formals}
+use Rattle.sa_parse.proofs.signature.formals.Goals as goal
+
+pub more-init : goal.more-init
+more-init c = record {
+  behind = c.in_ok-list.ensures.next;
+  spelled = λ agree. sigs.last (c.in_ok-list.ensures.spelled agree);
+}
+
+pub more-preserved : goal.more-preserved
+more-preserved c =
+    let begun = c.more.invariant in
+    let comma : kind_at c.args.tokens.now.list.now c.more.next ≡ Some (token.Sign sign.Comma) = search rules in
+    let one = c.in_ok-more.ensures in
+    record {
+      behind = (omega (arith, begun.behind.0, one.next.0), one.next.1);
+      spelled = more_formals c.args.tokens.now c.args.callable c.args.from c.more.next _ _ _ _ comma begun.spelled one.spelled (omega (arith, begun.behind.0)) (omega (arith, one.next.0)) (search rules);
+    }
+
+pub returns-clause-spelled : goal.returns-clause-spelled
+returns-clause-spelled c = c.more.invariant.spelled
