@@ -1,5 +1,5 @@
 -- Signatures, conditions, includes, declarations and members, as they are read: a lemma for each case of their productions.
-use Rattle.std.proofs.Common.{◌≡◌, ℕ, suc, ◌+◌, ◌<◌, ◌≤◌, Bool, true, false, List, [], ◌∷◌, ◌++◌, length, map, Option, Some, None, Result, Ok, Err, IfOk, ◌⊎◌, inl, inr, refl, sym, ap, ◌∙◌, subst, append_assoc, append-nil, length-append, arith}
+use Rattle.std.proofs.Common.{◌≡◌, ℕ, ◌+◌, ◌<◌, ◌≤◌, Bool, List, [], ◌∷◌, ◌++◌, length, map, Option, Some, None, Result, Ok, Err, IfOk, refl, sym, ap, ◌∙◌, subst, append_assoc, append-nil, length-append, arith}
 use Rattle.std.specs.List.{AllByRecursion}
 use Rattle.std.proofs.lemmas.List.{map-append}
 use Rattle.std.proofs.lemmas.Option.{same_Some}
@@ -26,7 +26,6 @@ use Rattle.sa_tree.specs.declared.class.Access.{Access}
 use Rattle.sa_tree.specs.declared.class.Access.TheVariants.{Public, Private, ReadOnly}
 use Rattle.sa_tree.specs.declared.class.Kind.TheVariants.{Partial}
 use Rattle.sa_tree.specs.declared.class.Formal.{Formal}
-use Rattle.sa_tree.specs.declared.class.Part.{Part}
 use Rattle.sa_tree.specs.declared.class.Part.TheVariants as part
 use Rattle.sa_tree.specs.declared.class.Feature.{Feature}
 use Rattle.sa_tree.specs.declared.class.Change.{Change}
@@ -50,14 +49,14 @@ use Rattle.sa_parse.specs.declared.member.Declaration.{Declaration}
 use Rattle.sa_parse.specs.declared.member.Declaration.TheVariants as member
 use Rattle.sa_parse.specs.declared.signature.Signature.{Signature}
 use Rattle.sa_parse.specs.Names as names
-use Rattle.sa_parse.specs.Names.{IsLower, IsName, IsMoreNames, IsNames, name_of}
+use Rattle.sa_parse.specs.Names.{IsLower, IsName, IsMoreNames, IsNames}
 use Rattle.sa_parse.specs.Statements.{IsValue, IsAssigned, IsBody}
 use Rattle.sa_parse.specs.Signatures as sigs
 use Rattle.sa_parse.specs.Signatures.{IsFormal, IsFormals, IsArguments, IsWrittenResult, IsSig, AgreeOnTypes, callable_of, callable_standing, formal_of, stands_at, stands_level}
 use Rattle.sa_parse.specs.Conditions as conds
 use Rattle.sa_parse.specs.Conditions.{IsCondition, IsClause, IsClauses, IsBool, IsClosing, EndsInvariant, no_clauses}
 use Rattle.sa_parse.specs.Features as feats
-use Rattle.sa_parse.specs.Features.{IsAccess, IsPrivate, IsNewName, IsChange, IsChanges, IsOptionalChanges, IsBrought, is_private, variable_of, counted_from, IsSharedParts, IsDeclared, EndsDeclared, EndsConstants, EndsCountedConstants, EndsTypedConstant, initialiser_of, AgreeOnParts, feature_of, Enclosing, IsWholeBody, IsCalled, EndsBuiltin, IsMember, EndsMember, Agrees}
+use Rattle.sa_parse.specs.Features.{IsAccess, IsNewName, IsChange, IsChanges, IsOptionalChanges, IsBrought, is_private, variable_of, counted_from, IsSharedParts, IsDeclared, EndsDeclared, EndsConstants, EndsCountedConstants, EndsTypedConstant, AgreeOnParts, feature_of, Enclosing, IsWholeBody, EndsBuiltin, IsMember, EndsMember, Agrees}
 use Rattle.sa_parse.proofs.SpelledStatements.{IsMoreNames-more, name_there}
 
 -- ---- one more of a list, behind those before

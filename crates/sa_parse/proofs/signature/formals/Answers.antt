@@ -1,4 +1,4 @@
-use Rattle.std.proofs.Common.{◌≡◌, Some, refl, arith, rules}
+use Rattle.std.proofs.Common.{◌≡◌, Some, arith, rules}
 use Rattle.sa_lex.specs.declared.token.TokenKind.TheVariants as token
 use Rattle.sa_lex.specs.declared.sign.Sign.TheVariants as sign
 use Rattle.sa_parse_expr.specs.Places.{kind_at}

@@ -1,4 +1,4 @@
-use Rattle.std.proofs.Common.{arith, rules}
+use Rattle.std.proofs.Common.{arith}
 use Rattle.sa_parse.proofs.SpelledMembers.{sig}
 use Rattle.sa_parse.proofs.signature.sig.Goals as goal
 
