@@ -19,5 +19,5 @@ more-preserved c =
     let one = c.in_ok-param.ensures in
     record {
       behind = (omega (arith, begun.behind.0, one.next.0), one.next.1);
-      spelled = more_params c.args.tokens.now c.args.from c.more.next _ _ _ comma begun.spelled one.spelled (omega (arith, begun.behind.0)) (omega (arith, one.next.0)) (search rules);
+      spelled = more_params c.args.tokens.now c.args.from c.more.next _ _ _ _ comma begun.spelled one.spelled (omega (arith, begun.behind.0)) (omega (arith, one.next.0)) (search rules);
     }

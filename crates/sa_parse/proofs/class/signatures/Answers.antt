@@ -6,24 +6,16 @@ use Rattle.sa_parse_expr.specs.Places.{kind_at}
 use Rattle.sa_parse.proofs.SpelledClasses.{first_signature, more_signatures}
 use Rattle.sa_parse.proofs.class.signatures.Goals as goal
 
-pub more-init-in-Some : goal.more-init-in-Some
-more-init-in-Some c =
+pub more-init : goal.more-init
+more-init c =
     let one = c.in_ok-first.ensures in
     record {
       behind = one.next;
-      spelled = first_signature c.args.tokens.now c.args.from _ _ _ one.spelled (search rules);
+      spelled = first_signature c.args.tokens.now c.args.from _ _ _ one.spelled (search (rules, append-nil));
     }
 
-pub more-init-in-None : goal.more-init-in-None
-more-init-in-None c =
-    let one = c.in_ok-first.ensures in
-    record {
-      behind = one.next;
-      spelled = first_signature c.args.tokens.now c.args.from _ _ _ one.spelled (search rules);
-    }
-
-pub more-preserved-in-Some : goal.more-preserved-in-Some
-more-preserved-in-Some c =
+pub more-preserved-in_ok-push-2 : goal.more-preserved-in_ok-push-2
+more-preserved-in_ok-push-2 c =
     let begun = c.more.invariant in
     let semicolon : kind_at c.args.tokens.now.list.now c.more.next ≡ Some (token.Sign sign.Semicolon) = search rules in
     let one = c.in_ok-one.ensures in
@@ -32,8 +24,8 @@ more-preserved-in-Some c =
       spelled = more_signatures c.args.tokens.now c.args.from c.more.next _ _ _ _ semicolon begun.spelled one.spelled begun.behind.0 (omega (arith, one.next.0)) (search rules);
     }
 
-pub more-preserved-in-None : goal.more-preserved-in-None
-more-preserved-in-None c =
+pub more-preserved : goal.more-preserved
+more-preserved c =
     let begun = c.more.invariant in
     let semicolon : kind_at c.args.tokens.now.list.now c.more.next ≡ Some (token.Sign sign.Semicolon) = search rules in
     let one = c.in_ok-one.ensures in
