@@ -1,5 +1,5 @@
 -- Classes and files, as they are read: a lemma for each case of their productions.
-use Rattle.std.proofs.Common.{◌≡◌, suc, ℕ, ◌+◌, ◌-◌, ◌<◌, ◌≤◌, List, [], ◌∷◌, ◌++◌, length, map, slice_range, Option, Some, None, option_to_list, Result, Ok, Err, IfOk, OnOk, true, false, not, ◌&&◌, is_none, inl, inr, refl, sym, ap, ◌∙◌, subst, append_assoc, arith}
+use Rattle.std.proofs.Common.{◌≡◌, suc, ℕ, ◌+◌, ◌-◌, ◌<◌, ◌≤◌, List, [], ◌∷◌, ◌++◌, length, map, slice_range, Option, Some, None, option_to_list, Result, Ok, Err, IfOk, true, false, not, ◌&&◌, is_none, inl, inr, refl, sym, ap, ◌∙◌, subst, append_assoc, arith}
 use Rattle.std.specs.List.{flat_map, AllByRecursion}
 use Rattle.std.proofs.lemmas.Bool.{cases_lt, false≢true}
 use Rattle.std.proofs.lemmas.List.{append-nil, length-append, length-map, map-append, take_all}
@@ -20,7 +20,6 @@ use Rattle.sa_tree.specs.declared.class.Kind.{Kind}
 use Rattle.sa_tree.specs.declared.class.Kind.TheVariants.{Reference, Immutable, Abstract, Partial}
 use Rattle.sa_tree.specs.declared.class.Param.{Param}
 use Rattle.sa_tree.specs.declared.class.Feature.{Feature}
-use Rattle.sa_tree.specs.declared.class.Include.{Include}
 use Rattle.sa_tree.specs.declared.contract.Condition.{Condition}
 use Rattle.sa_tree.specs.declared.contract.Contract.{Contract}
 use Rattle.sa_tree.specs.declared.contract.Contract.TheVariants as contract
@@ -33,7 +32,6 @@ use Rattle.sa_parse.specs.declared.class.DeclaredEdges.{DeclaredEdges}
 use Rattle.sa_parse.specs.declared.class.Head.{Head}
 use Rattle.sa_parse.specs.declared.class.Inside.{Inside}
 use Rattle.sa_parse.specs.declared.class.WholeClass.{WholeClass}
-use Rattle.sa_parse.specs.declared.contract.Clauses.{Clauses}
 use Rattle.sa_parse.specs.declared.file.FileKind.{FileKind}
 use Rattle.sa_parse.specs.declared.file.FileKind.TheVariants.{Prelude, Program}
 use Rattle.sa_parse.specs.declared.file.Parsed.{Parsed}
@@ -173,58 +171,6 @@ AreMembers-more {place = place} {old = old} {new = new} is semicolon more = reco
   added = Adds-both place (features_alone []) old new is.members more.members is.added more.added;
 }
 
--- ---- what putting a member behind the others does to an inside
-
-pub variables_added : {U E : Type 0} (r : Result U E) (place : ℕ) (old new : Inside) (features : List Feature)
-    → OnOk r (new.features ≡ old.features ++ features) → new.includes ≡ old.includes → new.clauses ≡ old.clauses → new.invariant ≡ old.invariant
-    → OnOk r (Adds place old (member.Variables features ∷ []) new)
-variables_added (Ok done) place old new features put same_includes same_clauses same_invariant = record {
-  includes = same_includes ∙ sym (append-nil old.includes);
-  features = put ∙ ap (λ (fs : List Feature). old.features ++ fs) (sym (append-nil features));
-  clauses = same_clauses ∙ sym (append-nil old.clauses);
-  invariant = ap option_to_list same_invariant ∙ sym (append-nil (option_to_list old.invariant));
-}
-variables_added (Err fault) place old new features put same_includes same_clauses same_invariant = tt
-
-pub include_added : {U E : Type 0} (r : Result U E) (place : ℕ) (old new : Inside) (brought : Include)
-    → OnOk r (new.includes ≡ old.includes ++ brought ∷ []) → new.features ≡ old.features → new.clauses ≡ old.clauses → new.invariant ≡ old.invariant
-    → OnOk r (Adds place old (member.Include brought ∷ []) new)
-include_added (Ok done) place old new brought put same_features same_clauses same_invariant = record {
-  includes = put;
-  features = same_features ∙ sym (append-nil old.features);
-  clauses = same_clauses ∙ sym (append-nil old.clauses);
-  invariant = ap option_to_list same_invariant ∙ sym (append-nil (option_to_list old.invariant));
-}
-include_added (Err fault) place old new brought put same_features same_clauses same_invariant = tt
-
-pub called_added : {U E : Type 0} (r : Result U E) (place : ℕ) (old new : Inside) (feature : Feature) (clauses : Clauses)
-    → OnOk r (new.features ≡ old.features ++ feature ∷ [])
-    → OnOk r (new.clauses ≡ old.clauses ++ contract_of place (length old.features) clauses.pre clauses.post)
-    → OnOk r (new.includes ≡ old.includes) → OnOk r (new.invariant ≡ old.invariant)
-    → OnOk r (Adds place old (member.Called feature clauses ∷ []) new)
-called_added (Ok done) place old new feature clauses put contract same_includes same_invariant = record {
-  includes = same_includes ∙ sym (append-nil old.includes);
-  features = put;
-  clauses = contract ∙ ap (λ (cs : List Contract). old.clauses ++ cs) (sym (append-nil (contract_of place (length old.features) clauses.pre clauses.post)));
-  invariant = ap option_to_list same_invariant ∙ sym (append-nil (option_to_list old.invariant));
-}
-called_added (Err fault) place old new feature clauses put contract same_includes same_invariant = tt
-
--- the invariant of a class that had none
-only_invariant : (o : Option Condition) (holds : Condition) → length (option_to_list o ++ holds ∷ []) ≤ 1 → holds ∷ [] ≡ option_to_list o ++ holds ∷ []
-only_invariant None holds once = refl
-only_invariant (Some other) holds once = absurd (omega (arith, once))
-
-pub invariant_added : (place : ℕ) (old new : Inside) (holds : Condition)
-    → length (option_to_list old.invariant ++ holds ∷ []) ≤ 1 → new ≡ record { includes = old.includes; features = old.features; clauses = old.clauses; invariant = Some holds }
-    → Adds place old (member.Invariant holds ∷ []) new
-invariant_added place old new holds once same = rw same (record {
-  includes = sym (append-nil old.includes);
-  features = sym (append-nil old.features);
-  clauses = sym (append-nil old.clauses);
-  invariant = only_invariant old.invariant holds once;
-})
-
 -- a member that was read and put behind the others
 pub one_member : (class : Enclosing) (place : ℕ) (ls : List Lexeme) (old new : Inside) (m : Declaration) → (Agrees m → IsMember class ls m) → Adds place old (m ∷ []) new → AddsMember class place ls old new
 one_member class place ls old new m is added = record {
@@ -300,12 +246,6 @@ contracts_from-append class (w ∷ ws) more =
 -- the contracts of a class that was read are those of the class as it is written
 contracts_same : {file_kind : FileKind} (place : ℕ) {ls : List Lexeme} (read : WholeClass) (is : IsClassRead file_kind place ls read) → contracts_read place read ≡ contracts_of place is.written
 contracts_same place read is = rw (is.clauses, is.invariant) refl
-
--- the clauses and the invariant of a class, put behind the contracts of others
-pub contracts_behind : (old : List Contract) (place : ℕ) (read : WholeClass) → old ++ read.clauses ++ map (contract.Invariant place) (option_to_list read.invariant) ≡ old ++ flat_map (contracts_read place) (read ∷ [])
-contracts_behind old place read =
-    append_assoc old read.clauses (map (contract.Invariant place) (option_to_list read.invariant))
-    ∙ ap (λ (cs : List Contract). old ++ cs) (sym (append-nil (contracts_read place read)))
 
 pub IsOptionalClassRead-given : {file_kind : FileKind} {place : ℕ} {ls : List Lexeme} {read : WholeClass} → IsClassRead file_kind place ls read → IsOptionalClassRead file_kind place ls (Some read)
 IsOptionalClassRead-given {place = place} {read = read} is = record {
