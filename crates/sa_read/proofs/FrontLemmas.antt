@@ -1,15 +1,19 @@
 -- The texts of a program, phase by phase.
-use Rattle.std.proofs.Common.{◌≡◌, ℕ, ◌+◌, ◌<◌, ◌≤◌, List, [], ◌∷◌, ◌++◌, length, slice_index_or, sym, subst, ◌∙◌, arith, inl, inr}
+use Rattle.std.proofs.Common.{◌≡◌, ℕ, ◌+◌, ◌<◌, ◌≤◌, List, [], ◌∷◌, ◌++◌, length, slice_index_or, Result, IfOk, sym, subst, ◌∙◌, arith, inl, inr}
 use Rattle.std.proofs.lemmas.List.{get_or_append_left, get_or_default, get_or_push, length-append}
 use Rattle.std.proofs.lemmas.Bool.{cases_lt}
 use Rattle.sa_lex.specs.declared.token.Token.{Token}
 use Rattle.sa_lex.specs.Tokens.{AreTokensOf, IsFaultOf, RefusesText}
 use Rattle.sa_parse_expr.specs.Level.{RefusesTokens}
+use Rattle.sa_parse.specs.declared.file.FileKind.{FileKind}
+use Rattle.sa_parse.specs.declared.file.Parsed.{Parsed}
+use Rattle.sa_parse.specs.Classes.{Spells}
 use Rattle.sa_parse.specs.Refusals.{IsRefusal}
 use Rattle.sa_tree.specs.declared.refusal.FrontFault.{FrontFault}
 use Rattle.sa_tree.specs.declared.refusal.FrontFault.TheVariants.{Refused, NoMemory}
 use Rattle.sa_read.specs.Front.{AreTokensOfTexts, AreTokenizedUpTo, IsTakenUpTo, RefusesProgram}
 use Rattle.sa_read.specs.Program.{at}
+use Rattle.sa_read.specs.Spelled.{SpellUpTo, kind_of_text, parsed_behind}
 
 -- what holds up to a number and of it holds up to the next one
 pub up_to_next : (P : ℕ → Type 0) (n : ℕ) → ((k : ℕ) → k < n → P k) → P n → (k : ℕ) → k < n + 1 → P k
@@ -69,3 +73,15 @@ of_text texts lists n text tokens (count, each) there d e of_number list =
     let the_text : at texts n ≡ text = get_or_default texts n [] d there ∙ sym of_number in
     let the_tokens : slice_index_or lists n [] ≡ tokens = get_or_default lists n [] e (omega (arith, count)) ∙ sym list in
     subst (λ text. AreTokensOf text tokens) the_text (subst (AreTokensOf (at texts n)) the_tokens (each n there))
+
+-- before any file is parsed
+pub nothing_spelled : (texts : List (List ℕ)) (parsed : Parsed) → parsed ≡ record { classes = []; contracts = [] } → SpellUpTo texts 0 parsed
+nothing_spelled texts parsed empty = rw empty SpellUpTo.nothing
+
+-- one more file, behind those before
+pub file_spelled : (texts : List (List ℕ)) (lists : List (List Token)) (n : ℕ) (before one all : Parsed) (first : ℕ) → AreTokensOfTexts texts lists (length texts) → n < length texts → SpellUpTo texts n before → first ≡ length before.classes → Spells (at texts n) n (kind_of_text n) first (slice_index_or lists n []) one → all ≡ parsed_behind before one → SpellUpTo texts (n + 1) all
+file_spelled texts lists n before one all first each there so_far counted spelled same = rw same (SpellUpTo.file so_far (each.1 n there) (rw counted at spelled))
+
+-- the same text with its number, its kind and its tokens, as the parser is given them
+pub spelled_there : (r : Result Parsed FrontFault) (text other : List ℕ) (n number : ℕ) (kind same_kind : FileKind) (first : ℕ) (tokens others : List Token) → text ≡ other → n ≡ number → kind ≡ same_kind → tokens ≡ others → IfOk r (Spells text n kind first tokens) → IfOk r (Spells other number same_kind first others)
+spelled_there r text other n number kind same_kind first tokens others a b c d spelled = rw (a, b, c, d) at spelled

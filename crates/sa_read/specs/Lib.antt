@@ -1,3 +1,4 @@
 pub mod Front
 pub mod Program
 pub mod Read
+pub mod Spelled

@@ -1,8 +1,11 @@
 //! The classes and the contracts of a program.
 
-ghost use Rattle.std.specs.Prelude.{◌≡◌, ◌+◌, ◌<◌, [], length, slice_index_or, All, IfOk, IfErr};
+ghost use Rattle.std.specs.Prelude.{◌≡◌, ◌+◌, ◌<◌, [], length, slice_index_or, All, IfOk, IfErr, OnOk};
+ghost use Rattle.sa_parse.specs.Classes.{Spells};
 ghost use Rattle.sa_parse.specs.Refusals.{IsRefusal};
 ghost use Rattle.sa_read.specs.Front.{AreTokensOfTexts, IsTakenUpTo, RefusesProgram};
+ghost use Rattle.sa_read.specs.Program.{at};
+ghost use Rattle.sa_read.specs.Spelled.{SpellProgram, kind_of_text, parsed_behind};
 
 use crate::tokens::{lex_all, scan_all};
 use sa_lex::Token;
@@ -24,6 +27,7 @@ pub fn parse_program(alloc: Global, texts: &[Items<u8>]) -> Result<Parsed, Front
     requires short { All (λ text. length text < 4294967295) texts.now }
     requires few { length texts.now < 4294967295 }
     ensures taken { IfOk result (λ _. IsTakenUpTo texts.now (length texts.now)) }
+    ensures spelled { IfOk result (SpellProgram texts.now) }
     ensures refused { IfErr result (RefusesProgram texts.now) }
 {
     let lists = lex_all(alloc, texts)?;
@@ -41,6 +45,7 @@ fn parse_all(
     requires few { length texts.now < 4294967295 }
     requires tokens { AreTokensOfTexts texts.now lists.now (length texts.now) }
     requires taken { IsTakenUpTo texts.now (length texts.now) }
+    ensures spelled { IfOk result (SpellProgram texts.now) }
     ensures refused { IfErr result (RefusesProgram texts.now) }
 {
     let mut parsed = Parsed {
@@ -56,7 +61,9 @@ fn parse_all(
 }
 
 /// Puts what a file declares behind what is there.
-fn append(parsed: &mut Parsed, file: Parsed) -> Result<(), AllocError> {
+fn append(parsed: &mut Parsed, file: Parsed) -> Result<(), AllocError>
+    ensures { OnOk result (parsed.new ≡ parsed_behind parsed.old file) }
+{
     let Parsed { classes, contracts } = file;
     parsed.classes.append(classes)?;
     parsed.contracts.append(contracts)
@@ -85,6 +92,7 @@ fn parse_text(
     requires tokens { AreTokensOfTexts texts.now lists.now (length texts.now) }
     requires there { number < length texts.now }
     requires places { first + length (slice_index_or lists.now number []) < 4294967295 }
+    ensures spelled { IfOk result (Spells (at texts.now number) number (kind_of_text number) first (slice_index_or lists.now number [])) }
     ensures refused { IfErr result (IsRefusal (slice_index_or lists.now number []) number) }
 {
     let tokens = lists[number].as_slice();
