@@ -12,6 +12,8 @@ pub mod Nesting
 pub mod OperationsComplete
 pub mod Operators
 pub mod Shorter
+pub mod Signatures
+pub mod SignaturesExact
 pub mod Sound
 pub mod StatementEnds
 pub mod StatementsComplete

@@ -3,7 +3,9 @@ pub mod ExpressionForms
 pub mod Forms
 pub mod Grammar
 pub mod Law
+pub mod Parts
 pub mod Readings
+pub mod SignatureForms
 pub mod StatementForms
 pub mod Tests
 pub mod TypeForms
