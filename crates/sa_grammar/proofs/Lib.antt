@@ -1,11 +1,13 @@
 pub mod BodiesComplete
 pub mod Complete
+pub mod Conditions
 pub mod Exact
 pub mod ExpressionEnds
 pub mod ExpressionStarts
 pub mod ExpressionsComplete
 pub mod ExpressionsExact
 pub mod ExpressionsSound
+pub mod FeaturesSound
 pub mod FormsExact
 pub mod Levels
 pub mod Nesting

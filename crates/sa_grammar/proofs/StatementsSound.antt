@@ -57,7 +57,7 @@ names_behind comma is (more {l = l} (names.one_name k) parting rest) = names.mor
 pub value_of_expr : (ls : List Lexeme) (e : Expr) → IsExpr Plain (around_of outside) ls e → IsValue ls e
 value_of_expr ls e h = exprs.in_value h
 
-a_value : IsValue (true_lexeme ∷ []) (exprtree.Bool true origin)
+pub a_value : IsValue (true_lexeme ∷ []) (exprtree.Bool true origin)
 a_value = exprs.in_value (an_expr Plain (around_of outside))
 
 values_listed : {ls : List Lexeme} {es : List Expr} → Listed (IsExpr Plain (around_of outside)) ls es → IsValues ls es

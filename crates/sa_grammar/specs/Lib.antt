@@ -1,5 +1,7 @@
 pub mod Arounds
+pub mod ConditionForms
 pub mod ExpressionForms
+pub mod FeatureForms
 pub mod Forms
 pub mod Grammar
 pub mod Law
