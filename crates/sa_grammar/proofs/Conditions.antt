@@ -133,7 +133,7 @@ module _ (level : ℕ) (nested : (n : Nested) → Reader (Tree n)) (inside : (n 
 -- ---- the forms are complete
 
 -- no `is` goes on with an expression, and no "post" does
-clause_ends : {ls : List Lexeme} {c : Option Condition} (after : TokenKind → Bool) → after (token.Word word.Post) ≡ false → (rest : List Lexeme) → IsClause word.Post PostClause ls c
+pub clause_ends : {ls : List Lexeme} {c : Option Condition} (after : TokenKind → Bool) → after (token.Word word.Post) ≡ false → (rest : List Lexeme) → IsClause word.Post PostClause ls c
     → Ends after rest → Ends after (ls ++ rest)
 clause_ends after none rest cond.IsClause.absent ends = ends
 clause_ends after none rest (cond.IsClause.given {w = w} {ls = ls} is h) ends = kind_ends after w (ls ++ rest) is.kind none

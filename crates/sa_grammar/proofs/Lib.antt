@@ -7,6 +7,8 @@ pub mod ExpressionStarts
 pub mod ExpressionsComplete
 pub mod ExpressionsExact
 pub mod ExpressionsSound
+pub mod FeaturesComplete
+pub mod FeaturesExact
 pub mod FeaturesSound
 pub mod FormsExact
 pub mod Levels

@@ -2,7 +2,7 @@
 
 ghost use Rattle.sa_grammar.specs.Law.{ExprsAreRead, ListsOfExprsAreRead, OneExpr, OneListOfExprs, OnePost, PostsAreRead};
 ghost use Rattle.sa_grammar.specs.Law.{ListsOfStmtsAreRead, OneListOfStmts, OneStmt, StmtsAreRead};
-ghost use Rattle.sa_grammar.specs.Law.{ListsOfFormalsAreRead, OneListOfFormals, OneSig, SigsAreRead};
+ghost use Rattle.sa_grammar.specs.Law.{ListsOfFormalsAreRead, MembersAreRead, OneListOfFormals, OneMember, OneSig, SigsAreRead};
 ghost use Rattle.sa_grammar.specs.Law.{ListsOfTypesAreRead, OneListOfTypes, OneType, TypesAreRead};
 
 /// Lexemes spell one type at most.
@@ -93,4 +93,14 @@ pub fn one_sig()
 /// Lexemes are read as far as they begin a signature.
 pub fn sigs_are_read()
     ensures { SigsAreRead }
+{}
+
+/// Lexemes spell one member of a class at most.
+pub fn one_member()
+    ensures { OneMember }
+{}
+
+/// Lexemes are read as far as they begin a member of a class.
+pub fn members_are_read()
+    ensures { MembersAreRead }
 {}
