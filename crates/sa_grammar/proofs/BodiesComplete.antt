@@ -42,7 +42,7 @@ module _ (level : ℕ) (nested : (n : Nested) → Reader (Tree n))
   body_read {all = all} rest (stmt.body {ls = ls} is h) small ends = reads-met (word_met is) (nest_read level nested inside stmts ls all rest h (omega arith) ends)
 
   -- up to a word, and the word
-  reads-until_word : {A : Type 0} {form : Form A} {w : Word} {rest : List Lexeme} {l : Lexeme} {a : A} (ls : List Lexeme)
+  pub reads-until_word : {A : Type 0} {form : Form A} {w : Word} {rest : List Lexeme} {l : Lexeme} {a : A} (ls : List Lexeme)
       → Reads level nested form (ls ++ l ∷ rest) a (l ∷ rest) → IsWord w l → Reads level nested (until_word w form) ((ls ++ l ∷ []) ++ rest) a rest
   reads-until_word {rest = rest} {l = l} ls r closes = reads-joined ls (l ∷ []) rest (reads-follow r (reads-met (word_met closes) reads-give))
 

@@ -54,10 +54,10 @@ pub values_separated : {ls : List Lexeme} {es : List Expr} → IsValues ls es �
 values_separated (stmt.last_value one) = last (value_expr one)
 values_separated (stmt.more_values one comma others) = more (value_expr one) (sign_met comma) (values_separated others)
 
-lower_met : (l : Lexeme) → IsLower l → is_lower l ≡ true
+pub lower_met : (l : Lexeme) → IsLower l → is_lower l ≡ true
 lower_met l is = ap is_lower_kind is
 
-listed_names : {l : Lexeme} {ls : List Lexeme} {others : List Local} → IsLower l → IsMoreNames ls others → Listed (IsName IsLower) (l ∷ ls) (name_of l ∷ others)
+pub listed_names : {l : Lexeme} {ls : List Lexeme} {others : List Local} → IsLower l → IsMoreNames ls others → Listed (IsName IsLower) (l ∷ ls) (name_of l ∷ others)
 listed_names k names.no_more_names = last (names.one_name k)
 listed_names k (names.more_names is j h) = more (names.one_name k) (sign_met is) (listed_names j h)
 
@@ -119,7 +119,7 @@ simple_ends_expr rest h = ends_left after_expr after_value rest h
 simple_ends_value : (rest : List Lexeme) → Ends after_simple rest → Ends after_value rest
 simple_ends_value rest h = ends_right after_expr after_value rest h
 
-assigned_ends : {ls : List Lexeme} {value : Option Expr} (rest : List Lexeme) → IsAssigned ls value → Ends after_simple rest → EndsType (ls ++ rest)
+pub assigned_ends : {ls : List Lexeme} {value : Option Expr} (rest : List Lexeme) → IsAssigned ls value → Ends after_simple rest → EndsType (ls ++ rest)
 assigned_ends rest stmt.not_assigned h = expr_ends_type rest (simple_ends_expr rest h)
 assigned_ends rest (stmt.assigned {gets = gets} {ls = ls} is k) h = sign_ends sign.Assign refl refl gets (ls ++ rest) is
 
@@ -193,12 +193,16 @@ module _ (level : ℕ) (nested : (n : Nested) → Reader (Tree n))
   pub value_read : (ls : List Lexeme) (e : Expr) (rest : List Lexeme) → IsValue ls e → length ls < level → Ends after_expr rest → Reads level nested value_form (ls ++ rest) e rest
   value_read ls e rest h small ends = nest_read level nested inside (expr Plain outside) ls e rest (value_expr h) small ends
 
-  assigned_read : {ls : List Lexeme} {value : Option Expr} (rest : List Lexeme) → IsAssigned ls value → length ls < level → Ends after_simple rest
+  pub assigned_apart : {ls : List Lexeme} {value : Option Expr} (rest : List Lexeme) → IsAssigned ls value → length ls < level → Ends (is_sign_kind sign.Assign) rest → Ends after_expr rest
       → Reads level nested assigned_form (ls ++ rest) value rest
   unfolding assigned_form
-  assigned_read rest stmt.not_assigned small ends = reads-other (ends_left (is_sign_kind sign.Assign) after_names rest (simple_ends_value rest ends)) reads-give
-  assigned_read rest (stmt.assigned {ls = ls} {e = e} is h) small ends =
-      reads-met (sign_met is) (reads-make (value_read ls e rest h (omega arith) (simple_ends_expr rest ends)))
+  assigned_apart rest stmt.not_assigned small shut ends = reads-other shut reads-give
+  assigned_apart rest (stmt.assigned {ls = ls} {e = e} is h) small shut ends = reads-met (sign_met is) (reads-make (value_read ls e rest h (omega arith) ends))
+
+  pub assigned_read : {ls : List Lexeme} {value : Option Expr} (rest : List Lexeme) → IsAssigned ls value → length ls < level → Ends after_simple rest
+      → Reads level nested assigned_form (ls ++ rest) value rest
+  assigned_read rest h small ends =
+      assigned_apart rest h small (ends_left (is_sign_kind sign.Assign) after_names rest (simple_ends_value rest ends)) (simple_ends_expr rest ends)
 
   pub optional_value_read : {ls : List Lexeme} {value : Option Expr} (rest : List Lexeme) → IsOptionalExpr ls value → length ls < suc level → Ends after_stmt rest
       → Reads level nested optional_value_form (ls ++ rest) value rest

@@ -50,14 +50,14 @@ lower_kind _ h = cc
 pub lower_stands : (l : Lexeme) → is_lower l ≡ true → IsLower l
 lower_stands l h = lower_kind l.kind h
 
-names_behind : {ls : List Lexeme} {others : List Local} (comma : Lexeme) → IsSign sign.Comma comma → Listed (IsName IsLower) ls others → IsMoreNames (comma ∷ ls) others
+pub names_behind : {ls : List Lexeme} {others : List Local} (comma : Lexeme) → IsSign sign.Comma comma → Listed (IsName IsLower) ls others → IsMoreNames (comma ∷ ls) others
 names_behind comma is (last (names.one_name k)) = names.more_names is k names.no_more_names
 names_behind comma is (more {l = l} (names.one_name k) parting rest) = names.more_names is k (names_behind l (sign_stands sign.Comma l parting) rest)
 
 pub value_of_expr : (ls : List Lexeme) (e : Expr) → IsExpr Plain (around_of outside) ls e → IsValue ls e
 value_of_expr ls e h = exprs.in_value h
 
-a_value : IsValue (true_lexeme ∷ []) (exprtree.Bool true origin)
+pub a_value : IsValue (true_lexeme ∷ []) (exprtree.Bool true origin)
 a_value = exprs.in_value (an_expr Plain (around_of outside))
 
 values_listed : {ls : List Lexeme} {es : List Expr} → Listed (IsExpr Plain (around_of outside)) ls es → IsValues ls es
@@ -116,10 +116,10 @@ an_ending : IsEnding (lexeme (token.Word word.End) ∷ []) None
 an_ending = stmt.ending stmt.no_else (a_word word.End)
 
 module _ (level : ℕ) (nested : (n : Nested) → Reader (Tree n)) (inside : (n : Nested) → Sound (Spells n) (nested n)) where
-  sound_value : IsSound level nested IsValue value_form
+  pub sound_value : IsSound level nested IsValue value_form
   sound_value = sound-up (nested_sound level nested inside (expr Plain outside)) value_of_expr
 
-  sound_assigned : IsSound level nested IsAssigned assigned_form
+  pub sound_assigned : IsSound level nested IsAssigned assigned_form
   unfolding assigned_form
   sound_assigned = sound-shift (λ gets is. sound-make sound_value (λ ls e h. stmt.assigned (sign_stands sign.Assign gets is) h)) (sound-give stmt.not_assigned)
 
@@ -129,7 +129,7 @@ module _ (level : ℕ) (nested : (n : Nested) → Reader (Tree n)) (inside : (n 
       sound-either (sound-make (sound_expr level nested inside Plain outside) (λ ls e h. stmt.of_expr (value_of_expr ls e h))) (sound-give stmt.no_expr)
       (λ l ls h. opened level nested (λ n ms. sound_shorter (Spells n) (nested n) (inside n) ms) (make Some (expr_form Plain outside)) l ls h)
 
-  sound_name : IsSound level nested (IsName IsLower) name_form
+  pub sound_name : IsSound level nested (IsName IsLower) name_form
   unfolding name_form
   sound_name =
       sound-shift (λ l is. sound-give (names.one_name (lower_stands l is)))

@@ -54,7 +54,7 @@ module _ (level : ℕ) (nested : (n : Nested) → Reader (Tree n)) (inside : Sou
   sound_once Routine = sound-give types.no_mode
   sound_once Iter = sound-shift (λ w is. sound-give (types.once_word refl (word_stands word.Once w is))) (sound-give types.no_mode)
 
-  sound_mode : (callable : CallableKind) → IsSound level nested (IsMode callable) (mode_form callable)
+  pub sound_mode : (callable : CallableKind) → IsSound level nested (IsMode callable) (mode_form callable)
   unfolding mode_form
   sound_mode callable =
       sound-shift (λ w is. sound-give (types.out_word (word_stands word.Out w is)))
@@ -106,13 +106,13 @@ pub sign_ends : (s : Sign) → sameb signs sign.LeftBrace s ≡ false → sameb 
 sign_ends s brace colon l rest is = record { brace = other_sign sign.LeftBrace brace is; colon = other_sign sign.Colon colon is }
 
 -- what is no mode
-record NoMode (rest : List Lexeme) : Type 0 where
-  for_out : Shut (is_word word.Out) rest
-  for_inout : Shut (is_word word.Inout) rest
-  for_in : Shut (is_word word.In) rest
-  for_once : Shut (is_word word.Once) rest
+pub record NoMode (rest : List Lexeme) : Type 0 where
+  pub for_out : Shut (is_word word.Out) rest
+  pub for_inout : Shut (is_word word.Inout) rest
+  pub for_in : Shut (is_word word.In) rest
+  pub for_once : Shut (is_word word.Once) rest
 
-kind_no_mode : (l : Lexeme) (rest : List Lexeme) (kind : TokenKind) → l.kind ≡ kind → is_word_kind word.Out kind ≡ false → is_word_kind word.Inout kind ≡ false → is_word_kind word.In kind ≡ false → is_word_kind word.Once kind ≡ false → NoMode (l ∷ rest)
+pub kind_no_mode : (l : Lexeme) (rest : List Lexeme) (kind : TokenKind) → l.kind ≡ kind → is_word_kind word.Out kind ≡ false → is_word_kind word.Inout kind ≡ false → is_word_kind word.In kind ≡ false → is_word_kind word.Once kind ≡ false → NoMode (l ∷ rest)
 kind_no_mode l rest kind e out inout into once = record {
   for_out = ap (is_word_kind word.Out) e ∙ out;
   for_inout = ap (is_word_kind word.Inout) e ∙ inout;
@@ -140,7 +140,7 @@ module _ (level : ℕ) (nested : (n : Nested) → Reader (Tree n)) where
   once_read Iter rest e is =
       reads-other (other_word word.Out refl is) (reads-other (other_word word.Inout refl is) (reads-other (other_word word.In refl is) (reads-met (word_met is) reads-give)))
 
-  mode_read : {ls : List Lexeme} {mode : Mode} (callable : CallableKind) (rest : List Lexeme) → IsMode callable ls mode → NoMode rest → Reads level nested (mode_form callable) (ls ++ rest) mode rest
+  pub mode_read : {ls : List Lexeme} {mode : Mode} (callable : CallableKind) (rest : List Lexeme) → IsMode callable ls mode → NoMode rest → Reads level nested (mode_form callable) (ls ++ rest) mode rest
   unfolding mode_form once_form
   mode_read Routine rest types.no_mode none = reads-other none.for_out (reads-other none.for_inout (reads-other none.for_in reads-give))
   mode_read Iter rest types.no_mode none = reads-other none.for_out (reads-other none.for_inout (reads-other none.for_in (reads-other none.for_once reads-give)))

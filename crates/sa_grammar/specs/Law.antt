@@ -1,14 +1,19 @@
 -- What holds of the grammar.
-use Rattle.std.specs.Prelude.{List}
+use Rattle.std.specs.Prelude.{List, true}
 use Rattle.sa_parse_expr.specs.Lexemes.{Lexeme}
 use Rattle.sa_parse_expr.specs.declared.grammar.Scope.{Scope}
 use Rattle.sa_parse_expr.specs.Types.{IsType, IsTypes}
 use Rattle.sa_parse_expr.specs.Expressions.{IsExpr, IsExprs, IsPost}
+use Rattle.sa_parse_expr.specs.declared.types.CallableKind.{CallableKind}
 use Rattle.sa_parse.specs.Statements.{IsStmt, IsStmts}
+use Rattle.sa_parse.specs.Signatures.{IsFormals, IsSig}
+use Rattle.sa_parse.specs.Features.{Enclosing, IsMember}
 use Rattle.sa_grammar.specs.Arounds.{Where, around_of}
 use Rattle.sa_grammar.specs.Readings.{IsUnique, IsRead}
 use Rattle.sa_grammar.specs.Forms.{list, nest, type, expr, post, stmts}
 use Rattle.sa_grammar.specs.StatementForms.{stmt_form}
+use Rattle.sa_grammar.specs.SignatureForms.{formals_form, sig_form}
+use Rattle.sa_grammar.specs.FeatureForms.{member_form}
 use Rattle.sa_grammar.specs.Grammar.{read_as}
 
 -- lexemes spell one type at most
@@ -60,3 +65,24 @@ OneListOfStmts = IsUnique IsStmts
 
 abbrev pub ListsOfStmtsAreRead : Type 0
 ListsOfStmtsAreRead = (ls : List Lexeme) → IsRead IsStmts ls (read_as (nest stmts) ls)
+
+-- the same of the arguments of routines and of iters, between their parentheses
+abbrev pub OneListOfFormals : Type 0
+OneListOfFormals = (callable : CallableKind) → IsUnique (IsFormals callable)
+
+abbrev pub ListsOfFormalsAreRead : Type 0
+ListsOfFormalsAreRead = (callable : CallableKind) (ls : List Lexeme) → IsRead (IsFormals callable) ls (read_as (formals_form callable) ls)
+
+-- the same of signatures
+abbrev pub OneSig : Type 0
+OneSig = IsUnique IsSig
+
+abbrev pub SigsAreRead : Type 0
+SigsAreRead = (ls : List Lexeme) → IsRead IsSig ls (read_as sig_form ls)
+
+-- the same of members, in each kind of class and of file
+abbrev pub OneMember : Type 0
+OneMember = (class : Enclosing) → IsUnique (IsMember class)
+
+abbrev pub MembersAreRead : Type 0
+MembersAreRead = (class : Enclosing) (ls : List Lexeme) → IsRead (IsMember class) ls (read_as (member_form class true) ls)

@@ -139,7 +139,7 @@ stmt_form =
 unfoldable pub optional_stmt_form : Form (List Stmt)
 optional_stmt_form = either (make (λ s. s ∷ []) stmt_form) (give [])
 
-abbrev pub joined : List (List Stmt) → List Stmt
+abbrev pub joined : {A : Type 0} → List (List A) → List A
 joined [] = []
 joined (one ∷ others) = one ++ joined others
 

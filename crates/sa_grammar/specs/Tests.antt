@@ -26,6 +26,14 @@ is_class_kind token.ClassName = true
 is_class_kind token.AbstractName = true
 is_class_kind _ = false
 
+abbrev pub is_class_name_kind : TokenKind → Bool
+is_class_name_kind token.ClassName = true
+is_class_name_kind _ = false
+
+abbrev pub is_abstract_name_kind : TokenKind → Bool
+is_abstract_name_kind token.AbstractName = true
+is_abstract_name_kind _ = false
+
 abbrev pub is_feature_kind : TokenKind → Bool
 is_feature_kind token.Lower = true
 is_feature_kind token.IterName = true
@@ -55,6 +63,13 @@ is_word word l = is_word_kind word l.kind
 
 abbrev pub is_class : Lexeme → Bool
 is_class l = is_class_kind l.kind
+
+-- CNAME and ANAME alone
+abbrev pub is_class_name : Lexeme → Bool
+is_class_name l = is_class_name_kind l.kind
+
+abbrev pub is_abstract_name : Lexeme → Bool
+is_abstract_name l = is_abstract_name_kind l.kind
 
 abbrev pub is_feature : Lexeme → Bool
 is_feature l = is_feature_kind l.kind

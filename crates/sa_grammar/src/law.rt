@@ -2,6 +2,7 @@
 
 ghost use Rattle.sa_grammar.specs.Law.{ExprsAreRead, ListsOfExprsAreRead, OneExpr, OneListOfExprs, OnePost, PostsAreRead};
 ghost use Rattle.sa_grammar.specs.Law.{ListsOfStmtsAreRead, OneListOfStmts, OneStmt, StmtsAreRead};
+ghost use Rattle.sa_grammar.specs.Law.{ListsOfFormalsAreRead, MembersAreRead, OneListOfFormals, OneMember, OneSig, SigsAreRead};
 ghost use Rattle.sa_grammar.specs.Law.{ListsOfTypesAreRead, OneListOfTypes, OneType, TypesAreRead};
 
 /// Lexemes spell one type at most.
@@ -72,4 +73,34 @@ pub fn one_list_of_stmts()
 /// Lexemes are read as far as they begin a list of statements.
 pub fn lists_of_stmts_are_read()
     ensures { ListsOfStmtsAreRead }
+{}
+
+/// Lexemes spell one list of arguments at most.
+pub fn one_list_of_formals()
+    ensures { OneListOfFormals }
+{}
+
+/// Lexemes are read as far as they begin a list of arguments.
+pub fn lists_of_formals_are_read()
+    ensures { ListsOfFormalsAreRead }
+{}
+
+/// Lexemes spell one signature at most.
+pub fn one_sig()
+    ensures { OneSig }
+{}
+
+/// Lexemes are read as far as they begin a signature.
+pub fn sigs_are_read()
+    ensures { SigsAreRead }
+{}
+
+/// Lexemes spell one member of a class at most.
+pub fn one_member()
+    ensures { OneMember }
+{}
+
+/// Lexemes are read as far as they begin a member of a class.
+pub fn members_are_read()
+    ensures { MembersAreRead }
 {}

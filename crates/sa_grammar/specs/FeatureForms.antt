@@ -1,0 +1,147 @@
+-- The forms of features, production by production.
+use Rattle.std.specs.Prelude.{ℕ, Bool, true, false, List, [], ◌∷◌, Option, Some, None, map}
+use Rattle.sa_lex.specs.declared.sign.Sign.TheVariants as sign
+use Rattle.sa_lex.specs.declared.word.Word.TheVariants as word
+use Rattle.sa_tree.specs.declared.ty.Ty.{Ty}
+use Rattle.sa_tree.specs.declared.stmt.Local.{Local}
+use Rattle.sa_tree.specs.declared.stmt.Stmt.{Stmt}
+use Rattle.sa_tree.specs.declared.class.Access.{Access}
+use Rattle.sa_tree.specs.declared.class.Access.TheVariants.{Public, Private, ReadOnly}
+use Rattle.sa_tree.specs.declared.class.Kind.{Kind}
+use Rattle.sa_tree.specs.declared.class.Kind.TheVariants.{Partial}
+use Rattle.sa_tree.specs.declared.class.Part.TheVariants as part
+use Rattle.sa_tree.specs.declared.class.Feature.{Feature}
+use Rattle.sa_tree.specs.declared.class.Change.{Change}
+use Rattle.sa_parse_expr.specs.Lexemes.{Lexeme}
+use Rattle.sa_parse.specs.declared.file.FileKind.{FileKind}
+use Rattle.sa_parse.specs.declared.file.FileKind.TheVariants.{Prelude, Program}
+use Rattle.sa_parse.specs.Conditions.{no_clauses}
+use Rattle.sa_parse.specs.Features.{Enclosing, variable_of, counted_from, feature_of}
+use Rattle.sa_parse.specs.Names.{name_of}
+use Rattle.sa_grammar.specs.Tests.{is_sign, is_word, is_lower, is_feature}
+use Rattle.sa_grammar.specs.Forms.{Form, give, refuse, shift, either, follow, list, nest, type, stmts, make, until_word}
+use Rattle.sa_grammar.specs.Parts.{SharedParts, Declaration, called_of, variables_of, invariant_of, include_of}
+use Rattle.sa_grammar.specs.StatementForms.{assigned_form, value_form}
+use Rattle.sa_grammar.specs.SignatureForms.{names_form, sig_form}
+use Rattle.sa_grammar.specs.ConditionForms.{clauses_form, holding_form}
+
+-- ---- includes
+
+-- a change of one name to another one with this access
+abbrev pub change_to : Lexeme → Access → Option (List ℕ) → Change
+change_to f access to = record { from = name_of f; to = to; access = access }
+
+-- F, behind the arrow of a change and the words of access
+unfoldable pub new_name_form : Lexeme → Access → Form Change
+new_name_form f access = shift is_feature (λ g. give (change_to f access (Some g.bytes))) refuse
+
+-- [["private" | "readonly"] F], behind the arrow of a change
+unfoldable pub changed_form : Lexeme → Form Change
+changed_form f =
+    shift (is_word word.Private) (λ _. new_name_form f Private)
+    (shift (is_word word.Readonly) (λ _. new_name_form f ReadOnly)
+    (shift is_feature (λ g. give (change_to f Public (Some g.bytes))) (give (change_to f Public None))))
+
+-- change = F "->" new_name
+unfoldable pub change_form : Form Change
+change_form = shift is_feature (λ f. shift (is_sign sign.Arrow) (λ _. changed_form f) refuse) refuse
+
+-- [change {"," change}]
+unfoldable pub optional_changes_form : Form (List Change)
+optional_changes_form = either (list change_form) (give [])
+
+-- type [change {"," change}], behind the "include"
+unfoldable pub include_form : Bool → Form Declaration
+include_form private = follow (nest type) (λ t. make (λ changes. include_of private t changes) optional_changes_form)
+
+-- ---- attributes, shareds and constants
+
+-- names ":" type, behind the "attr"
+unfoldable pub attr_form : Access → Form (List Feature)
+attr_form access =
+    follow names_form (λ names. shift (is_sign sign.Colon) (λ _. make (λ t. map (variable_of access (Some t) part.Attr) names) (nest type)) refuse)
+
+-- shared_parts = type [":=" expr]
+unfoldable pub shared_parts_form : Form SharedParts
+shared_parts_form = follow (nest type) (λ t. make (λ value. record { ty = t; value = value }) assigned_form)
+
+-- names ":" shared_parts, behind the "shared"
+unfoldable pub shared_form : Access → Form (List Feature)
+shared_form access =
+    follow names_form
+    (λ names. shift (is_sign sign.Colon)
+    (λ _. make (λ parts. map (variable_of access (Some parts.ty) (part.Shared parts.value)) names) shared_parts_form)
+    refuse)
+
+-- {"," LNAME}
+unfoldable pub more_names_form : Form (List Local)
+more_names_form = shift (is_sign sign.Comma) (λ _. names_form) (give [])
+
+-- type ":=" expr, behind the name of a constant and the ":"
+unfoldable pub typed_constant_form : Access → Lexeme → Form (List Feature)
+typed_constant_form access l =
+    follow (nest type)
+    (λ t. shift (is_sign sign.Assign) (λ _. make (λ e. variable_of access (Some t) (part.Const (Some e) 0) (name_of l) ∷ []) value_form) refuse)
+
+-- LNAME (":" type ":=" expr | [":=" expr] {"," LNAME}), behind the "const"
+unfoldable pub constants_form : Access → Form (List Feature)
+constants_form access =
+    shift is_lower
+    (λ l. shift (is_sign sign.Colon) (λ _. typed_constant_form access l)
+    (follow assigned_form (λ value. make (λ others. counted_from 0 access value (name_of l ∷ others)) more_names_form)))
+    refuse
+
+-- attr | shared, or else another form
+unfoldable pub declared_or : Access → Form Declaration → Form Declaration
+declared_or access other =
+    shift (is_word word.Attr) (λ _. make variables_of (attr_form access))
+    (shift (is_word word.Shared) (λ _. make variables_of (shared_form access)) other)
+
+-- ---- features
+
+-- whole_body = "is" stmts "end"
+unfoldable pub whole_body_form : Form (List Stmt)
+whole_body_form = shift (is_word word.Is) (λ _. until_word word.End (nest stmts)) refuse
+
+-- routine = sig clauses whole_body
+unfoldable pub routine_form : Enclosing → Access → Form Declaration
+routine_form class access =
+    follow sig_form
+    (λ sig. follow (clauses_form class.file_kind)
+    (λ clauses. make (λ body. called_of (feature_of sig access (part.Routine body)) clauses) whole_body_form))
+
+-- stub, which stands in partial classes alone, or else another form
+unfoldable pub stub_or : Kind → Access → Form Declaration → Form Declaration
+stub_or Partial access other = shift (is_word word.Stub) (λ _. make (λ sig. called_of (feature_of sig access part.Stub) no_clauses) sig_form) other
+stub_or _ access other = other
+
+-- builtin, which stands in the prelude alone, or else another form
+unfoldable pub builtin_or : FileKind → List ℕ → Access → Form Declaration → Form Declaration
+builtin_or Prelude name access other =
+    shift (is_word word.Builtin) (λ _. make (λ sig. called_of (feature_of sig access (part.Builtin name sig.name.name)) no_clauses) sig_form) other
+builtin_or Program name access other = other
+
+-- whether this is the access of private features
+abbrev pub is_private : Access → Bool
+is_private Private = true
+is_private _ = false
+
+-- attr | shared | const | include | stub | builtin | routine, behind "private" or nothing
+unfoldable pub open_form : Enclosing → Access → Form Declaration
+open_form class access =
+    declared_or access
+    (shift (is_word word.Const) (λ _. make variables_of (constants_form access))
+    (shift (is_word word.Include) (λ _. include_form (is_private access))
+    (stub_or class.kind access (builtin_or class.file_kind class.name access (routine_form class access)))))
+
+-- invariant, which the prelude has none of, where one may stand, or else another form
+unfoldable pub invariant_or : FileKind → Bool → Form Declaration → Form Declaration
+invariant_or Program true other = shift (is_word word.Invariant) (λ _. make invariant_of holding_form) other
+invariant_or _ _ other = other
+
+-- member = ["private"] (routine | stub | builtin | const | include) | ["private" | "readonly"] (attr | shared) | invariant, where
+-- an invariant may stand or not
+unfoldable pub member_form : Enclosing → Bool → Form Declaration
+member_form class invariants =
+    shift (is_word word.Private) (λ _. open_form class Private)
+    (shift (is_word word.Readonly) (λ _. declared_or ReadOnly refuse) (invariant_or class.file_kind invariants (open_form class Public)))

@@ -1,0 +1,68 @@
+-- What parts of classes spell, by names of its own: the types of such parts aren't exported, so they are taken from the relations of
+-- the grammar, and so are the ways to make them.
+use Rattle.std.specs.Prelude.{◌≡◌, Bool, true, false, List, [], ◌∷◌, refl}
+use Rattle.sa_lex.specs.declared.token.TokenKind.TheVariants as token
+use Rattle.sa_lex.specs.declared.word.Word.TheVariants as word
+use Rattle.sa_tree.specs.declared.ty.Ty.{Ty}
+use Rattle.sa_tree.specs.declared.class.Access.TheVariants.{Public}
+use Rattle.sa_tree.specs.declared.class.Kind.TheVariants.{Reference}
+use Rattle.sa_tree.specs.declared.class.Feature.{Feature}
+use Rattle.sa_tree.specs.declared.class.Change.{Change}
+use Rattle.sa_tree.specs.declared.contract.Condition.{Condition}
+use Rattle.sa_parse_expr.specs.Lexemes.{Lexeme, IsWord}
+use Rattle.sa_parse_expr.specs.Types.{IsType}
+use Rattle.sa_parse.specs.declared.file.FileKind.TheVariants.{Program}
+use Rattle.sa_parse.specs.Signatures.{IsSig}
+use Rattle.sa_parse.specs.Conditions.{IsClauses, IsInvariant}
+use Rattle.sa_parse.specs.Features as features
+use Rattle.sa_parse.specs.Features.{Enclosing, IsPrivate, IsAccess, IsOptionalChanges, IsSharedParts, IsDeclared, IsCalled, IsMember}
+use Rattle.sa_grammar.specs.Readings.{Spelling}
+
+-- what a relation gives
+abbrev spelled_by : {A : Type 0} → Spelling A → Type 0
+spelled_by {A = A} R = A
+
+abbrev pub Signature : Type 0
+Signature = spelled_by IsSig
+
+abbrev pub Clauses : Type 0
+Clauses = spelled_by (IsClauses Program)
+
+abbrev pub SharedParts : Type 0
+SharedParts = spelled_by IsSharedParts
+
+-- any class and any lexeme, of which only a type is needed
+abbrev any_class : Enclosing
+any_class = record { name = []; kind = Reference; file_kind = Program }
+
+abbrev any_lexeme : Lexeme
+any_lexeme = record { kind = token.Lower; bytes = []; pos = record { file = 0; at = 0 } }
+
+abbrev pub Declaration : Type 0
+Declaration = spelled_by (IsMember any_class)
+
+-- what is behind the words of access, as a member
+abbrev behind_access : {m : Declaration} {A : Type 0} → (A → IsMember any_class [] m) → Declaration
+behind_access {m = m} gives = m
+
+abbrev pub called_of : Feature → Clauses → Declaration
+called_of feature clauses = behind_access (λ (h : IsCalled any_class Public [] feature clauses). features.called features.IsPrivate.absent h)
+
+abbrev pub variables_of : List Feature → Declaration
+variables_of all = behind_access (λ (h : IsDeclared Public [] all). features.declared (features.private features.IsPrivate.absent) h)
+
+abbrev pub invariant_of : Condition → Declaration
+invariant_of holds = behind_access (λ (h : IsInvariant [] holds). features.invariant refl h)
+
+-- what is behind one word or two, as an include
+abbrev behind_include : {m : Declaration} {ls : List Lexeme} {t : Ty} {changes : List Change}
+    → (IsWord word.Include any_lexeme → IsType [] t → IsOptionalChanges [] changes → IsMember any_class (any_lexeme ∷ ls) m) → Declaration
+behind_include {m = m} gives = m
+
+abbrev behind_private : {m : Declaration} {ls : List Lexeme} {t : Ty} {changes : List Change}
+    → (IsWord word.Private any_lexeme → IsWord word.Include any_lexeme → IsType [] t → IsOptionalChanges [] changes → IsMember any_class (any_lexeme ∷ ls) m) → Declaration
+behind_private {m = m} gives = m
+
+abbrev pub include_of : Bool → Ty → List Change → Declaration
+include_of false t changes = behind_include {t = t} {changes = changes} (λ w one all. features.include w one all)
+include_of true t changes = behind_private {t = t} {changes = changes} (λ p w one all. features.private_include p w one all)
