@@ -1,4 +1,5 @@
 pub mod BodiesComplete
+pub mod ClassesSound
 pub mod Complete
 pub mod Conditions
 pub mod Exact
@@ -12,6 +13,7 @@ pub mod FeaturesExact
 pub mod FeaturesSound
 pub mod FormsExact
 pub mod Levels
+pub mod MemberEnds
 pub mod Nesting
 pub mod OperationsComplete
 pub mod Operators
