@@ -1,4 +1,6 @@
 pub mod BodiesComplete
+pub mod ClassesComplete
+pub mod ClassesExact
 pub mod ClassesSound
 pub mod Complete
 pub mod Conditions
