@@ -1,4 +1,7 @@
 pub mod BodiesComplete
+pub mod ClassesComplete
+pub mod ClassesExact
+pub mod ClassesSound
 pub mod Complete
 pub mod Conditions
 pub mod Exact
@@ -12,6 +15,7 @@ pub mod FeaturesExact
 pub mod FeaturesSound
 pub mod FormsExact
 pub mod Levels
+pub mod MemberEnds
 pub mod Nesting
 pub mod OperationsComplete
 pub mod Operators

@@ -8,12 +8,15 @@ use Rattle.sa_parse_expr.specs.declared.types.CallableKind.{CallableKind}
 use Rattle.sa_parse.specs.Statements.{IsStmt, IsStmts}
 use Rattle.sa_parse.specs.Signatures.{IsFormals, IsSig}
 use Rattle.sa_parse.specs.Features.{Enclosing, IsMember}
+use Rattle.sa_parse.specs.declared.file.FileKind.{FileKind}
+use Rattle.sa_parse.specs.Classes.{IsWholeClass, IsFile}
 use Rattle.sa_grammar.specs.Arounds.{Where, around_of}
 use Rattle.sa_grammar.specs.Readings.{IsUnique, IsRead}
 use Rattle.sa_grammar.specs.Forms.{list, nest, type, expr, post, stmts}
 use Rattle.sa_grammar.specs.StatementForms.{stmt_form}
 use Rattle.sa_grammar.specs.SignatureForms.{formals_form, sig_form}
 use Rattle.sa_grammar.specs.FeatureForms.{member_form}
+use Rattle.sa_grammar.specs.ClassForms.{class_form, file_form}
 use Rattle.sa_grammar.specs.Grammar.{read_as}
 
 -- lexemes spell one type at most
@@ -86,3 +89,17 @@ OneMember = (class : Enclosing) → IsUnique (IsMember class)
 
 abbrev pub MembersAreRead : Type 0
 MembersAreRead = (class : Enclosing) (ls : List Lexeme) → IsRead (IsMember class) ls (read_as (member_form class true) ls)
+
+-- the same of classes, in the prelude and in programs
+abbrev pub OneClass : Type 0
+OneClass = (file_kind : FileKind) → IsUnique (IsWholeClass file_kind)
+
+abbrev pub ClassesAreRead : Type 0
+ClassesAreRead = (file_kind : FileKind) (ls : List Lexeme) → IsRead (IsWholeClass file_kind) ls (read_as (class_form file_kind) ls)
+
+-- the same of files, as lists of their classes
+abbrev pub OneFile : Type 0
+OneFile = (file_kind : FileKind) → IsUnique (IsFile file_kind)
+
+abbrev pub FilesAreRead : Type 0
+FilesAreRead = (file_kind : FileKind) (ls : List Lexeme) → IsRead (IsFile file_kind) ls (read_as (file_form file_kind) ls)

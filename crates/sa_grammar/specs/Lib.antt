@@ -1,4 +1,5 @@
 pub mod Arounds
+pub mod ClassForms
 pub mod ConditionForms
 pub mod ExpressionForms
 pub mod FeatureForms

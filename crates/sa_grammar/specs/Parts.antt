@@ -16,6 +16,7 @@ use Rattle.sa_parse.specs.Signatures.{IsSig}
 use Rattle.sa_parse.specs.Conditions.{IsClauses, IsInvariant}
 use Rattle.sa_parse.specs.Features as features
 use Rattle.sa_parse.specs.Features.{Enclosing, IsPrivate, IsAccess, IsOptionalChanges, IsSharedParts, IsDeclared, IsCalled, IsMember}
+use Rattle.sa_parse.specs.Classes.{IsAbstractHead}
 use Rattle.sa_grammar.specs.Readings.{Spelling}
 
 -- what a relation gives
@@ -30,6 +31,9 @@ Clauses = spelled_by (IsClauses Program)
 
 abbrev pub SharedParts : Type 0
 SharedParts = spelled_by IsSharedParts
+
+abbrev pub Head : Type 0
+Head = spelled_by IsAbstractHead
 
 -- any class and any lexeme, of which only a type is needed
 abbrev any_class : Enclosing

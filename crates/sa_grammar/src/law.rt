@@ -1,5 +1,6 @@
 //! The law, as what functions of empty bodies ensure.
 
+ghost use Rattle.sa_grammar.specs.Law.{ClassesAreRead, FilesAreRead, OneClass, OneFile};
 ghost use Rattle.sa_grammar.specs.Law.{ExprsAreRead, ListsOfExprsAreRead, OneExpr, OneListOfExprs, OnePost, PostsAreRead};
 ghost use Rattle.sa_grammar.specs.Law.{ListsOfStmtsAreRead, OneListOfStmts, OneStmt, StmtsAreRead};
 ghost use Rattle.sa_grammar.specs.Law.{ListsOfFormalsAreRead, MembersAreRead, OneListOfFormals, OneMember, OneSig, SigsAreRead};
@@ -103,4 +104,24 @@ pub fn one_member()
 /// Lexemes are read as far as they begin a member of a class.
 pub fn members_are_read()
     ensures { MembersAreRead }
+{}
+
+/// Lexemes spell one class at most.
+pub fn one_class()
+    ensures { OneClass }
+{}
+
+/// Lexemes are read as far as they begin a class.
+pub fn classes_are_read()
+    ensures { ClassesAreRead }
+{}
+
+/// Lexemes spell one file at most.
+pub fn one_file()
+    ensures { OneFile }
+{}
+
+/// Lexemes are read as far as they begin a file.
+pub fn files_are_read()
+    ensures { FilesAreRead }
 {}
