@@ -164,7 +164,7 @@ module _ (level : ℕ) (nested : (n : Nested) → Reader (Tree n))
       let sum : length (ps ++ (bs ++ us)) ≡ length ps + length (bs ++ us) = length-append ps (bs ++ us) in
       let part : length (bs ++ us) ≡ length bs + length us = length-append bs us in
       let behind = λ (after : TokenKind → Bool) (none : after (token.Sign sign.Greater) ≡ false) (also : after (token.Word word.Is) ≡ false).
-          types_after_end after none (w ∷ rest) j (kind_ends after w rest is.kind also) in
+      types_after_end after none (w ∷ rest) j (kind_ends after w rest is.kind also) in
       reads-met (ap is_abstract_name_kind e)
       (reads-joined ps (bs ++ us) (w ∷ rest)
       (reads-follow (params_read ((bs ++ us) ++ w ∷ rest) h (omega arith)

@@ -99,7 +99,7 @@ module _ (level : ℕ) (nested : (n : Nested) → Reader (Tree n)) (inside : (n 
       sound-shift (λ gives d.
       sound-follow (sound_condition Plain) (λ ls holds h.
       let all = λ (ms : List Lexeme) (closing : IsClosing ms).
-          cond.invariant v (sign_stands sign.Colon colon a) (bool_stands bool b) (word_stands word.Is is c) (word_stands word.Return gives d) h closing in
+      cond.invariant v (sign_stands sign.Colon colon a) (bool_stands bool b) (word_stands word.Is is c) (word_stands word.Return gives d) h closing in
       sound-shift (λ semicolon e.
       sound-shift (λ ends f. sound-give (all (semicolon ∷ ends ∷ []) (cond.after_semicolon (sign_stands sign.Semicolon semicolon e) (word_stands word.End ends f))))
       (sound-refuse (record { more = end_lexeme ∷ []; tree = holds; spelled = all (semicolon ∷ end_lexeme ∷ []) (cond.after_semicolon (sign_stands sign.Semicolon semicolon e) (a_word word.End)) })))
