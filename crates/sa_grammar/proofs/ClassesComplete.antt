@@ -22,7 +22,7 @@ use Rattle.sa_parse.specs.Classes.{IsParam, IsParamList, IsParams, IsTypesAfter,
 use Rattle.sa_parse.specs.Classes.{Written, IsWholeClass, IsOptionalClass, IsFile, invariants_of}
 use Rattle.sa_grammar.specs.Readings.{Read}
 use Rattle.sa_grammar.specs.Tests.{is_sign, is_sign_kind, is_word_kind, is_class_name_kind, is_abstract_name_kind, is_feature_kind}
-use Rattle.sa_grammar.specs.Forms.{Form, Reader, Nested, Tree, make, nest, opens, type}
+use Rattle.sa_grammar.specs.Forms.{Reader, Nested, Tree, make, nest, opens, type}
 use Rattle.sa_grammar.specs.Parts.{Signature, Declaration, Head}
 use Rattle.sa_grammar.specs.StatementForms.{joined}
 use Rattle.sa_grammar.specs.SignatureForms.{sig_form}
@@ -38,8 +38,8 @@ use Rattle.sa_grammar.proofs.ExpressionStarts.{meets_front}
 use Rattle.sa_grammar.proofs.ExpressionEnds.{Ends, ends_left, ends_right, kind_ends}
 use Rattle.sa_grammar.proofs.ExpressionsSound.{Spells}
 use Rattle.sa_grammar.proofs.ExpressionsComplete.{EndsOf, nest_read}
-use Rattle.sa_grammar.proofs.Signatures.{after_sig, sig_read}
-use Rattle.sa_grammar.proofs.FeaturesSound.{most, IsCounted}
+use Rattle.sa_grammar.proofs.Signatures.{goes_on_type, goes_on_ends_type, after_sig, sig_read}
+use Rattle.sa_grammar.proofs.FeaturesSound.{most}
 use Rattle.sa_grammar.proofs.FeaturesComplete.{IsClosed, nothing, parted, ended, closed_ends, member_read}
 use Rattle.sa_grammar.proofs.MemberEnds.{member_opens, member_shut}
 use Rattle.sa_grammar.proofs.ClassesSound.{count, count_append, count_one, IsFew, IsOptionalMember, absent, given, IsConcrete, concrete}
@@ -74,13 +74,12 @@ class_lists (classes.IsFile.more {classes = first} one is others) =
 
 -- ---- what ends the parts, and what they begin with
 
+-- behind a parameter
 abbrev after_param : TokenKind → Bool
-after_param k = is_sign_kind sign.Less k || (is_sign_kind sign.LeftBrace k || is_sign_kind sign.Colon k)
+after_param k = is_sign_kind sign.Less k || goes_on_type k
 
 param_ends_type : (rest : List Lexeme) → Ends after_param rest → EndsType rest
-param_ends_type rest h =
-    let behind = ends_right (is_sign_kind sign.Less) (λ k. is_sign_kind sign.LeftBrace k || is_sign_kind sign.Colon k) rest h in
-    record { brace = ends_left (is_sign_kind sign.LeftBrace) (is_sign_kind sign.Colon) rest behind; colon = ends_right (is_sign_kind sign.LeftBrace) (is_sign_kind sign.Colon) rest behind }
+param_ends_type rest h = goes_on_ends_type rest (ends_right (is_sign_kind sign.Less) goes_on_type rest h)
 
 types_after_end : {s : Sign} {ls : List Lexeme} {ts : List Ty} (after : TokenKind → Bool) → after (token.Sign s) ≡ false → (rest : List Lexeme) → IsTypesAfter s ls ts → Ends after rest
     → Ends after (ls ++ rest)
@@ -133,7 +132,7 @@ module _ (level : ℕ) (nested : (n : Nested) → Reader (Tree n))
   param_read : (ls : List Lexeme) (p : Param) (rest : List Lexeme) → IsParam ls p → length ls < level → Ends after_param rest → Reads level nested param_form (ls ++ rest) p rest
   unfolding param_form
   param_read _ _ rest (classes.free e) small ends =
-      reads-met (ap is_class_name_kind e) (reads-other (ends_left (is_sign_kind sign.Less) (λ k. is_sign_kind sign.LeftBrace k || is_sign_kind sign.Colon k) rest ends) reads-give)
+      reads-met (ap is_class_name_kind e) (reads-other (ends_left (is_sign_kind sign.Less) goes_on_type rest ends) reads-give)
   param_read _ _ rest (classes.bounded {ls = ls} {t = t} e is one) small ends =
       reads-met (ap is_class_name_kind e) (reads-met (sign_met is) (reads-make (nest_read level nested inside type ls t rest one (omega arith) (param_ends_type rest ends))))
 

@@ -1,5 +1,5 @@
 -- The forms of classes and files are sound.
-use Rattle.std.proofs.Common.{◌≡◌, ℕ, suc, ◌+◌, ◌≤◌, Bool, true, List, [], ◌∷◌, ◌++◌, length, refl, sym, ap, subst, ◌∙◌, append_assoc, append-nil, arith, length-append, Some, None}
+use Rattle.std.proofs.Common.{◌≡◌, ℕ, ◌+◌, ◌≤◌, Bool, true, List, [], ◌∷◌, ◌++◌, length, refl, sym, ap, subst, append_assoc, append-nil, arith, length-append, None}
 use Rattle.std.specs.List.{flat_map}
 use Rattle.sa_lex.specs.declared.token.TokenKind.TheVariants as token
 use Rattle.sa_lex.specs.declared.sign.Sign.{Sign}
@@ -221,7 +221,7 @@ module _ (level : ℕ) (nested : (n : Nested) → Reader (Tree n)) (inside : (n 
       sound-either (sound-make (sound_counted level nested inside class invariants) (λ ls m h. given h)) (sound-give absent)
       (λ l ls h. opened level nested (λ n ms. sound_shorter (Spells n) (nested n) (inside n) ms) (make (λ m. m ∷ []) (member_form class invariants)) l ls h)
 
-  pub sound_members : (class : Enclosing) → IsSound level nested (IsFew class) (members_form class)
+  sound_members : (class : Enclosing) → IsSound level nested (IsFew class) (members_form class)
   unfolding members_form
   sound_members class =
       sound-follow (sound_optional_member class true) (λ ls all h.

@@ -1,5 +1,5 @@
 -- Clauses and invariants: each of their forms is sound and complete.
-use Rattle.std.proofs.Common.{◌≡◌, ℕ, suc, ◌+◌, ◌<◌, Bool, true, false, ◌&&◌, bytes_eq, codes, List, [], ◌∷◌, ◌++◌, length, refl, ap, ◌∙◌, arith, length-append, Option, None}
+use Rattle.std.proofs.Common.{◌≡◌, ℕ, suc, ◌+◌, ◌<◌, Bool, true, false, ◌&&◌, bytes_eq, codes, List, [], ◌∷◌, ◌++◌, length, refl, ap, ◌∙◌, arith, length-append, Option}
 use Rattle.std.proofs.lemmas.Bool.{and_parts}
 use Rattle.std.proofs.lemmas.Slice.Eq.{bytes_eq-Decides}
 use Rattle.sa_lex.specs.declared.token.TokenKind.{TokenKind}
@@ -13,7 +13,7 @@ use Rattle.sa_tree.specs.declared.expr.Expr.TheVariants as tree
 use Rattle.sa_tree.specs.declared.contract.Condition.{Condition}
 use Rattle.sa_parse_expr.specs.declared.grammar.Scope.{Scope}
 use Rattle.sa_parse_expr.specs.declared.grammar.Scope.TheVariants.{Plain, PostClause}
-use Rattle.sa_parse_expr.specs.Lexemes.{Lexeme, IsSign, IsWord}
+use Rattle.sa_parse_expr.specs.Lexemes.{Lexeme, IsWord}
 use Rattle.sa_parse_expr.specs.Expressions as exprs
 use Rattle.sa_parse_expr.specs.Expressions.{IsExpr}
 use Rattle.sa_parse.specs.declared.file.FileKind.{FileKind}
@@ -26,7 +26,7 @@ use Rattle.sa_grammar.specs.Tests.{is_sign, is_word, is_word_kind, is_class_name
 use Rattle.sa_grammar.specs.Forms.{Form, Reader, Nested, Tree, shift, make, expr}
 use Rattle.sa_grammar.specs.Parts.{Clauses, Declaration, invariant_of}
 use Rattle.sa_grammar.specs.ConditionForms.{condition_form, clause_form, clauses_form, is_bool, closing_form, holding_form}
-use Rattle.sa_grammar.proofs.Tested.{sign_stands, word_stands, class_name_stands, sign_met, word_met, other_sign, other_word, lexeme, a_sign, a_word}
+use Rattle.sa_grammar.proofs.Tested.{sign_stands, word_stands, class_name_stands, sign_met, word_met, other_word, lexeme, a_sign, a_word}
 use Rattle.sa_grammar.proofs.Sound.{After, Shut, Sound, Placed, stands}
 use Rattle.sa_grammar.proofs.Sound.{IsSound, sound-give, sound-refuse, sound-shift, sound-follow, sound-placed, sound-make}
 use Rattle.sa_grammar.proofs.Complete.{Reads, reads-give, reads-met, reads-other, reads-follow, reads-make, reads-placed, reads-joined}
@@ -47,10 +47,10 @@ bool_met {l = l} h = ap (λ b. b && bytes_eq l.bytes (codes "BOOL")) (ap is_clas
 
 -- ---- what completes them
 
-abbrev pub true_condition : Condition
+abbrev true_condition : Condition
 true_condition = record { test = tree.Bool true origin; pos = origin }
 
-pub a_condition : (scope : Scope) → IsCondition scope (true_lexeme ∷ []) true_condition
+a_condition : (scope : Scope) → IsCondition scope (true_lexeme ∷ []) true_condition
 a_condition scope = cond.condition (exprs.in_value (an_expr scope (around_of outside)))
 
 abbrev bool_lexeme : Lexeme

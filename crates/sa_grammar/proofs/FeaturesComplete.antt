@@ -22,7 +22,7 @@ use Rattle.sa_parse_expr.specs.Types.{IsType}
 use Rattle.sa_parse.specs.declared.file.FileKind.{FileKind}
 use Rattle.sa_parse.specs.declared.file.FileKind.TheVariants.{Prelude, Program}
 use Rattle.sa_parse.specs.Names as names
-use Rattle.sa_parse.specs.Names.{IsLower, IsMoreNames, IsNames}
+use Rattle.sa_parse.specs.Names.{IsMoreNames, IsNames}
 use Rattle.sa_parse.specs.Statements as stmt
 use Rattle.sa_parse.specs.Statements.{IsAssigned}
 use Rattle.sa_parse.specs.Signatures as sigs
@@ -30,7 +30,7 @@ use Rattle.sa_parse.specs.Signatures.{IsSig}
 use Rattle.sa_parse.specs.Conditions as cond
 use Rattle.sa_parse.specs.Conditions.{IsClauses, IsInvariant, no_clauses}
 use Rattle.sa_parse.specs.Features as features
-use Rattle.sa_parse.specs.Features.{Enclosing, IsPrivate, IsAccess, IsNewName, IsChange, IsChanges, IsOptionalChanges, IsSharedParts, IsDeclared, IsConstants, IsWholeBody, IsCalled, IsMember}
+use Rattle.sa_parse.specs.Features.{Enclosing, IsPrivate, IsNewName, IsChange, IsChanges, IsOptionalChanges, IsSharedParts, IsDeclared, IsConstants, IsWholeBody, IsCalled, IsMember}
 use Rattle.sa_parse.specs.Features.{variable_of, feature_of}
 use Rattle.sa_parse.specs.Classes.{invariants_of}
 use Rattle.sa_grammar.specs.Readings.{Read}
@@ -67,7 +67,7 @@ closed_ends after none also nothing = tt
 closed_ends after none also (parted {l = l} {rest = rest} is) = kind_ends after l rest is.kind none
 closed_ends after none also (ended {w = w} {rest = rest} is) = kind_ends after w rest is.kind also
 
-pub closed_ends_type : {rest : List Lexeme} → IsClosed rest → EndsType rest
+closed_ends_type : {rest : List Lexeme} → IsClosed rest → EndsType rest
 closed_ends_type h = record { brace = closed_ends (is_sign_kind sign.LeftBrace) refl refl h; colon = closed_ends (is_sign_kind sign.Colon) refl refl h }
 
 -- ---- what the parts begin with, and what ends them

@@ -27,7 +27,6 @@ use Rattle.sa_parse.specs.Names.{IsLower, IsMoreNames, IsNames, name_of}
 use Rattle.sa_parse.specs.Statements as stmt
 use Rattle.sa_parse.specs.Statements.{IsAssigned}
 use Rattle.sa_parse.specs.Signatures.{IsSig}
-use Rattle.sa_parse.specs.Conditions as cond
 use Rattle.sa_parse.specs.Conditions.{IsClauses, IsInvariant, no_clauses}
 use Rattle.sa_parse.specs.Features as features
 use Rattle.sa_parse.specs.Features.{Enclosing, IsPrivate, IsAccess, IsChange, IsChanges, IsOptionalChanges, IsSharedParts, IsDeclared, IsConstants, IsWholeBody, IsCalled, IsMember}
@@ -35,7 +34,7 @@ use Rattle.sa_parse.specs.Features.{variable_of, counted_from, feature_of}
 use Rattle.sa_parse.specs.Classes.{invariants_of}
 use Rattle.sa_grammar.specs.Readings.{Spelling}
 use Rattle.sa_grammar.specs.Forms.{Form, Reader, Nested, Tree, list, type, stmts}
-use Rattle.sa_grammar.specs.Parts.{Signature, Clauses, SharedParts, Declaration, called_of, variables_of, invariant_of, include_of}
+use Rattle.sa_grammar.specs.Parts.{Signature, Clauses, Declaration, called_of, variables_of, invariant_of, include_of}
 use Rattle.sa_grammar.specs.FeatureForms.{change_to, new_name_form, changed_form, change_form, optional_changes_form, include_form, attr_form, shared_parts_form, shared_form, more_names_form}
 use Rattle.sa_grammar.specs.FeatureForms.{typed_constant_form, constants_form, declared_or, whole_body_form, routine_form, stub_or, builtin_or, is_private, open_form, invariant_or, member_form}
 use Rattle.sa_grammar.proofs.Tested.{sign_stands, word_stands, feature_stands, lexeme, a_sign, a_word}
@@ -44,7 +43,7 @@ use Rattle.sa_grammar.proofs.Sound.{After, Sound, sound_shorter, Listed, last, m
 use Rattle.sa_grammar.proofs.Sound.{IsSound, sound-give, sound-refuse, sound-shift, sound-either, sound-follow, sound-list, sound-make, sound-until_word, sound-up}
 use Rattle.sa_grammar.proofs.ExpressionStarts.{origin, true_lexeme}
 use Rattle.sa_grammar.proofs.ExpressionsSound.{Spells, nested_sound}
-use Rattle.sa_grammar.proofs.StatementsSound.{lower_stands, names_behind, sound_value, sound_assigned, no_stmts, a_value}
+use Rattle.sa_grammar.proofs.StatementsSound.{lower_stands, sound_value, sound_assigned, no_stmts, a_value}
 use Rattle.sa_grammar.proofs.Signatures.{sound_names, sound_sig}
 use Rattle.sa_grammar.proofs.Conditions.{sound_clauses, sound_invariant}
 
@@ -114,10 +113,10 @@ a_name = names.all_names refl names.no_more_names
 a_type : IsType (lexeme (token.Word word.Same) ∷ []) (ty.Same origin)
 a_type = types.same (a_word word.Same)
 
-abbrev pub body_lexemes : List Lexeme
+abbrev body_lexemes : List Lexeme
 body_lexemes = lexeme (token.Word word.Is) ∷ lexeme (token.Word word.End) ∷ []
 
-pub a_body : IsWholeBody (lexeme (token.Word word.Is) ∷ lexeme (token.Word word.End) ∷ []) []
+a_body : IsWholeBody (lexeme (token.Word word.Is) ∷ lexeme (token.Word word.End) ∷ []) []
 a_body = features.whole_body (stmt.body (a_word word.Is) no_stmts) (a_word word.End)
 
 module _ (level : ℕ) (nested : (n : Nested) → Reader (Tree n)) (inside : (n : Nested) → Sound (Spells n) (nested n)) where

@@ -29,7 +29,7 @@ use Rattle.sa_grammar.proofs.Sound.{IsSound, sound-give, sound-refuse, sound-shi
 use Rattle.sa_grammar.proofs.Complete.{Reads, reads-give, reads-met, reads-other, reads-follow, reads-make, reads-as, reads-joined, reads-until, reads-list}
 use Rattle.sa_grammar.proofs.TypeForms.{EndsType, sign_ends, NoMode, kind_no_mode, sound_mode, mode_read}
 use Rattle.sa_grammar.proofs.ExpressionStarts.{origin}
-use Rattle.sa_grammar.proofs.ExpressionEnds.{Ends, ends_left, ends_right, kind_ends}
+use Rattle.sa_grammar.proofs.ExpressionEnds.{Ends, ends_left, ends_right}
 use Rattle.sa_grammar.proofs.ExpressionsSound.{Spells, nested_sound}
 use Rattle.sa_grammar.proofs.ExpressionsComplete.{EndsOf, nest_read}
 use Rattle.sa_grammar.proofs.StatementsSound.{names_behind, sound_name}
@@ -37,7 +37,7 @@ use Rattle.sa_grammar.proofs.StatementsComplete.{listed_names, name_read}
 
 -- ---- lists
 
-pub names_listed : {ls : List Lexeme} {all : List Local} → Listed (IsName IsLower) ls all → IsNames ls all
+names_listed : {ls : List Lexeme} {all : List Local} → Listed (IsName IsLower) ls all → IsNames ls all
 names_listed (last (names.one_name k)) = names.all_names k names.no_more_names
 names_listed (more {l = l} (names.one_name k) parting rest) = names.all_names k (names_behind l (sign_stands sign.Comma l parting) rest)
 
@@ -68,7 +68,7 @@ formal_at {callable = callable} {ls = ls} {ms = ms} {rest = rest} {colon = colon
 
 -- ---- the forms are sound
 
-pub a_sig : IsSig (lexeme token.Lower ∷ []) (record { name = name_of (lexeme token.Lower); formals = []; result = None })
+a_sig : IsSig (lexeme token.Lower ∷ []) (record { name = name_of (lexeme token.Lower); formals = []; result = None })
 a_sig = sigs.sig {f = lexeme token.Lower} (lower_name refl) sigs.IsArguments.absent sigs.IsWrittenResult.absent
 
 module _ (level : ℕ) (nested : (n : Nested) → Reader (Tree n)) (inside : (n : Nested) → Sound (Spells n) (nested n)) where
@@ -113,19 +113,22 @@ module _ (level : ℕ) (nested : (n : Nested) → Reader (Tree n)) (inside : (n 
 
 -- ---- the forms are complete
 
--- behind a type
-abbrev after_result : TokenKind → Bool
-after_result k = is_sign_kind sign.LeftBrace k || is_sign_kind sign.Colon k
+-- what goes on with a type
+abbrev pub goes_on_type : TokenKind → Bool
+goes_on_type k = is_sign_kind sign.LeftBrace k || is_sign_kind sign.Colon k
+
+pub goes_on_ends_type : (rest : List Lexeme) → Ends goes_on_type rest → EndsType rest
+goes_on_ends_type rest h = record {
+  brace = ends_left (is_sign_kind sign.LeftBrace) (is_sign_kind sign.Colon) rest h;
+  colon = ends_right (is_sign_kind sign.LeftBrace) (is_sign_kind sign.Colon) rest h;
+}
 
 -- behind a signature
 abbrev pub after_sig : TokenKind → Bool
-after_sig k = is_sign_kind sign.LeftParen k || after_result k
+after_sig k = is_sign_kind sign.LeftParen k || goes_on_type k
 
 sig_ends_type : (rest : List Lexeme) → Ends after_sig rest → EndsType rest
-sig_ends_type rest h = let behind = ends_right (is_sign_kind sign.LeftParen) after_result rest h in record {
-  brace = ends_left (is_sign_kind sign.LeftBrace) (is_sign_kind sign.Colon) rest behind;
-  colon = ends_right (is_sign_kind sign.LeftBrace) (is_sign_kind sign.Colon) rest behind;
-}
+sig_ends_type rest h = goes_on_ends_type rest (ends_right (is_sign_kind sign.LeftParen) goes_on_type rest h)
 
 -- no mode begins a name
 names_no_mode : {ls : List Lexeme} {all : List Local} (rest : List Lexeme) → IsNames ls all → NoMode (ls ++ rest)
@@ -133,7 +136,7 @@ names_no_mode rest (names.all_names {l = l} {ls = ls} k h) = kind_no_mode l (ls 
 
 -- a parenthesis begins no result
 result_shuts : {ls : List Lexeme} {gives : Option Ty} (rest : List Lexeme) → IsWrittenResult ls gives → Ends after_sig rest → Shut (is_sign sign.LeftParen) (ls ++ rest)
-result_shuts rest sigs.IsWrittenResult.absent ends = ends_left (is_sign_kind sign.LeftParen) after_result rest ends
+result_shuts rest sigs.IsWrittenResult.absent ends = ends_left (is_sign_kind sign.LeftParen) goes_on_type rest ends
 result_shuts rest (sigs.IsWrittenResult.given is one) ends = other_sign sign.LeftParen refl is
 
 module _ (level : ℕ) (nested : (n : Nested) → Reader (Tree n))

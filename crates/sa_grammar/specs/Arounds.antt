@@ -30,7 +30,7 @@ abbrev around_items : {s : Scope} {x y : Around} {l : Lexeme} {ls : List Lexeme}
 around_items {x = x} gives = x
 
 -- any lexeme, of which only a type is needed
-abbrev any_lexeme : Lexeme
+abbrev pub any_lexeme : Lexeme
 any_lexeme = record { kind = token.Lower; bytes = []; pos = record { file = 0; at = 0 } }
 
 -- outside of array literals, or where a `(` or `[` was opened in one, a `|` begins an array literal; in one it ends it

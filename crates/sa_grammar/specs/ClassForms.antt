@@ -28,7 +28,8 @@ use Rattle.sa_grammar.specs.FeatureForms.{member_form}
 unfoldable pub param_form : Form Param
 param_form =
     shift is_class_name
-    (λ c. shift (is_sign sign.Less) (λ _. make (λ t. record { name = name_of c; bound = Some t }) (nest type)) (give (record { name = name_of c; bound = None })))
+    (λ c. shift (is_sign sign.Less) (λ _. make (λ t. record { name = name_of c; bound = Some t }) (nest type))
+    (give (record { name = name_of c; bound = None })))
     refuse
 
 -- params = ["{" param {"," param} "}"]
@@ -45,7 +46,8 @@ abstract_head_form =
     shift is_abstract_name
     (λ c. follow params_form
     (λ params. follow (types_after_form sign.Less)
-    (λ below. make (λ above. record { name = name_of c; params = params; edges = record { below = below; above = above } }) (types_after_form sign.Greater))))
+    (λ below. make (λ above. record { name = name_of c; params = params; edges = record { below = below; above = above } })
+    (types_after_form sign.Greater))))
     refuse
 
 -- concrete_head = CNAME params ["<" types]
@@ -53,7 +55,8 @@ unfoldable pub concrete_head_form : Form Head
 concrete_head_form =
     shift is_class_name
     (λ c. follow params_form
-    (λ params. make (λ below. record { name = name_of c; params = params; edges = record { below = below; above = [] } }) (types_after_form sign.Less)))
+    (λ params. make (λ below. record { name = name_of c; params = params; edges = record { below = below; above = [] } })
+    (types_after_form sign.Less)))
     refuse
 
 -- ---- insides
@@ -92,7 +95,8 @@ abstract_form =
     shift (is_word word.Class)
     (λ _. follow abstract_head_form
     (λ head. shift (is_word word.Is)
-    (λ _. make (λ features. record { kind = Abstract; head = head; signatures = features; members = [] }) (until_word word.End signatures_form))
+    (λ _. make (λ features. record { kind = Abstract; head = head; signatures = features; members = [] })
+    (until_word word.End signatures_form))
     refuse))
     refuse
 

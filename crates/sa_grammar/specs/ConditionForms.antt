@@ -36,7 +36,8 @@ is_bool l = is_class_name l && bytes_eq l.bytes (codes "BOOL")
 -- closing = [";"] "end", behind a condition
 unfoldable pub closing_form : Condition → Form Condition
 closing_form holds =
-    shift (is_sign sign.Semicolon) (λ _. shift (is_word word.End) (λ _. give holds) refuse) (shift (is_word word.End) (λ _. give holds) refuse)
+    shift (is_sign sign.Semicolon) (λ _. shift (is_word word.End) (λ _. give holds) refuse)
+    (shift (is_word word.End) (λ _. give holds) refuse)
 
 -- ":" "BOOL" "is" "return" expr closing, behind the "invariant"
 unfoldable pub holding_form : Form Condition

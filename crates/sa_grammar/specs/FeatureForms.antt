@@ -2,7 +2,6 @@
 use Rattle.std.specs.Prelude.{ℕ, Bool, true, false, List, [], ◌∷◌, Option, Some, None, map}
 use Rattle.sa_lex.specs.declared.sign.Sign.TheVariants as sign
 use Rattle.sa_lex.specs.declared.word.Word.TheVariants as word
-use Rattle.sa_tree.specs.declared.ty.Ty.{Ty}
 use Rattle.sa_tree.specs.declared.stmt.Local.{Local}
 use Rattle.sa_tree.specs.declared.stmt.Stmt.{Stmt}
 use Rattle.sa_tree.specs.declared.class.Access.{Access}
@@ -59,7 +58,8 @@ include_form private = follow (nest type) (λ t. make (λ changes. include_of pr
 -- names ":" type, behind the "attr"
 unfoldable pub attr_form : Access → Form (List Feature)
 attr_form access =
-    follow names_form (λ names. shift (is_sign sign.Colon) (λ _. make (λ t. map (variable_of access (Some t) part.Attr) names) (nest type)) refuse)
+    follow names_form
+    (λ names. shift (is_sign sign.Colon) (λ _. make (λ t. map (variable_of access (Some t) part.Attr) names) (nest type)) refuse)
 
 -- shared_parts = type [":=" expr]
 unfoldable pub shared_parts_form : Form SharedParts
@@ -81,7 +81,9 @@ more_names_form = shift (is_sign sign.Comma) (λ _. names_form) (give [])
 unfoldable pub typed_constant_form : Access → Lexeme → Form (List Feature)
 typed_constant_form access l =
     follow (nest type)
-    (λ t. shift (is_sign sign.Assign) (λ _. make (λ e. variable_of access (Some t) (part.Const (Some e) 0) (name_of l) ∷ []) value_form) refuse)
+    (λ t. shift (is_sign sign.Assign)
+    (λ _. make (λ e. variable_of access (Some t) (part.Const (Some e) 0) (name_of l) ∷ []) value_form)
+    refuse)
 
 -- LNAME (":" type ":=" expr | [":=" expr] {"," LNAME}), behind the "const"
 unfoldable pub constants_form : Access → Form (List Feature)
@@ -112,13 +114,16 @@ routine_form class access =
 
 -- stub, which stands in partial classes alone, or else another form
 unfoldable pub stub_or : Kind → Access → Form Declaration → Form Declaration
-stub_or Partial access other = shift (is_word word.Stub) (λ _. make (λ sig. called_of (feature_of sig access part.Stub) no_clauses) sig_form) other
+stub_or Partial access other =
+    shift (is_word word.Stub) (λ _. make (λ sig. called_of (feature_of sig access part.Stub) no_clauses) sig_form) other
 stub_or _ access other = other
 
 -- builtin, which stands in the prelude alone, or else another form
 unfoldable pub builtin_or : FileKind → List ℕ → Access → Form Declaration → Form Declaration
 builtin_or Prelude name access other =
-    shift (is_word word.Builtin) (λ _. make (λ sig. called_of (feature_of sig access (part.Builtin name sig.name.name)) no_clauses) sig_form) other
+    shift (is_word word.Builtin)
+    (λ _. make (λ sig. called_of (feature_of sig access (part.Builtin name sig.name.name)) no_clauses) sig_form)
+    other
 builtin_or Program name access other = other
 
 -- whether this is the access of private features

@@ -1,7 +1,6 @@
 -- What parts of classes spell, by names of its own: the types of such parts aren't exported, so they are taken from the relations of
 -- the grammar, and so are the ways to make them.
-use Rattle.std.specs.Prelude.{◌≡◌, Bool, true, false, List, [], ◌∷◌, refl}
-use Rattle.sa_lex.specs.declared.token.TokenKind.TheVariants as token
+use Rattle.std.specs.Prelude.{Bool, true, false, List, [], ◌∷◌, refl}
 use Rattle.sa_lex.specs.declared.word.Word.TheVariants as word
 use Rattle.sa_tree.specs.declared.ty.Ty.{Ty}
 use Rattle.sa_tree.specs.declared.class.Access.TheVariants.{Public}
@@ -15,8 +14,9 @@ use Rattle.sa_parse.specs.declared.file.FileKind.TheVariants.{Program}
 use Rattle.sa_parse.specs.Signatures.{IsSig}
 use Rattle.sa_parse.specs.Conditions.{IsClauses, IsInvariant}
 use Rattle.sa_parse.specs.Features as features
-use Rattle.sa_parse.specs.Features.{Enclosing, IsPrivate, IsAccess, IsOptionalChanges, IsSharedParts, IsDeclared, IsCalled, IsMember}
+use Rattle.sa_parse.specs.Features.{Enclosing, IsPrivate, IsOptionalChanges, IsSharedParts, IsDeclared, IsCalled, IsMember}
 use Rattle.sa_parse.specs.Classes.{IsAbstractHead}
+use Rattle.sa_grammar.specs.Arounds.{any_lexeme}
 use Rattle.sa_grammar.specs.Readings.{Spelling}
 
 -- what a relation gives
@@ -35,12 +35,9 @@ SharedParts = spelled_by IsSharedParts
 abbrev pub Head : Type 0
 Head = spelled_by IsAbstractHead
 
--- any class and any lexeme, of which only a type is needed
+-- any class, of which only a type is needed
 abbrev any_class : Enclosing
 any_class = record { name = []; kind = Reference; file_kind = Program }
-
-abbrev any_lexeme : Lexeme
-any_lexeme = record { kind = token.Lower; bytes = []; pos = record { file = 0; at = 0 } }
 
 abbrev pub Declaration : Type 0
 Declaration = spelled_by (IsMember any_class)
@@ -50,10 +47,12 @@ abbrev behind_access : {m : Declaration} {A : Type 0} → (A → IsMember any_cl
 behind_access {m = m} gives = m
 
 abbrev pub called_of : Feature → Clauses → Declaration
-called_of feature clauses = behind_access (λ (h : IsCalled any_class Public [] feature clauses). features.called features.IsPrivate.absent h)
+called_of feature clauses =
+    behind_access (λ (h : IsCalled any_class Public [] feature clauses). features.called features.IsPrivate.absent h)
 
 abbrev pub variables_of : List Feature → Declaration
-variables_of all = behind_access (λ (h : IsDeclared Public [] all). features.declared (features.private features.IsPrivate.absent) h)
+variables_of all =
+    behind_access (λ (h : IsDeclared Public [] all). features.declared (features.private features.IsPrivate.absent) h)
 
 abbrev pub invariant_of : Condition → Declaration
 invariant_of holds = behind_access (λ (h : IsInvariant [] holds). features.invariant refl h)
@@ -64,7 +63,8 @@ abbrev behind_include : {m : Declaration} {ls : List Lexeme} {t : Ty} {changes :
 behind_include {m = m} gives = m
 
 abbrev behind_private : {m : Declaration} {ls : List Lexeme} {t : Ty} {changes : List Change}
-    → (IsWord word.Private any_lexeme → IsWord word.Include any_lexeme → IsType [] t → IsOptionalChanges [] changes → IsMember any_class (any_lexeme ∷ ls) m) → Declaration
+    → (IsWord word.Private any_lexeme → IsWord word.Include any_lexeme → IsType [] t → IsOptionalChanges [] changes
+    → IsMember any_class (any_lexeme ∷ ls) m) → Declaration
 behind_private {m = m} gives = m
 
 abbrev pub include_of : Bool → Ty → List Change → Declaration

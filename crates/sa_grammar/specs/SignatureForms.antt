@@ -20,7 +20,9 @@ names_form = list name_form
 -- formal = [mode] LNAME {"," LNAME} ":" type
 unfoldable pub formal_form : CallableKind → Form (List Formal)
 formal_form callable =
-    follow (mode_form callable) (λ mode. follow names_form (λ names. shift (is_sign sign.Colon) (λ _. make (λ t. map (formal_of mode t) names) (nest type)) refuse))
+    follow (mode_form callable)
+    (λ mode. follow names_form
+    (λ names. shift (is_sign sign.Colon) (λ _. make (λ t. map (formal_of mode t) names) (nest type)) refuse))
 
 -- formal {"," formal}
 unfoldable pub formals_form : CallableKind → Form (List Formal)
@@ -38,5 +40,6 @@ written_result_form = shift (is_sign sign.Colon) (λ _. make Some (nest type)) (
 unfoldable pub sig_form : Form Signature
 sig_form =
     shift is_feature
-    (λ f. follow (arguments_form (callable_of f.kind)) (λ formals. make (λ gives. record { name = name_of f; formals = formals; result = gives }) written_result_form))
+    (λ f. follow (arguments_form (callable_of f.kind))
+    (λ formals. make (λ gives. record { name = name_of f; formals = formals; result = gives }) written_result_form))
     refuse
