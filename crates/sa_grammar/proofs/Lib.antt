@@ -6,12 +6,9 @@ pub mod ExpressionsComplete
 pub mod ExpressionsExact
 pub mod ExpressionsSound
 pub mod FormsExact
-pub mod Levels
 pub mod Nesting
 pub mod OperationsComplete
 pub mod Operators
-pub mod Shorter
 pub mod Sound
-pub mod Tested
 pub mod TypeForms
 pub mod TypesExact

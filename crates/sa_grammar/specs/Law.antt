@@ -4,10 +4,10 @@ use Rattle.sa_parse_expr.specs.Lexemes.{Lexeme}
 use Rattle.sa_parse_expr.specs.declared.grammar.Scope.{Scope}
 use Rattle.sa_parse_expr.specs.Types.{IsType, IsTypes}
 use Rattle.sa_parse_expr.specs.Expressions.{IsExpr, IsExprs, IsPost}
-use Rattle.sa_grammar.specs.Arounds.{Where, around_of}
-use Rattle.sa_grammar.specs.Readings.{IsUnique, IsRead}
-use Rattle.sa_grammar.specs.Forms.{list, nest, type, expr, post}
-use Rattle.sa_grammar.specs.Grammar.{read_as}
+use Rattle.sa_parse_expr.specs.Arounds.{Where, around_of}
+use Rattle.sa_parse_expr.specs.Readings.{IsUnique, IsRead}
+use Rattle.sa_parse_expr.specs.Forms.{list, nest, type, expr, post}
+use Rattle.sa_parse_expr.specs.Grammar.{read_as}
 
 -- lexemes spell one type at most
 abbrev pub OneType : Type 0

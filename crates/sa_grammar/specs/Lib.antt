@@ -1,8 +1,1 @@
-pub mod Arounds
-pub mod ExpressionForms
-pub mod Forms
-pub mod Grammar
 pub mod Law
-pub mod Readings
-pub mod Tests
-pub mod TypeForms

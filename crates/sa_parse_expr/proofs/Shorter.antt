@@ -2,10 +2,10 @@
 use Rattle.std.proofs.Common.{◌≡◌, ℕ, zero, suc, ◌≤◌, Bool, true, false, cond, ◌||◌, List, [], ◌∷◌, length, refl, ap, arith}
 use Rattle.sa_lex.specs.declared.sign.Sign.TheVariants as sign
 use Rattle.sa_parse_expr.specs.Lexemes.{Lexeme}
-use Rattle.sa_grammar.specs.Readings.{Reading, Read, Refused}
-use Rattle.sa_grammar.specs.Tests.{is_sign}
-use Rattle.sa_grammar.specs.Forms.{Form, give, refuse, shift, either, follow, list, repeat, placed, nest, opens}
-use Rattle.sa_grammar.specs.Forms.{Reader, behind, with_read, shifted, chosen, place_of, listed, repeated, run, Nested, Tree}
+use Rattle.sa_parse_expr.specs.Readings.{Reading, Read, Refused}
+use Rattle.sa_parse_expr.specs.Tests.{is_sign}
+use Rattle.sa_parse_expr.specs.Forms.{Form, give, refuse, shift, either, follow, list, repeat, placed, nest, opens}
+use Rattle.sa_parse_expr.specs.Forms.{Reader, behind, with_read, shifted, chosen, place_of, listed, repeated, run, Nested, Tree}
 
 -- what follows one of a list: a comma and others, or the end of the list
 abbrev pub behind_one : {A : Type 0} → ℕ → Reader A → A → Reader (List A)

@@ -1,0 +1,223 @@
+-- How forms read the lexemes of a file from a place on: a lemma for each way to make forms, by what stands at the place.
+use Rattle.std.proofs.Common.{◌≡◌, ◌≢◌, ℕ, suc, ◌+◌, ◌<◌, Bool, true, false, cond, List, [], ◌∷◌, ◌++◌, Some, Err, length, Result, refl, sym, ap, ◌∙◌, inl, inr, append_assoc, arith}
+use Rattle.std.proofs.lemmas.Bool.{false_from_ne_true}
+use Rattle.std.proofs.lemmas.Option.{slice_get_cases}
+use Rattle.sa_lex.specs.declared.token.TokenKind.{TokenKind}
+use Rattle.sa_lex.specs.declared.token.TokenKind.TheVariants as token
+use Rattle.sa_lex.specs.declared.sign.Sign.{Sign}
+use Rattle.sa_lex.specs.declared.sign.Sign.TheVariants as sign
+use Rattle.sa_lex.specs.declared.word.Word.{Word}
+use Rattle.sa_tree.specs.declared.refusal.FrontFault.{FrontFault}
+use Rattle.sa_tree.specs.declared.refusal.FrontFault.TheVariants as fault
+use Rattle.sa_parse_expr.specs.declared.tokens.Tokens.{Tokens}
+use Rattle.sa_parse_expr.specs.Exactly.{lexemes_from, Takes, Refuses, ReadsAs}
+use Rattle.sa_parse_expr.specs.Forms.{Form, give, refuse, shift, follow, list, nest, make, until, Reader, behind, with_read, shifted, listed, run, Nested, Tree}
+use Rattle.sa_parse_expr.specs.Grammar.{form_of, nested_to, read_as}
+use Rattle.sa_parse_expr.specs.Lexemes.{Lexeme, lexeme_at}
+use Rattle.sa_parse_expr.specs.Places.{kind_at, unexpected_at}
+use Rattle.sa_parse_expr.specs.Readings.{Reading, Read, Refused}
+use Rattle.sa_parse_expr.specs.Tests.{is_sign, is_word}
+use Rattle.sa_parse_expr.proofs.SameLevels.{cond-both, listed-same, levels_same, forms_same, short_to}
+use Rattle.sa_parse_expr.proofs.Shifts.{Shut, shifted_met, shifted_shut}
+use Rattle.sa_parse_expr.proofs.Shorter.{NoLonger, NoLonger-run, behind_one}
+use Rattle.sa_parse_expr.proofs.Stretches.{standing, stands, few, past}
+use Rattle.sa_parse_expr.proofs.Tested.{sign_stands, sign_is, word_stands}
+
+-- ---- lists so far
+
+-- behind some of a list: a comma and others, or the end of the list
+abbrev listed_on : {A : Type 0} → List A → Reader (List A) → Reader (List A)
+listed_on all others = shifted (is_sign sign.Comma) (λ _ ms. with_read (λ more. all ++ more) (others ms)) (λ ms. Read all ms)
+
+with-both : {A : Type 0} (all more : List A) (v : Reading (List A))
+    → with_read (λ others. all ++ others) (with_read (λ others. more ++ others) v) ≡ with_read (λ others. (all ++ more) ++ others) v
+with-both all more (Read others rest) = ap (λ xs. Read xs rest) (sym (append_assoc all more others))
+with-both all more (Refused rest) = refl
+
+with-cond : {A : Type 0} (all more : List A) (b : Bool) (v : Reading (List A)) (ms : List Lexeme)
+    → with_read (λ others. all ++ others) (cond b (with_read (λ others. more ++ others) v) (Read more ms))
+    ≡ cond b (with_read (λ others. (all ++ more) ++ others) v) (Read (all ++ more) ms)
+with-cond all more true v ms = with-both all more v
+with-cond all more false v ms = refl
+
+listed_on-both : {A : Type 0} (all more : List A) (others : Reader (List A)) (ls : List Lexeme)
+    → with_read (λ xs. all ++ xs) (listed_on more others ls) ≡ listed_on (all ++ more) others ls
+listed_on-both all more others [] = refl
+listed_on-both all more others (l ∷ ls) = with-cond all more (is_sign sign.Comma l) (others ls) (l ∷ ls)
+
+listed_on-one : {A : Type 0} (item : Reader A) → ((ls : List Lexeme) → NoLonger ls (item ls)) → (n : ℕ) (a : A) (ls : List Lexeme) → length ls < suc n
+    → behind_one n item a ls ≡ listed_on (a ∷ []) (listed (suc n) item) ls
+listed_on-one item short n a [] h = refl
+listed_on-one item short n a (l ∷ ls) h =
+    cond-both (is_sign sign.Comma l)
+    (ap (with_read (λ others. a ∷ others)) (listed-same n item item short (λ ms lt. refl) n (suc n) ls (omega arith) (omega arith) (omega arith)))
+    refl
+
+-- ---- forms at places
+
+module _ (t : Tokens) where
+  -- a level above the number of lexemes from any place on
+  abbrev level : ℕ
+  level = suc (length t.list.now)
+
+  abbrev at_level : {A : Type 0} → Form A → Reader A
+  at_level form = run level (nested_to level) form
+
+  -- what a form reads of the lexemes from a place on
+  pub record Runs {A : Type 0} (form : Form A) (at : ℕ) (v : Reading A) : Type 0 where
+    pub is : at_level form (lexemes_from t at) ≡ v
+
+  as_read : {A : Type 0} (form : Form A) (at : ℕ) → read_as form (lexemes_from t at) ≡ at_level form (lexemes_from t at)
+  unfolding read_as
+  as_read form at =
+      let small : length (lexemes_from t at) < level = omega (arith, few t at) in
+      forms_same (suc (length (lexemes_from t at))) (suc (length (lexemes_from t at))) level (omega arith) (omega (arith, small)) form (lexemes_from t at) (omega arith)
+
+  pub taken : {A : Type 0} {form : Form A} {at next : ℕ} {a : A} → Takes form t at a next → Runs form at (Read a (lexemes_from t next))
+  taken {form = form} {at = at} h = record { is = sym (as_read form at) ∙ h.is }
+
+  pub takes : {A : Type 0} {form : Form A} {at next : ℕ} {a : A} → Runs form at (Read a (lexemes_from t next)) → Takes form t at a next
+  takes {form = form} {at = at} r = record { is = as_read form at ∙ r.is }
+
+  pub refuses : {A : Type 0} {form : Form A} {from : ℕ} (at : ℕ) → Runs form from (Refused (lexemes_from t at))
+      → Refuses form t from (unexpected_at t.file t.src.now t.list.now at)
+  refuses {form = form} {from = from} at r = record { at = at; is = as_read form from ∙ r.is; fault = refl }
+
+  -- what a part refuses is refused, where the form refuses what the part does
+  handed : {A B : Type 0} (part : Form A) (form : Form B) (mid from : ℕ)
+      → ((rest : List Lexeme) → Runs part mid (Refused rest) → Runs form from (Refused rest))
+      → (e : FrontFault) → ReadsAs part t mid (Err e) → ReadsAs form t from (Err e)
+  handed part form mid from step (fault.Refused refusal) h = record {
+    at = h.at;
+    is = as_read form from ∙ (step (lexemes_from t h.at) (record { is = sym (as_read part mid) ∙ h.is })).is;
+    fault = h.fault;
+  }
+  handed part form mid from step fault.NoMemory h = tt
+
+  pub handed_on : {A B : Type 0} {form : Form B} {from : ℕ} {r : Result (B × ℕ) FrontFault} (part : Form A) (mid : ℕ) (e : FrontFault) → r ≡ Err e → ReadsAs part t mid (Err e)
+      → ((rest : List Lexeme) → Runs part mid (Refused rest) → Runs form from (Refused rest)) → ReadsAs form t from r
+  handed_on {form = form} {from = from} part mid e is h step = rw is (handed part form mid from step e h)
+
+  -- a token is refused
+  pub refused_at : {A : Type 0} {form : Form A} {from : ℕ} {r : Result (A × ℕ) FrontFault} (at : ℕ) (e : FrontFault) → r ≡ Err e
+      → e ≡ unexpected_at t.file t.src.now t.list.now at → Runs form from (Refused (lexemes_from t at)) → ReadsAs form t from r
+  refused_at at e is there r = rw (is, there) (refuses at r)
+
+  -- ---- tests
+
+  pub shut_by : (test : Lexeme → Bool) (at : ℕ) → ((kind : TokenKind) → kind_at t.list.now at ≡ Some kind → test (lexeme_at t at kind) ≡ false) → Shut test (lexemes_from t at)
+  shut_by test at h = elim (slice_get_cases t.list.now at).1 [
+    | inl found ↦ let there = standing t at found.1 in rw (stands t at there.0 there.1) (h there.0 there.1)
+    | inr end ↦ rw (past t at end.0) tt
+  ]
+
+  pub shut_sign : (sign : Sign) (at : ℕ) → kind_at t.list.now at ≢ Some (token.Sign sign) → Shut (is_sign sign) (lexemes_from t at)
+  shut_sign sign at h =
+      shut_by (is_sign sign) at (λ kind there.
+      false_from_ne_true (is_sign sign (lexeme_at t at kind)) (λ met. h (there ∙ ap Some (sign_stands sign (lexeme_at t at kind) met).kind)))
+
+  pub shut_word : (word : Word) (at : ℕ) → kind_at t.list.now at ≢ Some (token.Word word) → Shut (is_word word) (lexemes_from t at)
+  shut_word word at h =
+      shut_by (is_word word) at (λ kind there.
+      false_from_ne_true (is_word word (lexeme_at t at kind)) (λ met. h (there ∙ ap Some (word_stands word (lexeme_at t at kind) met).kind)))
+
+  -- ---- the ways to make forms
+
+  pub gives : {A : Type 0} {a : A} {at : ℕ} → Runs (give a) at (Read a (lexemes_from t at))
+  gives = record { is = refl }
+
+  pub refused : {A : Type 0} {at : ℕ} → Runs (refuse {A = A}) at (Refused (lexemes_from t at))
+  refused = record { is = refl }
+
+  pub met : {A : Type 0} {test : Lexeme → Bool} {go : Lexeme → Form A} {other : Form A} {at : ℕ} {v : Reading A} (kind : TokenKind)
+      → kind_at t.list.now at ≡ Some kind → test (lexeme_at t at kind) ≡ true → Runs (go (lexeme_at t at kind)) (at + 1) v → Runs (shift test go other) at v
+  met {test = test} {go = go} {other = other} {at = at} kind there h r = record {
+    is = ap (at_level (shift test go other)) (stands t at kind there)
+        ∙ shifted_met test (λ l. at_level (go l)) (at_level other) (lexeme_at t at kind) (lexemes_from t (at + 1)) h ∙ r.is;
+  }
+
+  pub not_met : {A : Type 0} {test : Lexeme → Bool} {go : Lexeme → Form A} {other : Form A} {at : ℕ} {v : Reading A}
+      → Shut test (lexemes_from t at) → Runs other at v → Runs (shift test go other) at v
+  not_met {test = test} {go = go} {other = other} {at = at} h r = record {
+    is = shifted_shut test (λ l. at_level (go l)) (at_level other) (lexemes_from t at) h ∙ r.is;
+  }
+
+  -- another token stands there
+  pub another : {A : Type 0} {test : Lexeme → Bool} {go : Lexeme → Form A} {other : Form A} {at : ℕ} {v : Reading A} (kind : TokenKind)
+      → kind_at t.list.now at ≡ Some kind → test (lexeme_at t at kind) ≡ false → Runs other at v → Runs (shift test go other) at v
+  another {test = test} {at = at} kind there h r = not_met (rw (stands t at kind there) h) r
+
+  pub follows : {A B : Type 0} {first : Form A} {next : A → Form B} {at mid : ℕ} {a : A} {v : Reading B}
+      → Runs first at (Read a (lexemes_from t mid)) → Runs (next a) mid v → Runs (follow first next) at v
+  follows {next = next} r s = record { is = ap (behind (λ a. at_level (next a))) r.is ∙ s.is }
+
+  pub stops : {A B : Type 0} {first : Form A} {next : A → Form B} {at : ℕ} {rest : List Lexeme}
+      → Runs first at (Refused rest) → Runs (follow first next) at (Refused rest)
+  stops {next = next} r = record { is = ap (behind (λ a. at_level (next a))) r.is }
+
+  pub makes : {A B : Type 0} {form : Form A} {f : A → B} {at : ℕ} {a : A} (next : ℕ)
+      → Runs form at (Read a (lexemes_from t next)) → Runs (make f form) at (Read (f a) (lexemes_from t next))
+  makes next r = follows r gives
+
+  pub closed : {A : Type 0} {form : Form A} {sign : Sign} {at : ℕ} {a : A} (mid : ℕ) → Runs form at (Read a (lexemes_from t mid))
+      → kind_at t.list.now mid ≡ Some (token.Sign sign) → Runs (until sign form) at (Read a (lexemes_from t (mid + 1)))
+  closed {sign = sign} mid r there = follows r (met (token.Sign sign) there (sign_is sign) gives)
+
+  pub unclosed : {A : Type 0} {form : Form A} {sign : Sign} {at : ℕ} {a : A} (mid : ℕ) → Runs form at (Read a (lexemes_from t mid))
+      → kind_at t.list.now mid ≢ Some (token.Sign sign) → Runs (until sign form) at (Refused (lexemes_from t mid))
+  unclosed {sign = sign} mid r other = follows r (not_met (shut_sign sign mid other) refused)
+
+  pub nests : (n : Nested) {at : ℕ} {v : Reading (Tree n)} → Runs (form_of n) at v → Runs (nest n) at v
+  unfolding nested_to
+  nests n {at = at} r = record {
+    is = levels_same level level (suc level) (omega arith) (omega arith) n (lexemes_from t at) (omega (arith, few t at)) ∙ r.is;
+  }
+
+  -- ---- one or several with `,` between them
+
+  -- what was read of a list up to a place
+  pub record Lists {A : Type 0} (item : Form A) (from : ℕ) (all : List A) (next : ℕ) : Type 0 where
+    pub is : at_level (list item) (lexemes_from t from) ≡ listed_on all (at_level (list item)) (lexemes_from t next)
+
+  short : {A : Type 0} (form : Form A) (ls : List Lexeme) → NoLonger ls (at_level form ls)
+  short form ls = NoLonger-run level (nested_to level) (short_to level) form ls
+
+  pub first_listed : {A : Type 0} {item : Form A} {from next : ℕ} {a : A} → Runs item from (Read a (lexemes_from t next)) → Lists item from (a ∷ []) next
+  first_listed {item = item} {next = next} {a = a} r = record {
+    is = ap (behind (behind_one level (at_level item))) r.is ∙ listed_on-one (at_level item) (short item) level a (lexemes_from t next) (omega (arith, few t next));
+  }
+
+  -- behind a comma
+  listed_behind : {A : Type 0} {item : Form A} {from mid : ℕ} {all : List A} → Lists item from all mid → kind_at t.list.now mid ≡ Some (token.Sign sign.Comma)
+      → at_level (list item) (lexemes_from t from) ≡ with_read (λ more. all ++ more) (at_level (list item) (lexemes_from t (mid + 1)))
+  listed_behind {item = item} {mid = mid} {all = all} l comma =
+      l.is ∙ ap (listed_on all (at_level (list item))) (stands t mid (token.Sign sign.Comma) comma)
+      ∙ shifted_met (is_sign sign.Comma) (λ _ ms. with_read (λ more. all ++ more) (at_level (list item) ms)) (λ ms. Read all ms)
+      (lexeme_at t mid (token.Sign sign.Comma)) (lexemes_from t (mid + 1)) (sign_is sign.Comma)
+
+  pub next_listed : {A : Type 0} {item : Form A} {from mid next : ℕ} {all : List A} {a : A} → Lists item from all mid
+      → kind_at t.list.now mid ≡ Some (token.Sign sign.Comma) → Runs item (mid + 1) (Read a (lexemes_from t next)) → Lists item from (all ++ a ∷ []) next
+  next_listed {item = item} {next = next} {all = all} {a = a} l comma r = record {
+    is = listed_behind l comma ∙ ap (with_read (λ more. all ++ more)) (first_listed r).is
+        ∙ listed_on-both all (a ∷ []) (at_level (list item)) (lexemes_from t next);
+  }
+
+  pub all_listed : {A : Type 0} {item : Form A} {from next : ℕ} {all : List A} → Lists item from all next
+      → kind_at t.list.now next ≢ Some (token.Sign sign.Comma) → Runs (list item) from (Read all (lexemes_from t next))
+  all_listed {item = item} {next = next} {all = all} l other = record {
+    is = l.is ∙ shifted_shut (is_sign sign.Comma) (λ _ ms. with_read (λ more. all ++ more) (at_level (list item) ms)) (λ ms. Read all ms)
+        (lexemes_from t next) (shut_sign sign.Comma next other);
+  }
+
+  pub first_refused : {A : Type 0} {item : Form A} {from : ℕ} {rest : List Lexeme} → Runs item from (Refused rest) → Runs (list item) from (Refused rest)
+  first_refused {item = item} r = record { is = ap (behind (behind_one level (at_level item))) r.is }
+
+  pub next_refused : {A : Type 0} {item : Form A} {from mid : ℕ} {all : List A} {rest : List Lexeme} → Lists item from all mid
+      → kind_at t.list.now mid ≡ Some (token.Sign sign.Comma) → Runs item (mid + 1) (Refused rest) → Runs (list item) from (Refused rest)
+  next_refused {all = all} l comma r = record {
+    is = listed_behind l comma ∙ ap (with_read (λ more. all ++ more)) (first_refused r).is;
+  }
+
+  pub next_taken : {A : Type 0} {item : Form A} {from mid next : ℕ} {all whole : List A} {a : A} → Lists item from all mid
+      → kind_at t.list.now mid ≡ Some (token.Sign sign.Comma) → Takes item t (mid + 1) a next → whole ≡ all ++ a ∷ [] → Lists item from whole next
+  next_taken l comma one pushed = rw pushed (next_listed l comma (taken one))
