@@ -1,5 +1,5 @@
 -- Types, as their forms read them: a lemma for each alternative that a reader decides by the token that stands there.
-use Rattle.std.proofs.Common.{◌≡◌, ◌≢◌, ℕ, ◌+◌, true, false, List, [], Option, Some, None, refl, sym, ap, ◌∙◌}
+use Rattle.std.proofs.Common.{◌≡◌, ◌≢◌, ℕ, ◌+◌, List, [], Option, Some, None, refl, sym, ap, ◌∙◌}
 use Rattle.std.proofs.lemmas.Bool.{false_from_ne_true}
 use Rattle.sa_lex.specs.declared.token.TokenKind.{TokenKind}
 use Rattle.sa_lex.specs.declared.token.TokenKind.TheVariants as token
