@@ -11,16 +11,16 @@ use Rattle.sa_tree.specs.declared.refusal.FrontFault.{FrontFault}
 use Rattle.sa_tree.specs.declared.refusal.FrontFault.TheVariants as fault
 use Rattle.sa_parse_expr.specs.declared.tokens.Tokens.{Tokens}
 use Rattle.sa_parse_expr.specs.Exactly.{lexemes_from, Takes, Refuses, ReadsAs}
-use Rattle.sa_parse_expr.specs.Forms.{Form, give, refuse, shift, follow, list, nest, make, until, Reader, behind, with_read, shifted, listed, run, Nested, Tree}
+use Rattle.sa_parse_expr.specs.Forms.{Form, give, refuse, shift, either, follow, list, repeat, placed, nest, make, until, opens, Reader, behind, with_read, shifted, place_of, listed, repeated, run, Nested, Tree}
 use Rattle.sa_parse_expr.specs.Grammar.{form_of, nested_to, read_as}
 use Rattle.sa_parse_expr.specs.Lexemes.{Lexeme, lexeme_at}
 use Rattle.sa_parse_expr.specs.Places.{kind_at, unexpected_at}
 use Rattle.sa_parse_expr.specs.Readings.{Reading, Read, Refused}
 use Rattle.sa_parse_expr.specs.Tests.{is_sign, is_word}
-use Rattle.sa_parse_expr.proofs.SameLevels.{cond-both, listed-same, levels_same, forms_same, short_to}
-use Rattle.sa_parse_expr.proofs.Shifts.{Shut, shifted_met, shifted_shut}
+use Rattle.sa_parse_expr.proofs.SameLevels.{cond-both, listed-same, repeated-same, levels_same, forms_same, short_to}
+use Rattle.sa_parse_expr.proofs.Shifts.{Shut, Meets, shifted_met, shifted_shut, chosen_met, chosen_shut}
 use Rattle.sa_parse_expr.proofs.Shorter.{NoLonger, NoLonger-run, behind_one}
-use Rattle.sa_parse_expr.proofs.Stretches.{standing, stands, few, past}
+use Rattle.sa_parse_expr.proofs.Stretches.{pos_at, standing, stands, few, past}
 use Rattle.sa_parse_expr.proofs.Tested.{sign_stands, sign_is, word_stands}
 
 -- ---- lists so far
@@ -111,6 +111,9 @@ module _ (t : Tokens) where
     | inr end ↦ rw (past t at end.0) tt
   ]
 
+  pub meets_by : (test : Lexeme → Bool) (at : ℕ) (kind : TokenKind) → kind_at t.list.now at ≡ Some kind → test (lexeme_at t at kind) ≡ true → Meets test (lexemes_from t at)
+  meets_by test at kind there h = rw (stands t at kind there) h
+
   pub shut_sign : (sign : Sign) (at : ℕ) → kind_at t.list.now at ≢ Some (token.Sign sign) → Shut (is_sign sign) (lexemes_from t at)
   shut_sign sign at h =
       shut_by (is_sign sign) at (λ kind there.
@@ -173,6 +176,32 @@ module _ (t : Tokens) where
     is = levels_same level level (suc level) (omega arith) (omega arith) n (lexemes_from t at) (omega (arith, few t at)) ∙ r.is;
   }
 
+  pub first_one : {A : Type 0} {one other : Form A} {at : ℕ} {v : Reading A} → Meets (opens one) (lexemes_from t at) → Runs one at v → Runs (either one other) at v
+  first_one {one = one} {other = other} {at = at} h r = record {
+    is = chosen_met (opens one) (at_level one) (at_level other) (lexemes_from t at) h ∙ r.is;
+  }
+
+  pub second_one : {A : Type 0} {one other : Form A} {at : ℕ} {v : Reading A} → Shut (opens one) (lexemes_from t at) → Runs other at v → Runs (either one other) at v
+  second_one {one = one} {other = other} {at = at} h r = record {
+    is = chosen_shut (opens one) (at_level one) (at_level other) (lexemes_from t at) h ∙ r.is;
+  }
+
+  pub places : {A : Type 0} {form : Form A} {at : ℕ} {a : A} (kind : TokenKind) (next : ℕ) → kind_at t.list.now at ≡ Some kind
+      → Runs form at (Read a (lexemes_from t next)) → Runs (placed form) at (Read (pos_at t at, a) (lexemes_from t next))
+  places {at = at} {a = a} kind next there r = record {
+    is = ap (with_read (λ tree. (place_of (lexemes_from t at), tree))) r.is
+        ∙ ap (λ ls. Read (place_of ls, a) (lexemes_from t next)) (stands t at kind there);
+  }
+
+  pub unplaced : {A : Type 0} {form : Form A} {at : ℕ} {rest : List Lexeme} → Runs form at (Refused rest) → Runs (placed form) at (Refused rest)
+  unplaced {at = at} r = record { is = ap (with_read (λ tree. (place_of (lexemes_from t at), tree))) r.is }
+
+  pub nested : (n : Nested) {at : ℕ} {v : Reading (Tree n)} → Runs (nest n) at v → Runs (form_of n) at v
+  unfolding nested_to
+  nested n {at = at} r = record {
+    is = sym (levels_same level level (suc level) (omega arith) (omega arith) n (lexemes_from t at) (omega (arith, few t at))) ∙ r.is;
+  }
+
   -- ---- one or several with `,` between them
 
   -- what was read of a list up to a place
@@ -221,3 +250,43 @@ module _ (t : Tokens) where
   pub next_taken : {A : Type 0} {item : Form A} {from mid next : ℕ} {all whole : List A} {a : A} → Lists item from all mid
       → kind_at t.list.now mid ≡ Some (token.Sign sign.Comma) → Takes item t (mid + 1) a next → whole ≡ all ++ a ∷ [] → Lists item from whole next
   next_taken l comma one pushed = rw pushed (next_listed l comma (taken one))
+
+  -- ---- turns, as long as a lexeme meets a test
+
+  module _ {A : Type 0} (test : Lexeme → Bool) (step : A → Lexeme → Form A) where
+    -- after some turns from a place on a tree is so far, and others go on at the next place
+    pub record Turns (start : A) (from : ℕ) (so_far : A) (next : ℕ) : Type 0 where
+      pub is : at_level (repeat test step start) (lexemes_from t from) ≡ at_level (repeat test step so_far) (lexemes_from t next)
+
+    pub no_turn : (start : A) (from : ℕ) → Turns start from start from
+    no_turn start from = record { is = refl }
+
+    begun : {start a : A} {from mid : ℕ} → Turns start from a mid → (kind : TokenKind) → kind_at t.list.now mid ≡ Some kind → test (lexeme_at t mid kind) ≡ true
+        → at_level (repeat test step start) (lexemes_from t from)
+        ≡ behind (repeated level test (λ tree l. at_level (step tree l))) (at_level (step a (lexeme_at t mid kind)) (lexemes_from t (mid + 1)))
+    begun {a = a} {mid = mid} turns kind there h =
+        turns.is ∙ ap (at_level (repeat test step a)) (stands t mid kind there)
+        ∙ shifted_met test (λ l more. behind (repeated level test (λ tree l. at_level (step tree l))) (at_level (step a l) more)) (λ more. Read a more)
+        (lexeme_at t mid kind) (lexemes_from t (mid + 1)) h
+
+    pub next_turn : {start a b : A} {from mid next : ℕ} → Turns start from a mid → (kind : TokenKind) → kind_at t.list.now mid ≡ Some kind
+        → test (lexeme_at t mid kind) ≡ true → Runs (step a (lexeme_at t mid kind)) (mid + 1) (Read b (lexemes_from t next)) → Turns start from b next
+    next_turn {b = b} {next = next} turns kind there h r =
+        let reader = λ (tree : A) (l : Lexeme). at_level (step tree l) in
+        record {
+          is = begun turns kind there h ∙ ap (behind (repeated level test reader)) r.is
+              ∙ repeated-same level test reader reader (λ a l ls. short (step a l) ls) (λ a l ls lt. refl) level (suc level) b (lexemes_from t next)
+              (omega (arith, few t next)) (omega (arith, few t next)) (omega (arith, few t next));
+        }
+
+    pub turn_refused : {start a : A} {from mid : ℕ} {rest : List Lexeme} → Turns start from a mid → (kind : TokenKind) → kind_at t.list.now mid ≡ Some kind
+        → test (lexeme_at t mid kind) ≡ true → Runs (step a (lexeme_at t mid kind)) (mid + 1) (Refused rest) → Runs (repeat test step start) from (Refused rest)
+    turn_refused turns kind there h r = record {
+      is = begun turns kind there h ∙ ap (behind (repeated level test (λ tree l. at_level (step tree l)))) r.is;
+    }
+
+    pub all_turned : {start a : A} {from next : ℕ} → Turns start from a next → Shut test (lexemes_from t next) → Runs (repeat test step start) from (Read a (lexemes_from t next))
+    all_turned {a = a} {next = next} turns h = record {
+      is = turns.is ∙ shifted_shut test (λ l more. behind (repeated level test (λ tree l. at_level (step tree l))) (at_level (step a l) more)) (λ more. Read a more)
+          (lexemes_from t next) h;
+    }

@@ -44,7 +44,7 @@ module _ {A : Type 0} (most : ℕ) (item other : Reader A) (short : (ls : List L
 
 module _ {A : Type 0} (most : ℕ) (test : Lexeme → Bool) (step other : A → Lexeme → Reader A) (short : (a : A) (l : Lexeme) (ls : List Lexeme) → NoLonger ls (step a l ls))
     (each : (a : A) (l : Lexeme) (ls : List Lexeme) → length ls < most → step a l ls ≡ other a l ls) where
-  repeated-same : (f g : ℕ) (a : A) (ls : List Lexeme) → length ls ≤ most → length ls < f → length ls < g → repeated f test step a ls ≡ repeated g test other a ls
+  pub repeated-same : (f g : ℕ) (a : A) (ls : List Lexeme) → length ls ≤ most → length ls < f → length ls < g → repeated f test step a ls ≡ repeated g test other a ls
   repeated-same zero g a ls h i j = absurd (omega arith)
   repeated-same (suc f) zero a ls h i j = absurd (omega arith)
   repeated-same (suc f) (suc g) a [] h i j = refl
