@@ -25,7 +25,7 @@ use Rattle.sa_words.specs.declared.command.Trace.TheVariants.{Silent, Told}
 
 -- a command with its texts and numbers
 pub data Line : Type 0 where
-  Run : (fuel : ℕ) → (room : ℕ) → (stats : Bool) → (contracts : Contracts) → (trace : Trace) → (detail : Detail) → (files : List Text) → Line
+  Run : (fuel room : ℕ) → (stats : Bool) → (contracts : Contracts) → (trace : Trace) → (detail : Detail) → (files : List Text) → Line
   Build : (room : ℕ) → (contracts : Contracts) → (detail : Detail) → (out : Text) → (sites : Option Text) → (files : List Text) → Line
   Check : (contracts : Contracts) → (extent : Extent) → (detail : Detail) → (files : List Text) → Line
   Exec : (fuel : ℕ) → (pages : Option ℕ) → (stats : Bool) → (detail : Detail) → (file : Text) → Line
@@ -42,7 +42,8 @@ pub data Line : Type 0 where
 abbrev pub line_of : Command → Line
 line_of (command.Run run) = Run run.fuel run.room run.stats run.contracts run.trace run.detail (map (λ file. file.now) run.files.items)
 line_of (command.Build build) =
-    Build build.room build.contracts build.detail build.out.now (option_map (λ file. file.now) build.sites) (map (λ file. file.now) build.files.items)
+    Build build.room build.contracts build.detail build.out.now (option_map (λ file. file.now) build.sites)
+    (map (λ file. file.now) build.files.items)
 line_of (command.Check check) = Check check.contracts check.extent check.detail (map (λ file. file.now) check.files.items)
 line_of (command.Exec exec) = Exec exec.fuel exec.pages exec.stats exec.detail exec.«module».now
 line_of (command.Gen classes) = Gen classes
@@ -131,7 +132,9 @@ build_into rows room out sites files =
 abbrev pub build_in : List Row → Option Line
 build_in rows =
     option_and_then
-    (λ room. option_and_then (λ out. build_into rows room out (first_of (codes "sites") rows) (files_in rows)) (first_of (codes "out") rows))
+    (λ room. option_and_then
+    (λ out. build_into rows room out (first_of (codes "sites") rows) (files_in rows))
+    (first_of (codes "out") rows))
     (room_in rows)
 
 abbrev pub check_in : List Row → Line

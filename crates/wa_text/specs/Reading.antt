@@ -1,5 +1,6 @@
 -- What it means to read words and lines.
-use Rattle.std.specs.Prelude.{◌≡◌, ◌≢◌, ◌⊎◌, ℕ, List, [], ◌∷◌, ◌++◌, ⊤, take, drop, map, Option, Result, MatchOption, MatchResult, codes, ◌==◌}
+use Rattle.std.specs.Prelude.{◌≡◌, ◌≢◌, ◌⊎◌, ℕ, List, [], ◌∷◌, ◌++◌, ⊤, take, drop, map, codes, ◌==◌}
+use Rattle.std.specs.Prelude.{Option, Result, MatchOption, MatchResult}
 use Rattle.std.specs.List.{AllByRecursion, count_by, slice_split}
 use denote.Ref.{Bor}
 use Rattle.wa_syntax.specs.declared.instr.Instr.{Instr}

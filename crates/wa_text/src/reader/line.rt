@@ -1,6 +1,7 @@
 //! The lines of a text, and the items that are a line each.
 
-ghost use Rattle.std.specs.Prelude.{◌≡◌, ◌≢◌, ℕ, ◌<◌, ◌≤◌, ◌⊎◌, List, [], ◌∷◌, ◌++◌, drop, length, ◌==◌, IfErr, IfNone, IfOk, IfSome, IsFalse, IsTrue};
+ghost use Rattle.std.specs.Prelude.{◌≡◌, ◌≢◌, ℕ, ◌<◌, ◌≤◌, ◌⊎◌, List, [], ◌∷◌, ◌++◌, drop, length, ◌==◌};
+ghost use Rattle.std.specs.Prelude.{IfErr, IfNone, IfOk, IfSome, IsFalse, IsTrue};
 ghost use Rattle.std.specs.List.{AllByRecursion, slice_split};
 ghost use Rattle.wa_text.specs.Forms.{◌then◌, each, exactly};
 ghost use Rattle.wa_text.specs.Places.{EndsIn, ReachesIn};
