@@ -187,7 +187,8 @@ module _ (w : Rows) where
 
   -- a feature of the program, or an initialiser
   abbrev pub IsLocal : Local → Type 0
-  IsLocal l = ((k : ℕ) × (f : FeatureCore) × (slice_get w.features k ≡ Some f) × (l ≡ local_of k f)) ⊎ ((class : ℕ) × (l ≡ shared_local class))
+  IsLocal l =
+      ((k : ℕ) × (f : FeatureCore) × (slice_get w.features k ≡ Some f) × (l ≡ local_of k f)) ⊎ ((class : ℕ) × (l ≡ shared_local class))
 
   -- ---- what is left of a body
 
