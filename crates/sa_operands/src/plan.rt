@@ -12,6 +12,10 @@ use sa_graph::{entry, put, word};
 use sa_tree::NoMemory;
 use std::alloc::Global;
 
+/// How many operands wait on the stack at most. Each step looks for its operands among all of them, so without a bound an array
+/// literal of many elements would take a time that is quadratic in their number.
+const MOST_OPERANDS: usize = 64;
+
 /// The reader of a value: how many there are in its block, and whether it is read behind the block too.
 #[derive(Clone, Copy, Debug, PartialEq, Eq)]
 struct Read {
@@ -303,7 +307,7 @@ impl<'a> Planner<'a> {
         if result_of(step).and_then(temporary).is_none() || read.behind {
             return Ok(Given::Kept);
         }
-        if read.times == 1 {
+        if read.times == 1 && self.stack.len() < MOST_OPERANDS {
             return Ok(Given::Operand);
         }
         if is_free(step) {
