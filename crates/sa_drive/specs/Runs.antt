@@ -67,7 +67,8 @@ pub record Shows (fuel : ℕ) (IsCause : (of_module : Cause) → (told : Cause) 
   pub steps : (steps : ℕ) → outcome.steps ≡ Some steps → steps ≡ run.steps
 
 -- the module of the outcome was run with this bound of its memory and this fuel, and the outcome is that of the run
-abbrev pub Ran : Part Input → Part (List ℕ) → (pages : Option ℕ) → (fuel : ℕ) → ((of_module : Cause) → (told : Cause) → Type 0) → Outcome → Type 0
+abbrev pub Ran : Part Input → Part (List ℕ) → (pages : Option ℕ) → (fuel : ℕ)
+    → ((of_module : Cause) → (told : Cause) → Type 0) → Outcome → Type 0
 Ran input out pages fuel IsCause outcome =
     (run : Run) × IsRunBounded input out pages outcome.«module».items fuel run × Shows fuel IsCause outcome run
 
