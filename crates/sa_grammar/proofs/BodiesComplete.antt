@@ -10,20 +10,20 @@ use Rattle.sa_tree.specs.declared.stmt.TypeArm.{TypeArm}
 use Rattle.sa_tree.specs.declared.stmt.Stmt.{Stmt}
 use Rattle.sa_tree.specs.declared.stmt.Stmt.TheVariants as tree
 use Rattle.sa_parse_expr.specs.declared.grammar.Scope.TheVariants.{Plain}
-use Rattle.sa_parse_expr.specs.Lexemes.{Lexeme, IsWord}
+use Rattle.sa_parse_expr.specs.Lexemes.{Lexeme, IsWord, name_of}
 use Rattle.sa_parse_expr.specs.Expressions.{IsExpr}
+use Rattle.sa_parse_expr.specs.Arounds.{outside, around_of}
+use Rattle.sa_parse_expr.specs.Readings.{Read}
+use Rattle.sa_parse_expr.specs.Tests.{is_word, is_sign, is_word_kind, is_sign_kind}
+use Rattle.sa_parse_expr.specs.Forms.{Form, Reader, Nested, Tree, nest, give, follow, separated, make, until_word, opens, type, expr, stmts}
+use Rattle.sa_parse_expr.specs.StatementForms.{value_form, optional_value_form, name_form, simple_form, body_form, ending_form, arm_form, case_arm_form, branch_form}
+use Rattle.sa_parse_expr.specs.StatementForms.{case_arms_form, branches_form, stmt_form, optional_stmt_form, stmts_form}
+use Rattle.sa_parse_expr.proofs.Tested.{sign_stands, word_met, word_stands, other_word}
+use Rattle.sa_parse_expr.proofs.Shifts.{Meets}
 use Rattle.sa_parse.specs.Names as names
-use Rattle.sa_parse.specs.Names.{IsLower, name_of}
+use Rattle.sa_parse.specs.Names.{IsLower}
 use Rattle.sa_parse.specs.Statements as stmt
 use Rattle.sa_parse.specs.Statements.{IsValue, IsLeave, IsBody, IsStmts, IsOptionalStmt, IsStmt, IsArm, IsEnding, IsElse, IsCaseArms, IsCaseArm, IsBranches, IsBranch}
-use Rattle.sa_grammar.specs.Arounds.{outside, around_of}
-use Rattle.sa_grammar.specs.Readings.{Read}
-use Rattle.sa_grammar.specs.Tests.{is_word, is_sign, is_word_kind, is_sign_kind}
-use Rattle.sa_grammar.specs.Forms.{Form, Reader, Nested, Tree, nest, give, follow, separated, make, until_word, opens, type, expr, stmts}
-use Rattle.sa_grammar.specs.StatementForms.{value_form, optional_value_form, name_form, simple_form, body_form, ending_form, arm_form, case_arm_form, branch_form}
-use Rattle.sa_grammar.specs.StatementForms.{case_arms_form, branches_form, stmt_form, optional_stmt_form, stmts_form}
-use Rattle.sa_grammar.proofs.Tested.{sign_stands, word_met, word_stands, other_word}
-use Rattle.sa_grammar.proofs.Sound.{Meets}
 use Rattle.sa_grammar.proofs.Complete.{Reads, reads-give, reads-met, reads-other, reads-first, reads-second, reads-follow, reads-make, reads-as, reads-joined, reads-kind, reads-list, reads-separated}
 use Rattle.sa_grammar.proofs.ExpressionStarts.{begins_expr, meets_front, word_shut}
 use Rattle.sa_grammar.proofs.ExpressionEnds.{Ends, after_expr, ends_left, ends_right, kind_ends}

@@ -1,6 +1,6 @@
 -- The forms of classes and files are complete.
-use Rattle.std.proofs.Common.{◌≡◌, ℕ, suc, ◌+◌, ◌<◌, ◌≤◌, Bool, true, false, ◌||◌, List, [], ◌∷◌, ◌++◌, length, refl, sym, ap, subst, append_assoc, append-nil, arith, length-append}
 use Rattle.std.specs.List.{flat_map}
+use Rattle.std.proofs.Common.{◌≡◌, ℕ, suc, ◌+◌, ◌<◌, ◌≤◌, Bool, true, false, ◌||◌, List, [], ◌∷◌, ◌++◌, length, refl, sym, ap, subst, append_assoc, append-nil, arith, length-append}
 use Rattle.sa_lex.specs.declared.token.TokenKind.{TokenKind}
 use Rattle.sa_lex.specs.declared.token.TokenKind.TheVariants as token
 use Rattle.sa_lex.specs.declared.sign.Sign.{Sign}
@@ -13,6 +13,12 @@ use Rattle.sa_tree.specs.declared.class.Feature.{Feature}
 use Rattle.sa_tree.specs.declared.contract.Condition.{Condition}
 use Rattle.sa_parse_expr.specs.Lexemes.{Lexeme, IsWord, IsSign}
 use Rattle.sa_parse_expr.specs.Types.{IsType}
+use Rattle.sa_parse_expr.specs.Readings.{Read}
+use Rattle.sa_parse_expr.specs.Tests.{is_sign, is_sign_kind, is_word_kind, is_class_name_kind, is_abstract_name_kind, is_feature_kind}
+use Rattle.sa_parse_expr.specs.Forms.{Reader, Nested, Tree, make, nest, opens, type}
+use Rattle.sa_parse_expr.specs.StatementForms.{joined}
+use Rattle.sa_parse_expr.proofs.Tested.{sign_met, sign_stands, word_met, feature_met, other_sign, other_word}
+use Rattle.sa_parse_expr.proofs.Shifts.{Shut, Meets}
 use Rattle.sa_parse.specs.declared.file.FileKind.{FileKind}
 use Rattle.sa_parse.specs.Signatures as sigs
 use Rattle.sa_parse.specs.Signatures.{IsSig}
@@ -20,17 +26,12 @@ use Rattle.sa_parse.specs.Features.{Enclosing, IsMember}
 use Rattle.sa_parse.specs.Classes as classes
 use Rattle.sa_parse.specs.Classes.{IsParam, IsParamList, IsParams, IsTypesAfter, IsAbstractHead, IsConcreteHead, IsOptionalSignature, IsSignatures, IsMembers}
 use Rattle.sa_parse.specs.Classes.{Written, IsWholeClass, IsOptionalClass, IsFile, invariants_of}
-use Rattle.sa_grammar.specs.Readings.{Read}
-use Rattle.sa_grammar.specs.Tests.{is_sign, is_sign_kind, is_word_kind, is_class_name_kind, is_abstract_name_kind, is_feature_kind}
-use Rattle.sa_grammar.specs.Forms.{Reader, Nested, Tree, make, nest, opens, type}
-use Rattle.sa_grammar.specs.Parts.{Signature, Declaration, Head}
-use Rattle.sa_grammar.specs.StatementForms.{joined}
-use Rattle.sa_grammar.specs.SignatureForms.{sig_form}
-use Rattle.sa_grammar.specs.FeatureForms.{member_form}
-use Rattle.sa_grammar.specs.ClassForms.{param_form, params_form, types_after_form, abstract_head_form, concrete_head_form, optional_sig_form, signatures_form, optional_member_form}
-use Rattle.sa_grammar.specs.ClassForms.{is_empty, none_yet, members_form, abstract_form, concrete_form, class_form, optional_class_form, file_form}
-use Rattle.sa_grammar.proofs.Tested.{sign_met, sign_stands, word_met, feature_met, other_sign, other_word}
-use Rattle.sa_grammar.proofs.Sound.{Shut, Meets, Separated, Listed, last, more}
+use Rattle.sa_parse.specs.SignatureForms.{sig_form}
+use Rattle.sa_parse.specs.FeatureForms.{member_form}
+use Rattle.sa_parse.specs.ClassForms.{param_form, params_form, types_after_form, abstract_head_form, concrete_head_form, optional_sig_form, signatures_form, optional_member_form}
+use Rattle.sa_parse.specs.ClassForms.{is_empty, none_yet, members_form, abstract_form, concrete_form, class_form, optional_class_form, file_form}
+use Rattle.sa_grammar.proofs.Parts.{Signature, Declaration, Head}
+use Rattle.sa_grammar.proofs.Sound.{Separated, Listed, last, more}
 use Rattle.sa_grammar.proofs.Complete.{Reads, reads-give, reads-met, reads-other, reads-first, reads-second, reads-follow, reads-make, reads-as, reads-joined, reads-until, reads-list}
 use Rattle.sa_grammar.proofs.Complete.{reads-separated, Gathers, gathers-first, gathers-more, reads-gathered}
 use Rattle.sa_grammar.proofs.TypeForms.{EndsType, sign_ends, types_separated}

@@ -1,6 +1,6 @@
 -- The forms of classes and files are sound.
-use Rattle.std.proofs.Common.{◌≡◌, ℕ, ◌+◌, ◌≤◌, Bool, true, List, [], ◌∷◌, ◌++◌, length, refl, sym, ap, subst, append_assoc, append-nil, arith, length-append, None}
 use Rattle.std.specs.List.{flat_map}
+use Rattle.std.proofs.Common.{◌≡◌, ℕ, ◌+◌, ◌≤◌, Bool, true, List, [], ◌∷◌, ◌++◌, length, refl, sym, ap, subst, append_assoc, append-nil, arith, length-append, None}
 use Rattle.sa_lex.specs.declared.token.TokenKind.TheVariants as token
 use Rattle.sa_lex.specs.declared.sign.Sign.{Sign}
 use Rattle.sa_lex.specs.declared.sign.Sign.TheVariants as sign
@@ -13,23 +13,22 @@ use Rattle.sa_tree.specs.declared.class.Part.TheVariants as part
 use Rattle.sa_tree.specs.declared.class.Param.{Param}
 use Rattle.sa_tree.specs.declared.class.Feature.{Feature}
 use Rattle.sa_tree.specs.declared.contract.Condition.{Condition}
-use Rattle.sa_parse_expr.specs.Lexemes.{Lexeme, IsWord, IsSign}
+use Rattle.sa_parse_expr.specs.Lexemes.{Lexeme, IsWord, IsSign, name_of}
+use Rattle.sa_parse_expr.specs.Tests.{is_sign}
+use Rattle.sa_parse_expr.specs.Forms.{Reader, Nested, Tree, make, type}
+use Rattle.sa_parse_expr.specs.StatementForms.{joined}
+use Rattle.sa_parse_expr.proofs.Tested.{sign_stands, word_stands, class_name_stands, abstract_name_stands, lexeme, a_word}
+use Rattle.sa_parse_expr.proofs.Shorter.{opened}
 use Rattle.sa_parse.specs.declared.file.FileKind.{FileKind}
-use Rattle.sa_parse.specs.Names.{name_of}
 use Rattle.sa_parse.specs.Features.{Enclosing, feature_of}
 use Rattle.sa_parse.specs.Classes as classes
 use Rattle.sa_parse.specs.Classes.{IsParam, IsParamList, IsParams, IsTypesAfter, IsAbstractHead, IsConcreteHead, IsOptionalSignature, IsSignatures, IsMembers}
 use Rattle.sa_parse.specs.Classes.{Written, IsWholeClass, IsOptionalClass, IsFile, invariants_of}
-use Rattle.sa_grammar.specs.Tests.{is_sign}
-use Rattle.sa_grammar.specs.Forms.{Reader, Nested, Tree, make, type}
-use Rattle.sa_grammar.specs.Parts.{Declaration, Head}
-use Rattle.sa_grammar.specs.StatementForms.{joined}
-use Rattle.sa_grammar.specs.SignatureForms.{sig_form}
-use Rattle.sa_grammar.specs.FeatureForms.{member_form}
-use Rattle.sa_grammar.specs.ClassForms.{param_form, params_form, types_after_form, abstract_head_form, concrete_head_form, optional_sig_form, signatures_form, optional_member_form}
-use Rattle.sa_grammar.specs.ClassForms.{is_empty, none_yet, members_form, abstract_form, concrete_form, class_form, optional_class_form, file_form}
-use Rattle.sa_grammar.proofs.Tested.{sign_stands, word_stands, class_name_stands, abstract_name_stands, lexeme, a_word}
-use Rattle.sa_grammar.proofs.Shorter.{opened}
+use Rattle.sa_parse.specs.SignatureForms.{sig_form}
+use Rattle.sa_parse.specs.FeatureForms.{member_form}
+use Rattle.sa_parse.specs.ClassForms.{param_form, params_form, types_after_form, abstract_head_form, concrete_head_form, optional_sig_form, signatures_form, optional_member_form}
+use Rattle.sa_parse.specs.ClassForms.{is_empty, none_yet, members_form, abstract_form, concrete_form, class_form, optional_class_form, file_form}
+use Rattle.sa_grammar.proofs.Parts.{Declaration, Head}
 use Rattle.sa_grammar.proofs.Sound.{After, Sound, sound_shorter, Separated, Listed, last, more}
 use Rattle.sa_grammar.proofs.Sound.{IsSound, sound-give, sound-refuse, sound-shift, sound-either, sound-follow, sound-separated, sound-list, sound-repeat, sound-make, sound-until, sound-until_word, sound-up}
 use Rattle.sa_grammar.proofs.TypeForms.{separated_types}

@@ -4,13 +4,14 @@ use Rattle.sa_lex.specs.declared.token.TokenKind.{TokenKind}
 use Rattle.sa_lex.specs.declared.sign.Sign.{Sign}
 use Rattle.sa_lex.specs.declared.sign.Sign.TheVariants as sign
 use Rattle.sa_parse_expr.specs.Lexemes.{Lexeme, IsSign}
-use Rattle.sa_grammar.specs.Readings.{Spelling, Read}
-use Rattle.sa_grammar.specs.Tests.{is_sign}
-use Rattle.sa_grammar.specs.Forms.{Form, give, shift, either, follow, separated, repeat, placed, list, make, until, opens}
-use Rattle.sa_grammar.specs.Forms.{Reader, behind, with_read, place_of, listed, repeated, run, Nested, Tree}
-use Rattle.sa_grammar.proofs.Tested.{sign_met, sign_stands}
-use Rattle.sa_grammar.proofs.Shorter.{behind_one}
-use Rattle.sa_grammar.proofs.Sound.{Shut, Meets, shifted_met, shifted_shut, chosen_met, chosen_shut, Separated, last, more, Listed}
+use Rattle.sa_parse_expr.specs.Readings.{Spelling, Read}
+use Rattle.sa_parse_expr.specs.Tests.{is_sign}
+use Rattle.sa_parse_expr.specs.Forms.{Form, give, shift, either, follow, separated, repeat, placed, list, make, until, opens}
+use Rattle.sa_parse_expr.specs.Forms.{Reader, behind, with_read, place_of, listed, repeated, run, Nested, Tree}
+use Rattle.sa_parse_expr.proofs.Tested.{sign_met, sign_stands}
+use Rattle.sa_parse_expr.proofs.Shorter.{behind_one}
+use Rattle.sa_parse_expr.proofs.Shifts.{Shut, Meets, shifted_met, shifted_shut, chosen_met, chosen_shut}
+use Rattle.sa_grammar.proofs.Sound.{Separated, last, more, Listed}
 
 -- a lexeme, but of this kind
 abbrev pub with_kind : TokenKind → Lexeme → Lexeme

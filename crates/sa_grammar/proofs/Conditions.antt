@@ -16,18 +16,19 @@ use Rattle.sa_parse_expr.specs.declared.grammar.Scope.TheVariants.{Plain, PostCl
 use Rattle.sa_parse_expr.specs.Lexemes.{Lexeme, IsWord}
 use Rattle.sa_parse_expr.specs.Expressions as exprs
 use Rattle.sa_parse_expr.specs.Expressions.{IsExpr}
+use Rattle.sa_parse_expr.specs.Arounds.{outside, around_of}
+use Rattle.sa_parse_expr.specs.Readings.{Read}
+use Rattle.sa_parse_expr.specs.Tests.{is_sign, is_word, is_word_kind, is_class_name, is_class_name_kind}
+use Rattle.sa_parse_expr.specs.Forms.{Form, Reader, Nested, Tree, shift, make, expr}
+use Rattle.sa_parse_expr.proofs.Tested.{sign_stands, word_stands, class_name_stands, sign_met, word_met, other_word, lexeme, a_sign, a_word}
+use Rattle.sa_parse_expr.proofs.Shifts.{Shut}
 use Rattle.sa_parse.specs.declared.file.FileKind.{FileKind}
 use Rattle.sa_parse.specs.declared.file.FileKind.TheVariants.{Prelude, Program}
 use Rattle.sa_parse.specs.Conditions as cond
 use Rattle.sa_parse.specs.Conditions.{IsCondition, IsClause, IsClauses, IsBool, IsClosing, IsInvariant}
-use Rattle.sa_grammar.specs.Arounds.{outside, around_of}
-use Rattle.sa_grammar.specs.Readings.{Read}
-use Rattle.sa_grammar.specs.Tests.{is_sign, is_word, is_word_kind, is_class_name, is_class_name_kind}
-use Rattle.sa_grammar.specs.Forms.{Form, Reader, Nested, Tree, shift, make, expr}
-use Rattle.sa_grammar.specs.Parts.{Clauses, Declaration, invariant_of}
-use Rattle.sa_grammar.specs.ConditionForms.{condition_form, clause_form, clauses_form, is_bool, closing_form, holding_form}
-use Rattle.sa_grammar.proofs.Tested.{sign_stands, word_stands, class_name_stands, sign_met, word_met, other_word, lexeme, a_sign, a_word}
-use Rattle.sa_grammar.proofs.Sound.{After, Shut, Sound, Placed, stands}
+use Rattle.sa_parse.specs.ConditionForms.{condition_form, clause_form, clauses_form, is_bool, closing_form, holding_form}
+use Rattle.sa_grammar.proofs.Parts.{Clauses, Declaration, invariant_of}
+use Rattle.sa_grammar.proofs.Sound.{After, Sound, Placed, stands}
 use Rattle.sa_grammar.proofs.Sound.{IsSound, sound-give, sound-refuse, sound-shift, sound-follow, sound-placed, sound-make}
 use Rattle.sa_grammar.proofs.Complete.{Reads, reads-give, reads-met, reads-other, reads-follow, reads-make, reads-placed, reads-joined}
 use Rattle.sa_grammar.proofs.ExpressionStarts.{origin, true_lexeme, an_expr, expr_starts}

@@ -20,10 +20,10 @@ use Rattle.sa_parse_expr.specs.Types as types
 use Rattle.sa_parse_expr.specs.Types.{IsType}
 use Rattle.sa_parse_expr.specs.Expressions as exprs
 use Rattle.sa_parse_expr.specs.Expressions.{IsTexts, IsCall, IsParenthesised, IsFirst, IsPost, IsPower, IsUnary, IsOperand, IsOperation, IsExpr, IsPrefix}
-use Rattle.sa_grammar.specs.Arounds.{Around, around_of, outside}
-use Rattle.sa_grammar.specs.Tests.{is_sign, is_word, prefix_kind, is_operator}
-use Rattle.sa_grammar.proofs.Tested.{sign_stands, word_stands, lexeme, a_sign, a_word}
-use Rattle.sa_grammar.proofs.Sound.{Meets, Shut}
+use Rattle.sa_parse_expr.specs.Arounds.{Around, around_of, outside}
+use Rattle.sa_parse_expr.specs.Tests.{is_sign, is_word, prefix_kind, is_operator}
+use Rattle.sa_parse_expr.proofs.Tested.{sign_stands, word_stands, lexeme, a_sign, a_word}
+use Rattle.sa_parse_expr.proofs.Shifts.{Meets, Shut}
 use Rattle.sa_grammar.proofs.Operators.{Precedence, Logical, Comparing, Adding, Multiplying, prefix_of_lexeme}
 
 -- ---- lexemes that spell one

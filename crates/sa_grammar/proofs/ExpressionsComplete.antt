@@ -18,16 +18,16 @@ use Rattle.sa_parse_expr.specs.Types as types
 use Rattle.sa_parse_expr.specs.Types.{IsType}
 use Rattle.sa_parse_expr.specs.Expressions as exprs
 use Rattle.sa_parse_expr.specs.Expressions.{IsTexts, IsOptionalType, IsArg, IsArgs, IsCall, IsExpr, IsExprs, IsIndex, IsParenthesised, IsFirst, IsPost}
-use Rattle.sa_grammar.specs.Arounds.{Around, Where, outside, in_array, around_of}
-use Rattle.sa_grammar.specs.Readings.{Read}
-use Rattle.sa_grammar.specs.Tests.{is_sign, is_word, is_sign_kind, is_text, text_of, is_text_kind}
-use Rattle.sa_grammar.specs.Forms.{Form, give, refuse, shift, follow, list, make, until, nest, type, expr, unary, power, post, stmts, opens}
-use Rattle.sa_grammar.specs.Forms.{Reader, behind, repeated, run, Nested, Tree}
-use Rattle.sa_grammar.specs.TypeForms.{type_form}
-use Rattle.sa_grammar.specs.ExpressionForms.{arg_form, args_form, named_form, call_form, places_form, inside_form, optional_form, texts_form}
-use Rattle.sa_grammar.specs.ExpressionForms.{items_or, result_or, class_call_form, optional_type_form, first_form}
-use Rattle.sa_grammar.proofs.Tested.{sign_met, word_met, feature_met, other_sign, other_word}
-use Rattle.sa_grammar.proofs.Sound.{Shut, Meets, shifted_met, shifted_shut}
+use Rattle.sa_parse_expr.specs.Arounds.{Around, Where, outside, in_array, around_of}
+use Rattle.sa_parse_expr.specs.Readings.{Read}
+use Rattle.sa_parse_expr.specs.Tests.{is_sign, is_word, is_sign_kind, is_text, text_of, is_text_kind}
+use Rattle.sa_parse_expr.specs.Forms.{Form, give, refuse, shift, follow, list, make, until, nest, type, expr, unary, power, post, stmts, opens}
+use Rattle.sa_parse_expr.specs.Forms.{Reader, behind, repeated, run, Nested, Tree}
+use Rattle.sa_parse_expr.specs.TypeForms.{type_form}
+use Rattle.sa_parse_expr.specs.ExpressionForms.{arg_form, args_form, named_form, call_form, places_form, inside_form, optional_form, texts_form}
+use Rattle.sa_parse_expr.specs.ExpressionForms.{items_or, result_or, class_call_form, optional_type_form, first_form}
+use Rattle.sa_parse_expr.proofs.Tested.{sign_met, word_met, feature_met, other_sign, other_word}
+use Rattle.sa_parse_expr.proofs.Shifts.{Shut, Meets, shifted_met, shifted_shut}
 use Rattle.sa_grammar.proofs.Complete.{Reads, reads-give, reads-met, reads-other, reads-first, reads-second, reads-follow, reads-make, reads-kind, reads-known}
 use Rattle.sa_grammar.proofs.Complete.{reads-joined, reads-until, reads-list, with_kind}
 use Rattle.sa_grammar.proofs.TypeForms.{EndsType, sign_ends, type_read}

@@ -4,9 +4,9 @@ use Rattle.sa_tree.specs.declared.expr.Expr.{Expr}
 use Rattle.sa_parse_expr.specs.declared.grammar.Scope.{Scope}
 use Rattle.sa_parse_expr.specs.Lexemes.{Lexeme}
 use Rattle.sa_parse_expr.specs.Expressions.{IsExpr, IsExprs, IsPost}
-use Rattle.sa_grammar.specs.Arounds.{Where, around_of}
-use Rattle.sa_grammar.specs.Forms.{list, nest, expr, post}
-use Rattle.sa_grammar.specs.Grammar.{nested_to}
+use Rattle.sa_parse_expr.specs.Arounds.{Where, around_of}
+use Rattle.sa_parse_expr.specs.Forms.{list, nest, expr, post}
+use Rattle.sa_parse_expr.specs.Grammar.{nested_to}
 use Rattle.sa_grammar.specs.Law.{OneExpr, ExprsAreRead, OnePost, PostsAreRead, OneListOfExprs, ListsOfExprsAreRead}
 use Rattle.sa_grammar.proofs.Sound.{IsSound, sound-list}
 use Rattle.sa_grammar.proofs.Complete.{Reads, reads-list}

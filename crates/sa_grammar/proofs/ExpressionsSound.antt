@@ -20,17 +20,17 @@ use Rattle.sa_parse_expr.specs.Types.{IsType}
 use Rattle.sa_parse_expr.specs.Expressions as exprs
 use Rattle.sa_parse_expr.specs.Expressions.{IsTexts, IsOptionalType, IsArg, IsArgList, IsArgs, IsCall, IsExprs, IsIndex, IsParenthesised, IsFirst}
 use Rattle.sa_parse_expr.specs.Expressions.{IsPost, IsPower, IsUnary, IsOperand, IsOperation, IsExpr}
+use Rattle.sa_parse_expr.specs.Arounds.{Around, Where, outside, in_array, around_of}
+use Rattle.sa_parse_expr.specs.Readings.{Spelling}
+use Rattle.sa_parse_expr.specs.Tests.{is_sign, text_of}
+use Rattle.sa_parse_expr.specs.Forms.{Form, Reader, Nested, Tree, nest, make, until, type, expr, unary, power, post, stmts}
+use Rattle.sa_parse_expr.specs.TypeForms.{type_form}
+use Rattle.sa_parse_expr.specs.ExpressionForms.{arg_form, args_form, named_form, call_form, places_form, inside_form, optional_form, texts_form}
+use Rattle.sa_parse_expr.specs.ExpressionForms.{items_or, result_or, class_call_form, optional_type_form, first_form, going_form}
+use Rattle.sa_parse_expr.specs.ExpressionForms.{placed_post_form, post_form, power_form, unary_form, operation_form, product_form, sum_form, comparison_form, expr_form}
+use Rattle.sa_parse_expr.proofs.Tested.{sign_met, sign_stands, word_stands, feature_stands, number_stands, character_stands, text_stands, lexeme, a_sign}
+use Rattle.sa_parse_expr.proofs.Shorter.{opened}
 use Rattle.sa_parse.specs.Statements.{IsStmts}
-use Rattle.sa_grammar.specs.Arounds.{Around, Where, outside, in_array, around_of}
-use Rattle.sa_grammar.specs.Readings.{Spelling}
-use Rattle.sa_grammar.specs.Tests.{is_sign, text_of}
-use Rattle.sa_grammar.specs.Forms.{Form, Reader, Nested, Tree, nest, make, until, type, expr, unary, power, post, stmts}
-use Rattle.sa_grammar.specs.TypeForms.{type_form}
-use Rattle.sa_grammar.specs.ExpressionForms.{arg_form, args_form, named_form, call_form, places_form, inside_form, optional_form, texts_form}
-use Rattle.sa_grammar.specs.ExpressionForms.{items_or, result_or, class_call_form, optional_type_form, first_form, going_form}
-use Rattle.sa_grammar.specs.ExpressionForms.{placed_post_form, post_form, power_form, unary_form, operation_form, product_form, sum_form, comparison_form, expr_form}
-use Rattle.sa_grammar.proofs.Tested.{sign_met, sign_stands, word_stands, feature_stands, number_stands, character_stands, text_stands, lexeme, a_sign}
-use Rattle.sa_grammar.proofs.Shorter.{opened}
 use Rattle.sa_grammar.proofs.Sound.{After, Sound, sound_shorter, Listed, last, more, Placed, stands}
 use Rattle.sa_grammar.proofs.Sound.{IsSound, sound-give, sound-refuse, sound-shift, sound-either, sound-follow, sound-list, sound-repeat, sound-placed, sound-make, sound-until, sound-up}
 use Rattle.sa_grammar.proofs.TypeForms.{sound_type}

@@ -19,6 +19,11 @@ use Rattle.sa_tree.specs.declared.class.Change.{Change}
 use Rattle.sa_tree.specs.declared.contract.Condition.{Condition}
 use Rattle.sa_parse_expr.specs.Lexemes.{Lexeme, IsWord, IsSign, IsFeature, lower_name, iter_name}
 use Rattle.sa_parse_expr.specs.Types.{IsType}
+use Rattle.sa_parse_expr.specs.Readings.{Read}
+use Rattle.sa_parse_expr.specs.Tests.{is_sign, is_sign_kind, is_word, is_word_kind, is_feature_kind}
+use Rattle.sa_parse_expr.specs.Forms.{Form, Reader, Nested, Tree, shift, make, list, opens, type, stmts}
+use Rattle.sa_parse_expr.proofs.Tested.{sign_met, word_met, feature_met, other_sign, other_word}
+use Rattle.sa_parse_expr.proofs.Shifts.{Shut, Meets}
 use Rattle.sa_parse.specs.declared.file.FileKind.{FileKind}
 use Rattle.sa_parse.specs.declared.file.FileKind.TheVariants.{Prelude, Program}
 use Rattle.sa_parse.specs.Names as names
@@ -33,14 +38,10 @@ use Rattle.sa_parse.specs.Features as features
 use Rattle.sa_parse.specs.Features.{Enclosing, IsPrivate, IsNewName, IsChange, IsChanges, IsOptionalChanges, IsSharedParts, IsDeclared, IsConstants, IsWholeBody, IsCalled, IsMember}
 use Rattle.sa_parse.specs.Features.{variable_of, feature_of}
 use Rattle.sa_parse.specs.Classes.{invariants_of}
-use Rattle.sa_grammar.specs.Readings.{Read}
-use Rattle.sa_grammar.specs.Tests.{is_sign, is_sign_kind, is_word, is_word_kind, is_feature_kind}
-use Rattle.sa_grammar.specs.Forms.{Form, Reader, Nested, Tree, shift, make, list, opens, type, stmts}
-use Rattle.sa_grammar.specs.Parts.{Signature, Clauses, SharedParts, Declaration, called_of, variables_of, invariant_of, include_of}
-use Rattle.sa_grammar.specs.FeatureForms.{change_to, changed_form, new_name_form, change_form, optional_changes_form, include_form, attr_form, shared_parts_form, shared_form, more_names_form}
-use Rattle.sa_grammar.specs.FeatureForms.{typed_constant_form, constants_form, declared_or, whole_body_form, routine_form, stub_or, builtin_or, is_private, open_form, invariant_or, member_form}
-use Rattle.sa_grammar.proofs.Tested.{sign_met, word_met, feature_met, other_sign, other_word}
-use Rattle.sa_grammar.proofs.Sound.{Shut, Meets, Listed, last, more}
+use Rattle.sa_parse.specs.FeatureForms.{include_of, change_to, changed_form, new_name_form, change_form, optional_changes_form, include_form, attr_form, shared_parts_form, shared_form, more_names_form}
+use Rattle.sa_parse.specs.FeatureForms.{typed_constant_form, constants_form, declared_or, whole_body_form, routine_form, stub_or, builtin_or, is_private, open_form, invariant_or, member_form}
+use Rattle.sa_grammar.proofs.Parts.{Signature, Clauses, SharedParts, Declaration, called_of, variables_of, invariant_of}
+use Rattle.sa_grammar.proofs.Sound.{Listed, last, more}
 use Rattle.sa_grammar.proofs.Complete.{Reads, reads-give, reads-met, reads-other, reads-first, reads-second, reads-follow, reads-make, reads-joined, reads-list}
 use Rattle.sa_grammar.proofs.TypeForms.{EndsType, sign_ends}
 use Rattle.sa_grammar.proofs.ExpressionStarts.{meets_front, sign_shut, word_shut}

@@ -1,13 +1,13 @@
 -- Members are read exactly.
 use Rattle.std.proofs.Common.{ℕ, ◌<◌, ◌≤◌, true, List, [], ◌++◌, length, arith}
 use Rattle.sa_parse_expr.specs.Lexemes.{Lexeme}
+use Rattle.sa_parse_expr.specs.Grammar.{nested_to}
 use Rattle.sa_parse.specs.Features.{Enclosing, IsMember}
 use Rattle.sa_parse.specs.Features as features
 use Rattle.sa_parse.specs.Classes.{invariants_of}
-use Rattle.sa_grammar.specs.Parts.{Declaration}
-use Rattle.sa_grammar.specs.FeatureForms.{member_form}
-use Rattle.sa_grammar.specs.Grammar.{nested_to}
+use Rattle.sa_parse.specs.FeatureForms.{member_form}
 use Rattle.sa_grammar.specs.Law.{OneMember, MembersAreRead}
+use Rattle.sa_grammar.proofs.Parts.{Declaration}
 use Rattle.sa_grammar.proofs.Sound.{IsSound}
 use Rattle.sa_grammar.proofs.Complete.{Reads}
 use Rattle.sa_grammar.proofs.FormsExact.{form_unique, form_exact}

@@ -17,13 +17,17 @@ use Rattle.sa_tree.specs.declared.class.Part.TheVariants as part
 use Rattle.sa_tree.specs.declared.class.Feature.{Feature}
 use Rattle.sa_tree.specs.declared.class.Change.{Change}
 use Rattle.sa_tree.specs.declared.contract.Condition.{Condition}
-use Rattle.sa_parse_expr.specs.Lexemes.{Lexeme, IsWord, IsSign, IsFeature, lower_name}
+use Rattle.sa_parse_expr.specs.Lexemes.{Lexeme, IsWord, IsSign, IsFeature, lower_name, name_of}
 use Rattle.sa_parse_expr.specs.Types as types
 use Rattle.sa_parse_expr.specs.Types.{IsType}
+use Rattle.sa_parse_expr.specs.Readings.{Spelling}
+use Rattle.sa_parse_expr.specs.Forms.{Form, Reader, Nested, Tree, list, type, stmts}
+use Rattle.sa_parse_expr.proofs.Tested.{sign_stands, word_stands, feature_stands, lexeme, a_sign, a_word}
+use Rattle.sa_parse_expr.proofs.Shorter.{opened}
 use Rattle.sa_parse.specs.declared.file.FileKind.{FileKind}
 use Rattle.sa_parse.specs.declared.file.FileKind.TheVariants.{Prelude, Program}
 use Rattle.sa_parse.specs.Names as names
-use Rattle.sa_parse.specs.Names.{IsLower, IsMoreNames, IsNames, name_of}
+use Rattle.sa_parse.specs.Names.{IsLower, IsMoreNames, IsNames}
 use Rattle.sa_parse.specs.Statements as stmt
 use Rattle.sa_parse.specs.Statements.{IsAssigned}
 use Rattle.sa_parse.specs.Signatures.{IsSig}
@@ -32,13 +36,9 @@ use Rattle.sa_parse.specs.Features as features
 use Rattle.sa_parse.specs.Features.{Enclosing, IsPrivate, IsAccess, IsChange, IsChanges, IsOptionalChanges, IsSharedParts, IsDeclared, IsConstants, IsWholeBody, IsCalled, IsMember}
 use Rattle.sa_parse.specs.Features.{variable_of, counted_from, feature_of}
 use Rattle.sa_parse.specs.Classes.{invariants_of}
-use Rattle.sa_grammar.specs.Readings.{Spelling}
-use Rattle.sa_grammar.specs.Forms.{Form, Reader, Nested, Tree, list, type, stmts}
-use Rattle.sa_grammar.specs.Parts.{Signature, Clauses, Declaration, called_of, variables_of, invariant_of, include_of}
-use Rattle.sa_grammar.specs.FeatureForms.{change_to, new_name_form, changed_form, change_form, optional_changes_form, include_form, attr_form, shared_parts_form, shared_form, more_names_form}
-use Rattle.sa_grammar.specs.FeatureForms.{typed_constant_form, constants_form, declared_or, whole_body_form, routine_form, stub_or, builtin_or, is_private, open_form, invariant_or, member_form}
-use Rattle.sa_grammar.proofs.Tested.{sign_stands, word_stands, feature_stands, lexeme, a_sign, a_word}
-use Rattle.sa_grammar.proofs.Shorter.{opened}
+use Rattle.sa_parse.specs.FeatureForms.{include_of, change_to, new_name_form, changed_form, change_form, optional_changes_form, include_form, attr_form, shared_parts_form, shared_form, more_names_form}
+use Rattle.sa_parse.specs.FeatureForms.{typed_constant_form, constants_form, declared_or, whole_body_form, routine_form, stub_or, builtin_or, is_private, open_form, invariant_or, member_form}
+use Rattle.sa_grammar.proofs.Parts.{Signature, Clauses, Declaration, called_of, variables_of, invariant_of}
 use Rattle.sa_grammar.proofs.Sound.{After, Sound, sound_shorter, Listed, last, more}
 use Rattle.sa_grammar.proofs.Sound.{IsSound, sound-give, sound-refuse, sound-shift, sound-either, sound-follow, sound-list, sound-make, sound-until_word, sound-up}
 use Rattle.sa_grammar.proofs.ExpressionStarts.{origin, true_lexeme}

@@ -1,13 +1,13 @@
 -- A form that is sound and complete at each level is read exactly.
 use Rattle.std.proofs.Common.{ℕ, suc, ◌<◌, List, [], ◌++◌, length, arith}
 use Rattle.sa_parse_expr.specs.Lexemes.{Lexeme}
-use Rattle.sa_grammar.specs.Readings.{Spelling, IsUnique, IsRead}
-use Rattle.sa_grammar.specs.Forms.{Form, run}
-use Rattle.sa_grammar.specs.Grammar.{nested_to, read_as}
+use Rattle.sa_parse_expr.specs.Readings.{Spelling, IsUnique, IsRead}
+use Rattle.sa_parse_expr.specs.Forms.{Form, run}
+use Rattle.sa_parse_expr.specs.Grammar.{nested_to, read_as}
+use Rattle.sa_parse_expr.proofs.SameLevels.{forms_same}
 use Rattle.sa_grammar.proofs.Sound.{IsSound}
 use Rattle.sa_grammar.proofs.Complete.{Reads}
 use Rattle.sa_grammar.proofs.Exact.{unique, exact}
-use Rattle.sa_grammar.proofs.Levels.{forms_same}
 
 module _ {A : Type 0} (R : Spelling A) (form : Form A) (sound : (n : ℕ) → IsSound n (nested_to n) R form)
     (complete : (n : ℕ) (ls : List Lexeme) (a : A) → R ls a → length ls < n → Reads n (nested_to n) form (ls ++ []) a []) where

@@ -14,12 +14,11 @@ pub mod FeaturesComplete
 pub mod FeaturesExact
 pub mod FeaturesSound
 pub mod FormsExact
-pub mod Levels
 pub mod MemberEnds
 pub mod Nesting
 pub mod OperationsComplete
 pub mod Operators
-pub mod Shorter
+pub mod Parts
 pub mod Signatures
 pub mod SignaturesExact
 pub mod Sound
@@ -27,6 +26,5 @@ pub mod StatementEnds
 pub mod StatementsComplete
 pub mod StatementsExact
 pub mod StatementsSound
-pub mod Tested
 pub mod TypeForms
 pub mod TypesExact

@@ -8,6 +8,10 @@ use Rattle.sa_tree.specs.declared.class.Access.TheVariants.{Public}
 use Rattle.sa_tree.specs.declared.class.Kind.{Kind}
 use Rattle.sa_tree.specs.declared.class.Kind.TheVariants as kinds
 use Rattle.sa_parse_expr.specs.Lexemes.{Lexeme}
+use Rattle.sa_parse_expr.specs.Tests.{is_word, is_word_kind, is_feature, is_feature_kind}
+use Rattle.sa_parse_expr.specs.Forms.{Form, opens}
+use Rattle.sa_parse_expr.proofs.Tested.{word_met, feature_met}
+use Rattle.sa_parse_expr.proofs.Shifts.{Shut, Meets}
 use Rattle.sa_parse.specs.declared.file.FileKind.{FileKind}
 use Rattle.sa_parse.specs.declared.file.FileKind.TheVariants.{Prelude, Program}
 use Rattle.sa_parse.specs.Signatures as sigs
@@ -16,13 +20,9 @@ use Rattle.sa_parse.specs.Conditions as cond
 use Rattle.sa_parse.specs.Features as features
 use Rattle.sa_parse.specs.Features.{Enclosing, IsMember}
 use Rattle.sa_parse.specs.Classes.{invariants_of}
-use Rattle.sa_grammar.specs.Tests.{is_word, is_word_kind, is_feature, is_feature_kind}
-use Rattle.sa_grammar.specs.Forms.{Form, opens}
-use Rattle.sa_grammar.specs.Parts.{Signature, Declaration}
-use Rattle.sa_grammar.specs.SignatureForms.{sig_form}
-use Rattle.sa_grammar.specs.FeatureForms.{declared_or, routine_form, stub_or, builtin_or, open_form, invariant_or, member_form}
-use Rattle.sa_grammar.proofs.Tested.{word_met, feature_met}
-use Rattle.sa_grammar.proofs.Sound.{Shut, Meets}
+use Rattle.sa_parse.specs.SignatureForms.{sig_form}
+use Rattle.sa_parse.specs.FeatureForms.{declared_or, routine_form, stub_or, builtin_or, open_form, invariant_or, member_form}
+use Rattle.sa_grammar.proofs.Parts.{Signature, Declaration}
 use Rattle.sa_grammar.proofs.ExpressionStarts.{meets_front}
 use Rattle.sa_grammar.proofs.FeaturesSound.{IsOpen, called, declared, constants, included, most}
 use Rattle.sa_grammar.proofs.FeaturesComplete.{IsClosed, nothing, parted, ended, closed_ends}

@@ -6,11 +6,11 @@ use Rattle.sa_tree.specs.declared.ty.Ty.TheVariants as ty
 use Rattle.sa_tree.specs.declared.expr.Expr.TheVariants as tree
 use Rattle.sa_parse_expr.specs.Lexemes.{Lexeme}
 use Rattle.sa_parse_expr.specs.Types as types
-use Rattle.sa_grammar.specs.Arounds.{around_of}
-use Rattle.sa_grammar.specs.Readings.{Begins, Read}
-use Rattle.sa_grammar.specs.Forms.{Reader, Nested, Tree, nest, type, expr, unary, power, post, stmts}
-use Rattle.sa_grammar.specs.Grammar.{form_of, nested_to}
-use Rattle.sa_grammar.proofs.Tested.{lexeme, a_word}
+use Rattle.sa_parse_expr.specs.Arounds.{around_of}
+use Rattle.sa_parse_expr.specs.Readings.{Begins, Read}
+use Rattle.sa_parse_expr.specs.Forms.{Reader, Nested, Tree, nest, type, expr, unary, power, post, stmts}
+use Rattle.sa_parse_expr.specs.Grammar.{form_of, nested_to}
+use Rattle.sa_parse_expr.proofs.Tested.{lexeme, a_word}
 use Rattle.sa_grammar.proofs.Sound.{Sound, sound-refused, IsSound}
 use Rattle.sa_grammar.proofs.Complete.{Reads}
 use Rattle.sa_grammar.proofs.TypeForms.{sound_type, type_read}

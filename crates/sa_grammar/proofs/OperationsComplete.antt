@@ -12,13 +12,13 @@ use Rattle.sa_parse_expr.specs.declared.grammar.Scope.{Scope}
 use Rattle.sa_parse_expr.specs.Lexemes.{Lexeme, IsSign}
 use Rattle.sa_parse_expr.specs.Expressions as exprs
 use Rattle.sa_parse_expr.specs.Expressions.{IsCall, IsExprs, IsPost, IsPower, IsUnary, IsOperator, IsOperand, IsOperation, IsExpr}
-use Rattle.sa_grammar.specs.Arounds.{Around, Where, outside, around_of}
-use Rattle.sa_grammar.specs.Readings.{Read}
-use Rattle.sa_grammar.specs.Tests.{is_sign, is_sign_kind, or_any, is_operator, operator_of}
-use Rattle.sa_grammar.specs.Forms.{Form, placed, make, Reader, place_of, Nested, Tree, unary, power}
-use Rattle.sa_grammar.specs.ExpressionForms.{first_form, goes_on, going_form, placed_post_form, post_form, power_form, unary_form}
-use Rattle.sa_grammar.specs.ExpressionForms.{operation_form, product_form, sum_form, comparison_form, expr_form}
-use Rattle.sa_grammar.proofs.Tested.{sign_met, other_sign}
+use Rattle.sa_parse_expr.specs.Arounds.{Around, Where, outside, around_of}
+use Rattle.sa_parse_expr.specs.Readings.{Read}
+use Rattle.sa_parse_expr.specs.Tests.{is_sign, is_sign_kind, or_any, is_operator, operator_of}
+use Rattle.sa_parse_expr.specs.Forms.{Form, placed, make, Reader, place_of, Nested, Tree, unary, power}
+use Rattle.sa_parse_expr.specs.ExpressionForms.{first_form, goes_on, going_form, placed_post_form, post_form, power_form, unary_form}
+use Rattle.sa_parse_expr.specs.ExpressionForms.{operation_form, product_form, sum_form, comparison_form, expr_form}
+use Rattle.sa_parse_expr.proofs.Tested.{sign_met, other_sign}
 use Rattle.sa_grammar.proofs.Sound.{place_of_front}
 use Rattle.sa_grammar.proofs.Complete.{Reads, reads-give, reads-met, reads-other, reads-follow, reads-make, reads-placed, reads-as, reads-joined}
 use Rattle.sa_grammar.proofs.Complete.{Gathers, gathers-first, gathers-more, reads-gathered}

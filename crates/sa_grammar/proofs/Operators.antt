@@ -10,8 +10,8 @@ use Rattle.sa_tree.specs.declared.expr.Op.{Op}
 use Rattle.sa_parse_expr.specs.Lexemes.{Lexeme}
 use Rattle.sa_parse_expr.specs.Expressions as exprs
 use Rattle.sa_parse_expr.specs.Expressions.{IsLogical, IsComparing, IsAdding, IsMultiplying, IsOperator, IsPrefix}
-use Rattle.sa_grammar.specs.Tests.{logical_word, comparing_sign, adding_sign, multiplying_sign, prefix_sign}
-use Rattle.sa_grammar.specs.Tests.{logical_kind, comparing_kind, adding_kind, multiplying_kind, prefix_kind, or_any, is_operator, operator_of}
+use Rattle.sa_parse_expr.specs.Tests.{logical_word, comparing_sign, adding_sign, multiplying_sign, prefix_sign}
+use Rattle.sa_parse_expr.specs.Tests.{logical_kind, comparing_kind, adding_kind, multiplying_kind, prefix_kind, or_any, is_operator, operator_of}
 
 -- ---- precedences
 

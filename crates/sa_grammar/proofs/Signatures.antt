@@ -10,21 +10,22 @@ use Rattle.sa_tree.specs.declared.ty.Ty.TheVariants as ty
 use Rattle.sa_tree.specs.declared.stmt.Local.{Local}
 use Rattle.sa_tree.specs.declared.class.Formal.{Formal}
 use Rattle.sa_parse_expr.specs.declared.types.CallableKind.{CallableKind}
-use Rattle.sa_parse_expr.specs.Lexemes.{Lexeme, IsSign, lower_name}
+use Rattle.sa_parse_expr.specs.Lexemes.{Lexeme, IsSign, lower_name, name_of}
 use Rattle.sa_parse_expr.specs.Types as types
 use Rattle.sa_parse_expr.specs.Types.{IsMode, IsType}
-use Rattle.sa_grammar.specs.Parts.{Signature}
+use Rattle.sa_parse_expr.specs.Readings.{Read}
+use Rattle.sa_parse_expr.specs.Tests.{is_sign, is_sign_kind}
+use Rattle.sa_parse_expr.specs.Forms.{Reader, Nested, Tree, type}
+use Rattle.sa_parse_expr.specs.StatementForms.{name_form, joined}
+use Rattle.sa_parse_expr.proofs.Tested.{sign_stands, feature_stands, sign_met, feature_met, other_sign, lexeme, a_sign, a_word}
+use Rattle.sa_parse_expr.proofs.Shifts.{Shut}
 use Rattle.sa_parse.specs.Names as names
-use Rattle.sa_parse.specs.Names.{IsLower, IsName, IsNames, name_of}
+use Rattle.sa_parse.specs.Names.{IsLower, IsName, IsNames}
 use Rattle.sa_parse.specs.Signatures as sigs
 use Rattle.sa_parse.specs.Signatures.{IsFormal, IsFormals, IsArguments, IsWrittenResult, IsSig, callable_of, formal_of}
-use Rattle.sa_grammar.specs.Readings.{Read}
-use Rattle.sa_grammar.specs.Tests.{is_sign, is_sign_kind}
-use Rattle.sa_grammar.specs.Forms.{Reader, Nested, Tree, type}
-use Rattle.sa_grammar.specs.StatementForms.{name_form, joined}
-use Rattle.sa_grammar.specs.SignatureForms.{names_form, formal_form, formals_form, arguments_form, written_result_form, sig_form}
-use Rattle.sa_grammar.proofs.Tested.{sign_stands, feature_stands, sign_met, feature_met, other_sign, lexeme, a_sign, a_word}
-use Rattle.sa_grammar.proofs.Sound.{Shut, Sound, Listed, last, more}
+use Rattle.sa_parse.specs.SignatureForms.{names_form, formal_form, formals_form, arguments_form, written_result_form, sig_form}
+use Rattle.sa_grammar.proofs.Parts.{Signature}
+use Rattle.sa_grammar.proofs.Sound.{Sound, Listed, last, more}
 use Rattle.sa_grammar.proofs.Sound.{IsSound, sound-give, sound-refuse, sound-shift, sound-follow, sound-list, sound-make, sound-until}
 use Rattle.sa_grammar.proofs.Complete.{Reads, reads-give, reads-met, reads-other, reads-follow, reads-make, reads-as, reads-joined, reads-until, reads-list}
 use Rattle.sa_grammar.proofs.TypeForms.{EndsType, sign_ends, NoMode, kind_no_mode, sound_mode, mode_read}

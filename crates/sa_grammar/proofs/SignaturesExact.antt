@@ -3,11 +3,11 @@ use Rattle.std.proofs.Common.{ℕ, ◌<◌, List, [], ◌++◌, length, arith}
 use Rattle.sa_tree.specs.declared.class.Formal.{Formal}
 use Rattle.sa_parse_expr.specs.declared.types.CallableKind.{CallableKind}
 use Rattle.sa_parse_expr.specs.Lexemes.{Lexeme}
-use Rattle.sa_grammar.specs.Parts.{Signature}
+use Rattle.sa_parse_expr.specs.Grammar.{nested_to}
 use Rattle.sa_parse.specs.Signatures.{IsFormals, IsSig}
-use Rattle.sa_grammar.specs.SignatureForms.{formals_form, sig_form}
-use Rattle.sa_grammar.specs.Grammar.{nested_to}
+use Rattle.sa_parse.specs.SignatureForms.{formals_form, sig_form}
 use Rattle.sa_grammar.specs.Law.{OneListOfFormals, ListsOfFormalsAreRead, OneSig, SigsAreRead}
+use Rattle.sa_grammar.proofs.Parts.{Signature}
 use Rattle.sa_grammar.proofs.Sound.{IsSound}
 use Rattle.sa_grammar.proofs.Complete.{Reads}
 use Rattle.sa_grammar.proofs.FormsExact.{form_unique, form_exact}

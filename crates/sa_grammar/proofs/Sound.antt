@@ -1,19 +1,19 @@
 -- Sound forms: what is read is spelled, what is refused is so behind lexemes that begin a tree, and of the lexemes behind those that
 -- are taken a form sees the first one alone. A lemma for each way to make forms.
 use Rattle.std.proofs.Common.{◌≡◌, ℕ, zero, suc, ◌+◌, ◌≤◌, Bool, true, false, cond, List, [], ◌∷◌, ◌++◌, length, refl, sym, ap, subst, ◌∙◌, append_assoc, append-nil, arith, length-append}
-use Rattle.std.proofs.lemmas.Bool.{cond-true, cond-false}
 use Rattle.sa_lex.specs.declared.token.TokenKind.TheVariants as token
 use Rattle.sa_lex.specs.declared.sign.Sign.{Sign}
 use Rattle.sa_lex.specs.declared.sign.Sign.TheVariants as sign
 use Rattle.sa_lex.specs.declared.word.Word.{Word}
 use Rattle.sa_tree.specs.declared.pos.Pos.{Pos}
 use Rattle.sa_parse_expr.specs.Lexemes.{Lexeme, IsSign, IsWord}
-use Rattle.sa_grammar.specs.Readings.{Spelling, Begins, Reading, Read, Refused}
-use Rattle.sa_grammar.specs.Tests.{is_sign}
-use Rattle.sa_grammar.specs.Forms.{Form, give, refuse, shift, either, follow, separated, repeat, placed, list, make, until, until_word, opens}
-use Rattle.sa_grammar.specs.Forms.{Reader, behind, with_read, shifted, chosen, place_of, listed, repeated, run, Nested, Tree}
-use Rattle.sa_grammar.proofs.Tested.{sign_stands, word_stands, lexeme, a_sign, a_word}
-use Rattle.sa_grammar.proofs.Shorter.{behind_one, NoLonger}
+use Rattle.sa_parse_expr.specs.Readings.{Spelling, Begins, Reading, Read, Refused}
+use Rattle.sa_parse_expr.specs.Tests.{is_sign}
+use Rattle.sa_parse_expr.specs.Forms.{Form, give, refuse, shift, either, follow, separated, repeat, placed, list, make, until, until_word, opens}
+use Rattle.sa_parse_expr.specs.Forms.{Reader, behind, with_read, shifted, chosen, place_of, listed, repeated, run, Nested, Tree}
+use Rattle.sa_parse_expr.proofs.Tested.{sign_stands, word_stands, lexeme, a_sign, a_word}
+use Rattle.sa_parse_expr.proofs.Shifts.{Shut, Meets, shifted_met, shifted_shut, chosen_met, chosen_shut}
+use Rattle.sa_parse_expr.proofs.Shorter.{behind_one, NoLonger}
 
 -- another list that may stand behind what was taken: it is empty, or begins with the same lexeme
 pub data Agrees : List Lexeme → List Lexeme → Type 0 where
@@ -24,21 +24,9 @@ pub agree_behind : (front : List Lexeme) {rest other : List Lexeme} → Agrees r
 agree_behind [] h = h
 agree_behind (l ∷ front) h = same
 
--- the next lexeme, if there is one, doesn't meet the test
-abbrev pub Shut : (Lexeme → Bool) → List Lexeme → Type 0
-Shut test [] = Unit {0}
-Shut test (l ∷ ls) = test l ≡ false
-
 pub shut_agrees : (test : Lexeme → Bool) {rest other : List Lexeme} → Agrees rest other → Shut test rest → Shut test other
 shut_agrees test ended h = tt
 shut_agrees test same h = h
-
-pub shifted_met : {A : Type 0} (test : Lexeme → Bool) (go : Lexeme → Reader A) (other : Reader A) (l : Lexeme) (ls : List Lexeme) → test l ≡ true → shifted test go other (l ∷ ls) ≡ go l ls
-shifted_met test go other l ls h = cond-true (test l) (go l ls) (other (l ∷ ls)) h
-
-pub shifted_shut : {A : Type 0} (test : Lexeme → Bool) (go : Lexeme → Reader A) (other : Reader A) (ls : List Lexeme) → Shut test ls → shifted test go other ls ≡ other ls
-shifted_shut test go other [] h = refl
-shifted_shut test go other (l ∷ ls) h = cond-false (test l) (go l ls) (other (l ∷ ls)) h
 
 -- what is spelled behind lexemes that are taken
 abbrev pub After : {A : Type 0} → List Lexeme → Spelling A → Spelling A
@@ -236,19 +224,6 @@ module _ {A : Type 0} (test : Lexeme → Bool) (P : Spelling A) (item : Reader A
       (sound-read (After ls (Separated test P)) (a ∷ []) (rw append-nil (last one))))
 
 -- ---- one of two, by a test
-
--- the next lexeme meets the test
-abbrev pub Meets : (Lexeme → Bool) → List Lexeme → Type 0
-Meets test [] = ⊥
-Meets test (l ∷ ls) = test l ≡ true
-
-pub chosen_met : {A : Type 0} (test : Lexeme → Bool) (one other : Reader A) (ls : List Lexeme) → Meets test ls → chosen test one other ls ≡ one ls
-chosen_met test one other [] h = absurd h
-chosen_met test one other (l ∷ ls) h = cond-true (test l) (one (l ∷ ls)) (other (l ∷ ls)) h
-
-pub chosen_shut : {A : Type 0} (test : Lexeme → Bool) (one other : Reader A) (ls : List Lexeme) → Shut test ls → chosen test one other ls ≡ other ls
-chosen_shut test one other [] h = refl
-chosen_shut test one other (l ∷ ls) h = cond-false (test l) (one (l ∷ ls)) (other (l ∷ ls)) h
 
 module _ {A : Type 0} (R : Spelling A) (test : Lexeme → Bool) (one other : Reader A) (first : Sound R one) (second : Sound R other)
     (takes : (l : Lexeme) (ls : List Lexeme) → test l ≡ true → NoLonger ls (one (l ∷ ls))) where

@@ -17,23 +17,24 @@ use Rattle.sa_tree.specs.declared.stmt.TypeArm.{TypeArm}
 use Rattle.sa_tree.specs.declared.stmt.Stmt.{Stmt}
 use Rattle.sa_tree.specs.declared.stmt.Stmt.TheVariants as tree
 use Rattle.sa_parse_expr.specs.declared.grammar.Scope.TheVariants.{Plain}
-use Rattle.sa_parse_expr.specs.Lexemes.{Lexeme, IsSign}
+use Rattle.sa_parse_expr.specs.Lexemes.{Lexeme, IsSign, name_of}
 use Rattle.sa_parse_expr.specs.Types.{IsType}
 use Rattle.sa_parse_expr.specs.Expressions as exprs
 use Rattle.sa_parse_expr.specs.Expressions.{IsExpr}
+use Rattle.sa_parse_expr.specs.Arounds.{outside, around_of}
+use Rattle.sa_parse_expr.specs.Readings.{Reading, Read, Refused}
+use Rattle.sa_parse_expr.specs.Tests.{is_word, is_sign, is_sign_kind, is_lower, is_lower_kind}
+use Rattle.sa_parse_expr.specs.Forms.{Form, Reader, Nested, Tree, list, opens, run, type, expr}
+use Rattle.sa_parse_expr.specs.ExpressionForms.{named_form, args_form, expr_form}
+use Rattle.sa_parse_expr.specs.StatementForms.{value_form, assigned_form, optional_value_form, name_form, typed_form, assign_form, behind_name_form, simple_form}
+use Rattle.sa_parse_expr.specs.StatementForms.{joined}
+use Rattle.sa_parse_expr.proofs.Tested.{sign_met, sign_stands, word_met, other_sign}
+use Rattle.sa_parse_expr.proofs.Shifts.{Shut, Meets}
 use Rattle.sa_parse.specs.Names as names
-use Rattle.sa_parse.specs.Names.{IsLower, IsName, IsMoreNames, IsNames, name_of}
+use Rattle.sa_parse.specs.Names.{IsLower, IsName, IsMoreNames, IsNames}
 use Rattle.sa_parse.specs.Statements as stmt
 use Rattle.sa_parse.specs.Statements.{IsValue, IsValues, IsAssigned, IsOptionalExpr, IsSimple, IsLeave, IsBody, IsStmts, IsOptionalStmt, IsStmt, IsArms, IsArm, IsEnding, IsElse, IsCaseArms, IsCaseArm, IsBranches, IsBranch}
-use Rattle.sa_grammar.specs.Arounds.{outside, around_of}
-use Rattle.sa_grammar.specs.Readings.{Reading, Read, Refused}
-use Rattle.sa_grammar.specs.Tests.{is_word, is_sign, is_sign_kind, is_lower, is_lower_kind}
-use Rattle.sa_grammar.specs.Forms.{Form, Reader, Nested, Tree, list, opens, run, type, expr}
-use Rattle.sa_grammar.specs.ExpressionForms.{named_form, args_form, expr_form}
-use Rattle.sa_grammar.specs.StatementForms.{value_form, assigned_form, optional_value_form, name_form, typed_form, assign_form, behind_name_form, simple_form}
-use Rattle.sa_grammar.specs.StatementForms.{joined}
-use Rattle.sa_grammar.proofs.Tested.{sign_met, sign_stands, word_met, other_sign}
-use Rattle.sa_grammar.proofs.Sound.{Shut, Meets, Separated, Listed, last, more}
+use Rattle.sa_grammar.proofs.Sound.{Separated, Listed, last, more}
 use Rattle.sa_grammar.proofs.Complete.{Reads, reads-give, reads-met, reads-other, reads-first, reads-second, reads-follow, reads-make, reads-joined, reads-list, with_kind}
 use Rattle.sa_grammar.proofs.TypeForms.{EndsType, sign_ends}
 use Rattle.sa_grammar.proofs.ExpressionStarts.{begins_expr, meets_front, expr_starts}

@@ -16,24 +16,24 @@ use Rattle.sa_tree.specs.declared.stmt.TypeArm.{TypeArm}
 use Rattle.sa_tree.specs.declared.stmt.Stmt.{Stmt}
 use Rattle.sa_tree.specs.declared.stmt.Stmt.TheVariants as tree
 use Rattle.sa_parse_expr.specs.declared.grammar.Scope.TheVariants.{Plain}
-use Rattle.sa_parse_expr.specs.Lexemes.{Lexeme, IsWord, IsSign}
+use Rattle.sa_parse_expr.specs.Lexemes.{Lexeme, IsWord, IsSign, name_of}
 use Rattle.sa_parse_expr.specs.Types as types
 use Rattle.sa_parse_expr.specs.Types.{IsType}
 use Rattle.sa_parse_expr.specs.Expressions as exprs
 use Rattle.sa_parse_expr.specs.Expressions.{IsExpr}
+use Rattle.sa_parse_expr.specs.Arounds.{outside, around_of}
+use Rattle.sa_parse_expr.specs.Tests.{is_word, is_sign, is_lower, is_lower_kind}
+use Rattle.sa_parse_expr.specs.Forms.{Reader, Nested, Tree, make, run, type, expr, stmts}
+use Rattle.sa_parse_expr.specs.ExpressionForms.{named_form, first_form, placed_post_form, post_form, power_form, unary_form}
+use Rattle.sa_parse_expr.specs.ExpressionForms.{operation_form, product_form, sum_form, comparison_form, expr_form}
+use Rattle.sa_parse_expr.specs.StatementForms.{value_form, assigned_form, optional_value_form, name_form, typed_form, assign_form, behind_name_form, simple_form}
+use Rattle.sa_parse_expr.specs.StatementForms.{body_form, ending_form, arm_form, case_arm_form, branch_form, case_arms_form, branches_form, stmt_form, optional_stmt_form, joined, stmts_form}
+use Rattle.sa_parse_expr.proofs.Tested.{sign_stands, word_stands, lexeme, a_sign, a_word}
+use Rattle.sa_parse_expr.proofs.Shorter.{opened}
 use Rattle.sa_parse.specs.Names as names
-use Rattle.sa_parse.specs.Names.{IsLower, IsName, IsMoreNames, IsNames, name_of}
+use Rattle.sa_parse.specs.Names.{IsLower, IsName, IsMoreNames, IsNames}
 use Rattle.sa_parse.specs.Statements as stmt
 use Rattle.sa_parse.specs.Statements.{IsValue, IsValues, IsAssigned, IsOptionalExpr, IsSimple, IsBody, IsStmts, IsOptionalStmt, IsStmt, IsArms, IsArm, IsEnding, IsElse, IsCaseArms, IsCaseArm, IsBranches, IsBranch}
-use Rattle.sa_grammar.specs.Arounds.{outside, around_of}
-use Rattle.sa_grammar.specs.Tests.{is_word, is_sign, is_lower, is_lower_kind}
-use Rattle.sa_grammar.specs.Forms.{Reader, Nested, Tree, make, run, type, expr, stmts}
-use Rattle.sa_grammar.specs.ExpressionForms.{named_form, first_form, placed_post_form, post_form, power_form, unary_form}
-use Rattle.sa_grammar.specs.ExpressionForms.{operation_form, product_form, sum_form, comparison_form, expr_form}
-use Rattle.sa_grammar.specs.StatementForms.{value_form, assigned_form, optional_value_form, name_form, typed_form, assign_form, behind_name_form, simple_form}
-use Rattle.sa_grammar.specs.StatementForms.{body_form, ending_form, arm_form, case_arm_form, branch_form, case_arms_form, branches_form, stmt_form, optional_stmt_form, joined, stmts_form}
-use Rattle.sa_grammar.proofs.Tested.{sign_stands, word_stands, lexeme, a_sign, a_word}
-use Rattle.sa_grammar.proofs.Shorter.{opened}
 use Rattle.sa_grammar.proofs.Sound.{After, Sound, sound_shorter, sound-behind_lexeme, Separated, Listed, last, more}
 use Rattle.sa_grammar.proofs.Sound.{IsSound, sound-give, sound-refuse, sound-shift, sound-either, sound-follow, sound-separated, sound-list, sound-make, sound-until_word, sound-up}
 use Rattle.sa_grammar.proofs.Complete.{with_kind}

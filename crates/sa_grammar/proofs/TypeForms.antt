@@ -1,4 +1,5 @@
 -- Types: each of their forms is sound and complete.
+use denote.Enum.Bare.{sameb}
 use Rattle.std.proofs.Common.{◌≡◌, ℕ, suc, ◌+◌, ◌<◌, List, [], ◌∷◌, ◌++◌, length, refl, ap, ◌∙◌, false, arith, length-append, Option}
 use Rattle.sa_lex.specs.declared.token.TokenKind.{TokenKind}
 use Rattle.sa_lex.specs.declared.token.TokenKind.TheVariants as token
@@ -6,7 +7,6 @@ use Rattle.sa_lex.specs.declared.sign.Sign.{Sign}
 use Rattle.sa_lex.specs.declared.sign.Sign.TheVariants as sign
 use Rattle.sa_lex.specs.declared.word.Word.TheVariants as word
 use Rattle.sa_lex.specs.contracts.sign.Sign.{the_type as signs}
-use denote.Enum.Bare.{sameb}
 use Rattle.sa_tree.specs.declared.ty.Ty.{Ty}
 use Rattle.sa_tree.specs.declared.ty.Ty.TheVariants as ty
 use Rattle.sa_tree.specs.declared.ty.ModeTy.{ModeTy}
@@ -17,12 +17,13 @@ use Rattle.sa_parse_expr.specs.declared.types.CallableKind.TheVariants.{Routine,
 use Rattle.sa_parse_expr.specs.Lexemes.{Lexeme, IsWord, IsSign, class_name, abstract_name}
 use Rattle.sa_parse_expr.specs.Types as types
 use Rattle.sa_parse_expr.specs.Types.{IsMode, IsType, IsGivenTypes, IsTypes, IsBoundArgs, IsModeTypes, IsModeType, IsBoundResult}
-use Rattle.sa_grammar.specs.Readings.{Read}
-use Rattle.sa_grammar.specs.Tests.{is_sign, is_word, is_word_kind, is_class_kind}
-use Rattle.sa_grammar.specs.Forms.{Reader, Nested, Tree, type, nest, follow, make}
-use Rattle.sa_grammar.specs.TypeForms.{once_form, mode_form, given_types_form, mode_type_form, bound_args_form, bound_result_form, type_form}
-use Rattle.sa_grammar.proofs.Tested.{sign_stands, word_stands, class_stands, sign_met, word_met, class_met, other_sign, other_word, lexeme, a_word}
-use Rattle.sa_grammar.proofs.Sound.{Shut, Sound, IsSound, sound-give, sound-refuse, sound-shift, sound-follow, sound-list, sound-make, sound-until, Listed, last, more}
+use Rattle.sa_parse_expr.specs.Readings.{Read}
+use Rattle.sa_parse_expr.specs.Tests.{is_sign, is_word, is_word_kind, is_class_kind}
+use Rattle.sa_parse_expr.specs.Forms.{Reader, Nested, Tree, type, nest, follow, make}
+use Rattle.sa_parse_expr.specs.TypeForms.{once_form, mode_form, given_types_form, mode_type_form, bound_args_form, bound_result_form, type_form}
+use Rattle.sa_parse_expr.proofs.Tested.{sign_stands, word_stands, class_stands, sign_met, word_met, class_met, other_sign, other_word, lexeme, a_word}
+use Rattle.sa_parse_expr.proofs.Shifts.{Shut}
+use Rattle.sa_grammar.proofs.Sound.{Sound, IsSound, sound-give, sound-refuse, sound-shift, sound-follow, sound-list, sound-make, sound-until, Listed, last, more}
 use Rattle.sa_grammar.proofs.Complete.{Reads, reads-give, reads-met, reads-other, reads-follow, reads-make, reads-joined, reads-until, reads-list}
 
 -- ---- lists

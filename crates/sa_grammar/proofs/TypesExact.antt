@@ -4,8 +4,8 @@ use Rattle.sa_lex.specs.declared.sign.Sign.TheVariants as sign
 use Rattle.sa_tree.specs.declared.ty.Ty.{Ty}
 use Rattle.sa_parse_expr.specs.Lexemes.{Lexeme}
 use Rattle.sa_parse_expr.specs.Types.{IsType, IsTypes}
-use Rattle.sa_grammar.specs.Forms.{list, nest, type}
-use Rattle.sa_grammar.specs.Grammar.{nested_to}
+use Rattle.sa_parse_expr.specs.Forms.{list, nest, type}
+use Rattle.sa_parse_expr.specs.Grammar.{nested_to}
 use Rattle.sa_grammar.specs.Law.{OneType, TypesAreRead, OneListOfTypes, ListsOfTypesAreRead}
 use Rattle.sa_grammar.proofs.Sound.{IsSound, sound-list}
 use Rattle.sa_grammar.proofs.Complete.{Reads, reads-list}

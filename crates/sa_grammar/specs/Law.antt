@@ -5,19 +5,19 @@ use Rattle.sa_parse_expr.specs.declared.grammar.Scope.{Scope}
 use Rattle.sa_parse_expr.specs.Types.{IsType, IsTypes}
 use Rattle.sa_parse_expr.specs.Expressions.{IsExpr, IsExprs, IsPost}
 use Rattle.sa_parse_expr.specs.declared.types.CallableKind.{CallableKind}
+use Rattle.sa_parse_expr.specs.Arounds.{Where, around_of}
+use Rattle.sa_parse_expr.specs.Readings.{IsUnique, IsRead}
+use Rattle.sa_parse_expr.specs.Forms.{list, nest, type, expr, post, stmts}
+use Rattle.sa_parse_expr.specs.StatementForms.{stmt_form}
+use Rattle.sa_parse_expr.specs.Grammar.{read_as}
 use Rattle.sa_parse.specs.Statements.{IsStmt, IsStmts}
 use Rattle.sa_parse.specs.Signatures.{IsFormals, IsSig}
 use Rattle.sa_parse.specs.Features.{Enclosing, IsMember}
 use Rattle.sa_parse.specs.declared.file.FileKind.{FileKind}
 use Rattle.sa_parse.specs.Classes.{IsWholeClass, IsFile}
-use Rattle.sa_grammar.specs.Arounds.{Where, around_of}
-use Rattle.sa_grammar.specs.Readings.{IsUnique, IsRead}
-use Rattle.sa_grammar.specs.Forms.{list, nest, type, expr, post, stmts}
-use Rattle.sa_grammar.specs.StatementForms.{stmt_form}
-use Rattle.sa_grammar.specs.SignatureForms.{formals_form, sig_form}
-use Rattle.sa_grammar.specs.FeatureForms.{member_form}
-use Rattle.sa_grammar.specs.ClassForms.{class_form, file_form}
-use Rattle.sa_grammar.specs.Grammar.{read_as}
+use Rattle.sa_parse.specs.SignatureForms.{formals_form, sig_form}
+use Rattle.sa_parse.specs.FeatureForms.{member_form}
+use Rattle.sa_parse.specs.ClassForms.{class_form, file_form}
 
 -- lexemes spell one type at most
 abbrev pub OneType : Type 0

@@ -1,14 +1,1 @@
-pub mod Arounds
-pub mod ClassForms
-pub mod ConditionForms
-pub mod ExpressionForms
-pub mod FeatureForms
-pub mod Forms
-pub mod Grammar
 pub mod Law
-pub mod Parts
-pub mod Readings
-pub mod SignatureForms
-pub mod StatementForms
-pub mod Tests
-pub mod TypeForms

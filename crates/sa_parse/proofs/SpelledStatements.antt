@@ -17,14 +17,14 @@ use Rattle.sa_tree.specs.declared.stmt.TypeArm.{TypeArm}
 use Rattle.sa_tree.specs.declared.stmt.Stmt.{Stmt}
 use Rattle.sa_tree.specs.declared.stmt.Stmt.TheVariants as tree
 use Rattle.sa_parse_expr.specs.declared.tokens.Tokens.{Tokens}
-use Rattle.sa_parse_expr.specs.Lexemes.{Lexeme, IsWord, IsSign, IsFeature, lower_name, iter_name, Stands, lexeme_at, between}
+use Rattle.sa_parse_expr.specs.Lexemes.{Lexeme, IsWord, IsSign, IsFeature, lower_name, iter_name, Stands, lexeme_at, between, name_of}
 use Rattle.sa_parse_expr.specs.Places.{IsFrom, kind_at}
 use Rattle.sa_parse_expr.specs.Types.{IsType}
 use Rattle.sa_parse_expr.proofs.Stretches.{pos_at, none, join, front, alone, front_join, parted, ended, enclosed}
 use Rattle.sa_parse.specs.declared.blocks.CaseChoice.{CaseChoice}
 use Rattle.sa_parse.specs.declared.blocks.TypeChoice.{TypeChoice}
 use Rattle.sa_parse.specs.Names as names
-use Rattle.sa_parse.specs.Names.{IsLower, IsName, IsMoreNames, IsNames, name_of, name_at}
+use Rattle.sa_parse.specs.Names.{IsLower, IsName, IsMoreNames, IsNames, name_at}
 use Rattle.sa_parse.specs.Statements as stmts
 use Rattle.sa_parse.specs.Statements.{IsValue, IsValues, IsAssigned, IsOptionalExpr, IsSimple, IsLeave, IsBody, IsStmts, IsOptionalStmt, IsStmt, IsArms, IsArm, IsEnding, IsElse, IsCaseChoice, IsCaseArms, IsCaseArm, IsTypeChoice, IsBranches, IsBranch}
 

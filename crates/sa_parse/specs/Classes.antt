@@ -18,7 +18,7 @@ use Rattle.sa_tree.specs.declared.class.Class.{Class}
 use Rattle.sa_tree.specs.declared.contract.Condition.{Condition}
 use Rattle.sa_tree.specs.declared.contract.Contract.{Contract}
 use Rattle.sa_tree.specs.declared.contract.Contract.TheVariants as contract
-use Rattle.sa_parse_expr.specs.Lexemes.{Lexeme, IsWord, IsSign, lexemes_of}
+use Rattle.sa_parse_expr.specs.Lexemes.{Lexeme, IsWord, IsSign, lexemes_of, name_of}
 use Rattle.sa_parse_expr.specs.Types.{IsType, IsTypes}
 use Rattle.sa_parse.specs.declared.class.DeclaredEdges.{DeclaredEdges}
 use Rattle.sa_parse.specs.declared.class.Head.{Head}
@@ -28,7 +28,6 @@ use Rattle.sa_parse.specs.declared.member.Declaration.{Declaration}
 use Rattle.sa_parse.specs.declared.member.Declaration.TheVariants as member
 use Rattle.sa_parse.specs.declared.signature.Signature.{Signature}
 use Rattle.sa_parse.specs.Features.{Enclosing, IsMember, feature_of, features_of}
-use Rattle.sa_parse.specs.Names.{name_of}
 use Rattle.sa_parse.specs.Signatures.{IsSig}
 
 -- ---- heads

@@ -15,7 +15,7 @@ use Rattle.sa_tree.specs.declared.class.Part.TheVariants as part
 use Rattle.sa_tree.specs.declared.class.Feature.{Feature}
 use Rattle.sa_tree.specs.declared.class.Change.{Change}
 use Rattle.sa_tree.specs.declared.contract.Condition.{Condition}
-use Rattle.sa_parse_expr.specs.Lexemes.{Lexeme, IsWord, IsSign, IsFeature}
+use Rattle.sa_parse_expr.specs.Lexemes.{Lexeme, IsWord, IsSign, IsFeature, name_of}
 use Rattle.sa_parse_expr.specs.Types.{IsType}
 use Rattle.sa_parse.specs.declared.contract.Clauses.{Clauses}
 use Rattle.sa_parse.specs.declared.member.Declaration.{Declaration}
@@ -25,7 +25,7 @@ use Rattle.sa_parse.specs.declared.file.FileKind.{FileKind}
 use Rattle.sa_parse.specs.declared.file.FileKind.TheVariants.{Prelude, Program}
 use Rattle.sa_parse.specs.declared.signature.Signature.{Signature}
 use Rattle.sa_parse.specs.Conditions.{IsClauses, IsInvariant, no_clauses}
-use Rattle.sa_parse.specs.Names.{IsLower, IsMoreNames, IsNames, name_of}
+use Rattle.sa_parse.specs.Names.{IsLower, IsMoreNames, IsNames}
 use Rattle.sa_parse.specs.Signatures.{IsSig}
 use Rattle.sa_parse.specs.Statements.{IsAssigned, IsBody, IsValue}
 

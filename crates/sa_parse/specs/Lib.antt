@@ -1,9 +1,13 @@
 pub mod Bodies
+pub mod ClassForms
 pub mod Classes
+pub mod ConditionForms
 pub mod Conditions
+pub mod FeatureForms
 pub mod Features
 pub mod Names
 pub mod Refusals
+pub mod SignatureForms
 pub mod Signatures
 pub mod Starts
 pub mod Statements

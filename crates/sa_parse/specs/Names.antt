@@ -4,12 +4,8 @@ use Rattle.sa_lex.specs.declared.token.TokenKind.TheVariants.{Lower}
 use Rattle.sa_lex.specs.declared.sign.Sign.TheVariants as sign
 use Rattle.sa_tree.specs.declared.stmt.Local.{Local}
 use Rattle.sa_parse_expr.specs.declared.tokens.Tokens.{Tokens}
-use Rattle.sa_parse_expr.specs.Lexemes.{Lexeme, IsSign}
+use Rattle.sa_parse_expr.specs.Lexemes.{Lexeme, IsSign, name_of}
 use Rattle.sa_parse_expr.specs.Places.{bytes_at, start_at}
-
--- the name that a token is
-abbrev pub name_of : Lexeme → Local
-name_of l = record { name = l.bytes; pos = l.pos }
 
 -- the token at a place, as a name
 abbrev pub name_at : Tokens → ℕ → Local

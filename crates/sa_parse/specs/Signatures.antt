@@ -9,10 +9,10 @@ use Rattle.sa_tree.specs.declared.stmt.Local.{Local}
 use Rattle.sa_tree.specs.declared.class.Formal.{Formal}
 use Rattle.sa_parse_expr.specs.declared.types.CallableKind.{CallableKind}
 use Rattle.sa_parse_expr.specs.declared.types.CallableKind.TheVariants.{Routine, Iter}
-use Rattle.sa_parse_expr.specs.Lexemes.{Lexeme, IsSign, IsFeature}
+use Rattle.sa_parse_expr.specs.Lexemes.{Lexeme, IsSign, IsFeature, name_of}
 use Rattle.sa_parse_expr.specs.Types.{IsMode, IsType}
 use Rattle.sa_parse.specs.declared.signature.Signature.{Signature}
-use Rattle.sa_parse.specs.Names.{IsNames, name_of}
+use Rattle.sa_parse.specs.Names.{IsNames}
 
 -- what kind of callable a feature of such a name is
 abbrev pub callable_of : TokenKind → CallableKind

@@ -14,12 +14,12 @@ use Rattle.sa_tree.specs.declared.stmt.TypeArm.{TypeArm}
 use Rattle.sa_tree.specs.declared.stmt.Stmt.{Stmt}
 use Rattle.sa_tree.specs.declared.stmt.Stmt.TheVariants as tree
 use Rattle.sa_parse_expr.specs.declared.grammar.Scope.TheVariants.{Plain}
-use Rattle.sa_parse_expr.specs.Lexemes.{Lexeme, IsWord, IsSign}
+use Rattle.sa_parse_expr.specs.Lexemes.{Lexeme, IsWord, IsSign, name_of}
 use Rattle.sa_parse_expr.specs.Types.{IsType}
 use Rattle.sa_parse_expr.specs.Expressions.{IsArg}
 use Rattle.sa_parse.specs.declared.blocks.CaseChoice.{CaseChoice}
 use Rattle.sa_parse.specs.declared.blocks.TypeChoice.{TypeChoice}
-use Rattle.sa_parse.specs.Names.{IsLower, IsNames, name_of}
+use Rattle.sa_parse.specs.Names.{IsLower, IsNames}
 
 -- ---- parts without statements
 

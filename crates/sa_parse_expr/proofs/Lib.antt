@@ -1,6 +1,12 @@
+mod ExactTypes
 mod Innermost
 mod Precedences
+pub mod Runs
+pub mod SameLevels
+pub mod Shifts
+pub mod Shorter
 mod SpelledExpressions
 mod SpelledTypes
 pub mod Stretches
 mod Taken
+pub mod Tested

@@ -2,12 +2,13 @@
 use Rattle.std.proofs.Common.{◌≡◌, ℕ, suc, ◌+◌, ◌-◌, ◌<◌, ◌≤◌, List, [], ◌∷◌, ◌++◌, Option, Some, None, length, take, drop, slice_get, slice_range, ap, ◌∙◌, inl, inr, arith}
 use Rattle.std.specs.Option.{option_map, option_map_or}
 use Rattle.std.proofs.Math.Seq.{take-add, drop-cons}
-use Rattle.std.proofs.lemmas.List.{drop-drop}
+use Rattle.std.proofs.lemmas.List.{drop-drop, drop_all, length-drop, length-map}
 use Rattle.std.proofs.lemmas.Option.{slice_get_within, slice_get-map, slice_get_cases, get_or_from_slice_get, none-some, same_Some}
 use Rattle.sa_lex.specs.declared.token.Token.{Token}
 use Rattle.sa_lex.specs.declared.token.TokenKind.{TokenKind}
 use Rattle.sa_tree.specs.declared.pos.Pos.{Pos}
 use Rattle.sa_parse_expr.specs.declared.tokens.Tokens.{Tokens}
+use Rattle.sa_parse_expr.specs.Exactly.{lexemes_from}
 use Rattle.sa_parse_expr.specs.Lexemes.{Lexeme, lexemes_of, lexeme_at, between}
 use Rattle.sa_parse_expr.specs.Places.{kind_at, bytes_at, start_at}
 
@@ -24,15 +25,17 @@ slice_range-join {X = X} xs a b c h k =
     ∙ (take-add (b - a) (c - b) (drop a xs)
     ∙ ap (λ (ys : List X). slice_range xs a b ++ take (c - b) ys) (drop-drop (b - a) a xs ∙ ap (λ (n : ℕ). drop n xs) back))
 
+drop-there : {X : Type 0} (xs : List X) (at : ℕ) (x : X) → slice_get xs at ≡ Some x → drop at xs ≡ x ∷ drop (at + 1) xs
+drop-there {X = X} xs at x there =
+    let same : suc at ≡ at + 1 = omega arith in
+    drop-cons xs at x (slice_get_within xs at x there)
+    ∙ (ap (λ (y : X). y ∷ drop (suc at) xs) (get_or_from_slice_get xs at x x there)
+    ∙ ap (λ (n : ℕ). x ∷ drop n xs) same)
+
 slice_range-more : {X : Type 0} (xs : List X) (at next : ℕ) (x : X) → slice_get xs at ≡ Some x → at < next → slice_range xs at next ≡ x ∷ slice_range xs (at + 1) next
 slice_range-more {X = X} xs at next x there before =
     let one_more : next - at ≡ suc (next - (at + 1)) = omega arith in
-    let same : suc at ≡ at + 1 = omega arith in
-    let here : drop at xs ≡ x ∷ drop (at + 1) xs =
-    drop-cons xs at x (slice_get_within xs at x there)
-    ∙ (ap (λ (y : X). y ∷ drop (suc at) xs) (get_or_from_slice_get xs at x x there)
-    ∙ ap (λ (n : ℕ). x ∷ drop n xs) same) in
-    ap (λ (n : ℕ). take n (drop at xs)) one_more ∙ ap (λ (ys : List X). take (suc (next - (at + 1))) ys) here
+    ap (λ (n : ℕ). take n (drop at xs)) one_more ∙ ap (λ (ys : List X). take (suc (next - (at + 1))) ys) (drop-there xs at x there)
 
 -- the position of what stands at a place
 abbrev pub pos_at : Tokens → ℕ → Pos
@@ -106,3 +109,16 @@ module _ (t : Tokens) where
     | inl found ↦ (found.0.kind, ap (option_map (λ (token : Token). token.kind)) found.2)
     | inr past ↦ absurd (omega (arith, past.0))
   ]
+
+  -- from a place on: the token there, and those from the next place on; and none at the end
+  pub stands : (at : ℕ) (kind : TokenKind) → kind_at t.list.now at ≡ Some kind → lexemes_from t at ≡ lexeme_at t at kind ∷ lexemes_from t (at + 1)
+  unfolding lexemes_from
+  stands at kind there = drop-there (lexemes_of t.file t.src.now t.list.now) at (lexeme_at t at kind) (found at kind there)
+
+  pub few : (at : ℕ) → length (lexemes_from t at) ≤ length t.list.now
+  unfolding lexemes_from
+  few at = omega (arith, length-drop at (lexemes_of t.file t.src.now t.list.now), length-map t.list.now (read_as t.file t.src.now))
+
+  pub past : (at : ℕ) → length t.list.now ≤ at → lexemes_from t at ≡ []
+  unfolding lexemes_from
+  past at h = drop_all at (lexemes_of t.file t.src.now t.list.now) (omega (arith, h, length-map t.list.now (read_as t.file t.src.now)))

@@ -6,6 +6,7 @@ use Rattle.sa_lex.specs.declared.token.TokenKind.TheVariants as token
 use Rattle.sa_lex.specs.declared.sign.Sign.{Sign}
 use Rattle.sa_lex.specs.declared.word.Word.{Word}
 use Rattle.sa_tree.specs.declared.pos.Pos.{Pos}
+use Rattle.sa_tree.specs.declared.stmt.Local.{Local}
 use Rattle.sa_parse_expr.specs.declared.tokens.Tokens.{Tokens}
 use Rattle.sa_parse_expr.specs.Places.{bytes_at, kind_at, start_at}
 
@@ -37,6 +38,10 @@ lexeme_at t at kind = record {
   bytes = bytes_at t.src.now t.list.now at;
   pos = record { file = t.file; at = start_at t.src.now t.list.now at };
 }
+
+-- the name that a token is
+abbrev pub name_of : Lexeme → Local
+name_of l = record { name = l.bytes; pos = l.pos }
 
 -- such a lexeme stands at a place
 pub record Stands (P : Lexeme → Type 0) (t : Tokens) (at : ℕ) : Type 0 where

@@ -14,8 +14,11 @@
 //! C is a class name or an abstract name. `once` stands in the arguments of ITER alone.
 
 ghost use Rattle.std.specs.Prelude.{◌≤◌, IfErr, IfOk, length};
+ghost use Rattle.sa_parse_expr.specs.Exactly.{ReadsAs, Takes};
+ghost use Rattle.sa_parse_expr.specs.Forms.{list, nest, type};
 ghost use Rattle.sa_parse_expr.specs.Lexemes.{between};
 ghost use Rattle.sa_parse_expr.specs.Places.{IsBehind, IsFrom, IsUnexpected};
+ghost use Rattle.sa_parse_expr.specs.TypeForms.{bound_args_form, bound_result_form, given_types_form, mode_form, mode_type_form};
 ghost use Rattle.sa_parse_expr.specs.Types.{IsBoundArgs, IsBoundResult, IsGivenTypes, IsMode, IsModeType, IsModeTypes, IsType, IsTypes};
 
 use crate::tokens::Tokens;
@@ -39,6 +42,7 @@ pub fn read_type(alloc: Global, tokens: &Tokens<'_>, from: u32) -> Result<(Ty, u
     ensures next { IfOk result (λ read. IsBehind tokens.now.list.now from read.1) }
     ensures spelled { IfOk result (λ read. IsType (between tokens.now from read.1) read.0) }
     ensures refused { IfErr result (IsUnexpected tokens.now.file) }
+    ensures exact { ReadsAs (nest type) tokens.now from result }
 {
     let pos = tokens.pos(from);
     match tokens.kind(from) {
@@ -73,6 +77,7 @@ fn given_types(
     ensures next { IfOk result (λ read. IsFrom tokens.now.list.now from read.1) }
     ensures spelled { IfOk result (λ read. IsGivenTypes (between tokens.now from read.1) read.0) }
     ensures refused { IfErr result (IsUnexpected tokens.now.file) }
+    ensures exact { ReadsAs given_types_form tokens.now from result }
 {
     if !tokens.is_sign(from, Sign::LeftBrace) {
         return Ok((Items::new(alloc), from));
@@ -91,6 +96,7 @@ pub fn read_types(
     ensures next { IfOk result (λ read. IsBehind tokens.now.list.now from read.1) }
     ensures spelled { IfOk result (λ read. IsTypes (between tokens.now from read.1) read.0) }
     ensures refused { IfErr result (IsUnexpected tokens.now.file) }
+    ensures exact { ReadsAs (list (nest type)) tokens.now from result }
 {
     let (first, mut next) = read_type(alloc, tokens, from)?;
     let mut types = Items::new(alloc);
@@ -115,6 +121,7 @@ fn bound_args(
     ensures next { IfOk result (λ read. IsFrom tokens.now.list.now from read.1) }
     ensures spelled { IfOk result (λ read. IsBoundArgs callable (between tokens.now from read.1) read.0) }
     ensures refused { IfErr result (IsUnexpected tokens.now.file) }
+    ensures exact { ReadsAs (bound_args_form callable) tokens.now from result }
 {
     if !tokens.is_sign(from, Sign::LeftBrace) {
         return Ok((Items::new(alloc), from));
@@ -134,6 +141,7 @@ fn mode_types(
     ensures next { IfOk result (λ read. IsBehind tokens.now.list.now from read.1) }
     ensures spelled { IfOk result (λ read. IsModeTypes callable (between tokens.now from read.1) read.0) }
     ensures refused { IfErr result (IsUnexpected tokens.now.file) }
+    ensures exact { ReadsAs (list (mode_type_form callable)) tokens.now from result }
 {
     let (first, mut next) = mode_type(alloc, tokens, callable, from)?;
     let mut args = Items::new(alloc);
@@ -157,6 +165,7 @@ fn mode_type(
     ensures next { IfOk result (λ read. IsBehind tokens.now.list.now from read.1) }
     ensures spelled { IfOk result (λ read. IsModeType callable (between tokens.now from read.1) read.0) }
     ensures refused { IfErr result (IsUnexpected tokens.now.file) }
+    ensures exact { ReadsAs (mode_type_form callable) tokens.now from result }
 {
     let (mode, next) = read_mode(tokens, callable, from);
     let (ty, next) = read_type(alloc, tokens, next)?;
@@ -174,6 +183,7 @@ fn bound_result(
     ensures next { IfOk result (λ read. IsFrom tokens.now.list.now from read.1) }
     ensures spelled { IfOk result (λ read. IsBoundResult (between tokens.now from read.1) read.0) }
     ensures refused { IfErr result (IsUnexpected tokens.now.file) }
+    ensures exact { ReadsAs bound_result_form tokens.now from result }
 {
     if !tokens.is_sign(from, Sign::Colon) {
         return Ok((None, from));
@@ -188,6 +198,7 @@ pub fn read_mode(tokens: &Tokens<'_>, callable: CallableKind, from: u32) -> (Mod
     ensures from { from ≤ result.1 }
     ensures within { from ≤ length tokens.now.list.now → result.1 ≤ length tokens.now.list.now }
     ensures spelled { IsMode callable (between tokens.now from result.1) result.0 }
+    ensures exact { Takes (mode_form callable) tokens.now from result.0 result.1 }
 {
     match tokens.kind(from) {
         Some(TokenKind::Word(Word::Out)) => (Mode::Out, from + 1),

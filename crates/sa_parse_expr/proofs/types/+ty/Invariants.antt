@@ -1,8 +1,11 @@
 -- The tokens that are left, and a production before those that it begins with.
 use Rattle.std.proofs.Common.{length, ◌+◌, ◌-◌, ◌*◌}
+use Rattle.sa_parse_expr.specs.Forms.{nest, type}
+use Rattle.sa_parse_expr.specs.TypeForms.{mode_type_form}
 use Rattle.sa_parse_expr.specs.Types.{IsModeTypes, IsTypes}
 use Rattle.sa_parse_expr.specs.Lexemes.{between}
 use Rattle.sa_parse_expr.specs.Places.{IsBehind}
+use Rattle.sa_parse_expr.proofs.Runs.{Lists}
 use Rattle.sa_parse_expr.proofs.types.+ty.Given as goal
 
 abbrev pub decreases-read_type : goal.decreases-read_type
@@ -30,6 +33,7 @@ abbrev pub invariant-mode_types-more : goal.invariant-mode_types-more
 invariant-mode_types-more l = record {
   behind : IsBehind l.tokens.list.now l.from l.next;
   spelled : IsModeTypes l.callable (between l.tokens l.from l.next) l.args;
+  listed : Lists l.tokens (mode_type_form l.callable) l.from l.args l.next;
 }
 
 abbrev pub decreases-mode_types-more : goal.decreases-mode_types-more
@@ -39,6 +43,7 @@ abbrev pub invariant-read_types-more : goal.invariant-read_types-more
 invariant-read_types-more l = record {
   behind : IsBehind l.tokens.list.now l.from l.next;
   spelled : IsTypes (between l.tokens l.from l.next) l.types;
+  listed : Lists l.tokens (nest type) l.from l.types l.next;
 }
 
 abbrev pub decreases-read_types-more : goal.decreases-read_types-more

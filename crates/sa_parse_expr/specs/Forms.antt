@@ -9,9 +9,9 @@ use Rattle.sa_tree.specs.declared.expr.Expr.{Expr}
 use Rattle.sa_tree.specs.declared.stmt.Stmt.{Stmt}
 use Rattle.sa_parse_expr.specs.declared.grammar.Scope.{Scope}
 use Rattle.sa_parse_expr.specs.Lexemes.{Lexeme}
-use Rattle.sa_grammar.specs.Arounds.{Where}
-use Rattle.sa_grammar.specs.Readings.{Reading, Read, Refused}
-use Rattle.sa_grammar.specs.Tests.{is_sign, is_word}
+use Rattle.sa_parse_expr.specs.Arounds.{Where}
+use Rattle.sa_parse_expr.specs.Readings.{Reading, Read, Refused}
+use Rattle.sa_parse_expr.specs.Tests.{is_sign, is_word}
 
 -- the productions that nest in themselves
 pub data Nested : Type 0 where

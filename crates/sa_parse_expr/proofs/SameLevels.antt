@@ -4,23 +4,23 @@ use Rattle.sa_lex.specs.declared.token.TokenKind.{TokenKind}
 use Rattle.sa_tree.specs.declared.expr.Op.{Op}
 use Rattle.sa_tree.specs.declared.expr.Expr.{Expr}
 use Rattle.sa_parse_expr.specs.Lexemes.{Lexeme}
-use Rattle.sa_grammar.specs.Arounds.{Where, outside, in_array}
-use Rattle.sa_grammar.specs.Readings.{Reading, Read, Refused}
-use Rattle.sa_grammar.specs.Tests.{logical_kind, comparing_kind, adding_kind, multiplying_kind}
-use Rattle.sa_grammar.specs.Forms.{Form, give, refuse, shift, either, follow, separated, repeat, placed, nest, type, expr, unary, power, post, stmts, opens}
-use Rattle.sa_grammar.specs.Forms.{Reader, behind, with_read, place_of, listed, repeated, run, Nested, Tree}
-use Rattle.sa_grammar.specs.TypeForms.{type_form}
-use Rattle.sa_grammar.specs.ExpressionForms.{first_form, items_or, result_or, class_call_form, placed_post_form, post_form, power_form, unary_form}
-use Rattle.sa_grammar.specs.ExpressionForms.{operation_form, product_form, sum_form, comparison_form, expr_form}
-use Rattle.sa_grammar.specs.StatementForms.{assign_form, simple_form, stmt_form, optional_stmt_form, stmts_form}
-use Rattle.sa_grammar.specs.Grammar.{form_of, nested_to}
-use Rattle.sa_grammar.proofs.Shorter.{NoLonger, NoLonger-run, behind_one}
+use Rattle.sa_parse_expr.specs.Arounds.{Where, outside, in_array}
+use Rattle.sa_parse_expr.specs.Readings.{Reading, Read, Refused}
+use Rattle.sa_parse_expr.specs.Tests.{logical_kind, comparing_kind, adding_kind, multiplying_kind}
+use Rattle.sa_parse_expr.specs.Forms.{Form, give, refuse, shift, either, follow, separated, repeat, placed, nest, type, expr, unary, power, post, stmts, opens}
+use Rattle.sa_parse_expr.specs.Forms.{Reader, behind, with_read, place_of, listed, repeated, run, Nested, Tree}
+use Rattle.sa_parse_expr.specs.TypeForms.{type_form}
+use Rattle.sa_parse_expr.specs.ExpressionForms.{first_form, items_or, result_or, class_call_form, placed_post_form, post_form, power_form, unary_form}
+use Rattle.sa_parse_expr.specs.ExpressionForms.{operation_form, product_form, sum_form, comparison_form, expr_form}
+use Rattle.sa_parse_expr.specs.StatementForms.{assign_form, simple_form, stmt_form, optional_stmt_form, stmts_form}
+use Rattle.sa_parse_expr.specs.Grammar.{form_of, nested_to}
+use Rattle.sa_parse_expr.proofs.Shorter.{NoLonger, NoLonger-run, behind_one}
 use Rattle.sa_parse_expr.specs.declared.grammar.Scope.{Scope}
 use Rattle.sa_parse_expr.specs.declared.grammar.Scope.TheVariants.{Plain, PostClause}
 
 -- ---- readers that read the same of lists of less than so many lexemes
 
-cond-both : {A : Type 0} (b : Bool) {x y z w : A} → x ≡ y → z ≡ w → cond b x z ≡ cond b y w
+pub cond-both : {A : Type 0} (b : Bool) {x y z w : A} → x ≡ y → z ≡ w → cond b x z ≡ cond b y w
 cond-both true e f = e
 cond-both false e f = f
 
@@ -35,7 +35,7 @@ module _ {A : Type 0} (most : ℕ) (test : Lexeme → Bool) (item other : Reader
   behind_one-same f g a size e [] h = refl
   behind_one-same f g a size e (l ∷ ms) h = cond-both (test l) (ap (with_read (λ others. a ∷ others)) (e ms (omega arith))) refl
 
-  listed-same : (f g : ℕ) (ls : List Lexeme) → length ls < most → length ls < f → length ls < g → listed f test item ls ≡ listed g test other ls
+  pub listed-same : (f g : ℕ) (ls : List Lexeme) → length ls < most → length ls < f → length ls < g → listed f test item ls ≡ listed g test other ls
   listed-same zero g ls h i j = absurd (omega arith)
   listed-same (suc f) zero ls h i j = absurd (omega arith)
   listed-same (suc f) (suc g) ls h i j =
@@ -52,7 +52,7 @@ module _ {A : Type 0} (most : ℕ) (test : Lexeme → Bool) (item other : Reader
 
 module _ {A : Type 0} (most : ℕ) (test : Lexeme → Bool) (step other : A → Lexeme → Reader A) (short : (a : A) (l : Lexeme) (ls : List Lexeme) → NoLonger ls (step a l ls))
     (each : (a : A) (l : Lexeme) (ls : List Lexeme) → length ls < most → step a l ls ≡ other a l ls) where
-  repeated-same : (f g : ℕ) (a : A) (ls : List Lexeme) → length ls ≤ most → length ls < f → length ls < g → repeated f test step a ls ≡ repeated g test other a ls
+  pub repeated-same : (f g : ℕ) (a : A) (ls : List Lexeme) → length ls ≤ most → length ls < f → length ls < g → repeated f test step a ls ≡ repeated g test other a ls
   repeated-same zero g a ls h i j = absurd (omega arith)
   repeated-same (suc f) zero a ls h i j = absurd (omega arith)
   repeated-same (suc f) (suc g) a [] h i j = refl
@@ -165,12 +165,12 @@ guarded (power s x) = guarded_power s x
 guarded (post s x) = guarded_post s x
 guarded stmts = guarded_stmts
 
-short_to : (n : ℕ) (x : Nested) (ls : List Lexeme) → NoLonger ls (nested_to n x ls)
+pub short_to : (n : ℕ) (x : Nested) (ls : List Lexeme) → NoLonger ls (nested_to n x ls)
 unfolding nested_to
 short_to zero x ls = omega arith
 short_to (suc n) x ls = NoLonger-run n (nested_to n) (short_to n) (form_of x) ls
 
-levels_same : (most m n : ℕ) → most ≤ m → most ≤ n → (x : Nested) (ls : List Lexeme) → length ls < most → nested_to m x ls ≡ nested_to n x ls
+pub levels_same : (most m n : ℕ) → most ≤ m → most ≤ n → (x : Nested) (ls : List Lexeme) → length ls < most → nested_to m x ls ≡ nested_to n x ls
 unfolding nested_to
 levels_same zero m n h i x ls lt = absurd (omega arith)
 levels_same (suc most) zero n h i x ls lt = absurd (omega arith)

@@ -10,14 +10,14 @@ use Rattle.sa_tree.specs.declared.class.Change.{Change}
 use Rattle.sa_tree.specs.declared.contract.Condition.{Condition}
 use Rattle.sa_parse_expr.specs.Lexemes.{Lexeme, IsWord}
 use Rattle.sa_parse_expr.specs.Types.{IsType}
+use Rattle.sa_parse_expr.specs.Arounds.{any_lexeme}
+use Rattle.sa_parse_expr.specs.Readings.{Spelling}
 use Rattle.sa_parse.specs.declared.file.FileKind.TheVariants.{Program}
 use Rattle.sa_parse.specs.Signatures.{IsSig}
 use Rattle.sa_parse.specs.Conditions.{IsClauses, IsInvariant}
 use Rattle.sa_parse.specs.Features as features
 use Rattle.sa_parse.specs.Features.{Enclosing, IsPrivate, IsOptionalChanges, IsSharedParts, IsDeclared, IsCalled, IsMember}
 use Rattle.sa_parse.specs.Classes.{IsAbstractHead}
-use Rattle.sa_grammar.specs.Arounds.{any_lexeme}
-use Rattle.sa_grammar.specs.Readings.{Spelling}
 
 -- what a relation gives
 abbrev spelled_by : {A : Type 0} → Spelling A → Type 0
@@ -56,17 +56,3 @@ variables_of all =
 
 abbrev pub invariant_of : Condition → Declaration
 invariant_of holds = behind_access (λ (h : IsInvariant [] holds). features.invariant refl h)
-
--- what is behind one word or two, as an include
-abbrev behind_include : {m : Declaration} {ls : List Lexeme} {t : Ty} {changes : List Change}
-    → (IsWord word.Include any_lexeme → IsType [] t → IsOptionalChanges [] changes → IsMember any_class (any_lexeme ∷ ls) m) → Declaration
-behind_include {m = m} gives = m
-
-abbrev behind_private : {m : Declaration} {ls : List Lexeme} {t : Ty} {changes : List Change}
-    → (IsWord word.Private any_lexeme → IsWord word.Include any_lexeme → IsType [] t → IsOptionalChanges [] changes
-    → IsMember any_class (any_lexeme ∷ ls) m) → Declaration
-behind_private {m = m} gives = m
-
-abbrev pub include_of : Bool → Ty → List Change → Declaration
-include_of false t changes = behind_include {t = t} {changes = changes} (λ w one all. features.include w one all)
-include_of true t changes = behind_private {t = t} {changes = changes} (λ p w one all. features.private_include p w one all)

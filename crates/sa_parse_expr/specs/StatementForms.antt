@@ -3,6 +3,7 @@ use Rattle.std.specs.Prelude.{List, [], ◌∷◌, ◌++◌, Option, Some, None,
 use Rattle.sa_lex.specs.declared.sign.Sign.TheVariants as sign
 use Rattle.sa_lex.specs.declared.word.Word.{Word}
 use Rattle.sa_lex.specs.declared.word.Word.TheVariants as word
+use Rattle.sa_lex.specs.declared.token.TokenKind.{TokenKind}
 use Rattle.sa_tree.specs.declared.expr.Recv.TheVariants.{Implied}
 use Rattle.sa_tree.specs.declared.expr.Expr.{Expr}
 use Rattle.sa_tree.specs.declared.expr.Op.{Op}
@@ -14,17 +15,15 @@ use Rattle.sa_tree.specs.declared.stmt.CaseArm.{CaseArm}
 use Rattle.sa_tree.specs.declared.stmt.TypeArm.{TypeArm}
 use Rattle.sa_tree.specs.declared.stmt.Stmt.{Stmt}
 use Rattle.sa_tree.specs.declared.stmt.Stmt.TheVariants as tree
-use Rattle.sa_lex.specs.declared.token.TokenKind.{TokenKind}
 use Rattle.sa_parse_expr.specs.declared.grammar.Scope.TheVariants.{Plain}
-use Rattle.sa_parse_expr.specs.Lexemes.{Lexeme}
-use Rattle.sa_parse.specs.Names.{name_of}
-use Rattle.sa_grammar.specs.Arounds.{outside}
-use Rattle.sa_grammar.specs.Tests.{is_sign, is_word, is_lower}
-use Rattle.sa_grammar.specs.Tests.{logical_kind, comparing_kind, adding_kind, multiplying_kind, is_operator, operator_of}
-use Rattle.sa_grammar.specs.Forms.{Form, give, refuse, shift, either, follow, separated, list, repeat, nest, make, until_word}
-use Rattle.sa_grammar.specs.Forms.{type, expr, power, stmts}
-use Rattle.sa_grammar.specs.ExpressionForms.{named_form, goes_on, going_form}
-use Rattle.sa_grammar.specs.ExpressionForms.{unary_form, product_form, sum_form, comparison_form, expr_form}
+use Rattle.sa_parse_expr.specs.Lexemes.{Lexeme, name_of}
+use Rattle.sa_parse_expr.specs.Arounds.{outside}
+use Rattle.sa_parse_expr.specs.Tests.{is_sign, is_word, is_lower}
+use Rattle.sa_parse_expr.specs.Tests.{logical_kind, comparing_kind, adding_kind, multiplying_kind, is_operator, operator_of}
+use Rattle.sa_parse_expr.specs.Forms.{Form, give, refuse, shift, either, follow, separated, list, repeat, nest, make, until_word}
+use Rattle.sa_parse_expr.specs.Forms.{type, expr, power, stmts}
+use Rattle.sa_parse_expr.specs.ExpressionForms.{named_form, goes_on, going_form}
+use Rattle.sa_parse_expr.specs.ExpressionForms.{unary_form, product_form, sum_form, comparison_form, expr_form}
 
 -- ---- parts without statements
 

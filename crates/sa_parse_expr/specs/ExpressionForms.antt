@@ -17,12 +17,12 @@ use Rattle.sa_tree.specs.declared.expr.Expr.TheVariants as tree
 use Rattle.sa_parse_expr.specs.declared.grammar.Scope.{Scope}
 use Rattle.sa_parse_expr.specs.declared.grammar.Scope.TheVariants.{Plain, PostClause}
 use Rattle.sa_parse_expr.specs.Lexemes.{Lexeme}
-use Rattle.sa_grammar.specs.Arounds.{Where, outside, in_array}
-use Rattle.sa_grammar.specs.Tests.{is_sign, is_word, is_feature, is_number, is_character, is_text, value_of, text_of}
-use Rattle.sa_grammar.specs.Tests.{logical_kind, comparing_kind, adding_kind, multiplying_kind, prefix_kind, is_operator, operator_of}
-use Rattle.sa_grammar.specs.Forms.{Form, give, refuse, shift, either, follow, list, repeat, placed, nest, make, until}
-use Rattle.sa_grammar.specs.Forms.{type, expr, unary, power, post}
-use Rattle.sa_grammar.specs.TypeForms.{type_form}
+use Rattle.sa_parse_expr.specs.Arounds.{Where, outside, in_array}
+use Rattle.sa_parse_expr.specs.Tests.{is_sign, is_word, is_feature, is_number, is_character, is_text, value_of, text_of}
+use Rattle.sa_parse_expr.specs.Tests.{logical_kind, comparing_kind, adding_kind, multiplying_kind, prefix_kind, is_operator, operator_of}
+use Rattle.sa_parse_expr.specs.Forms.{Form, give, refuse, shift, either, follow, list, repeat, placed, nest, make, until}
+use Rattle.sa_parse_expr.specs.Forms.{type, expr, unary, power, post}
+use Rattle.sa_parse_expr.specs.TypeForms.{type_form}
 
 -- ---- arguments and indexes
 

@@ -8,8 +8,8 @@ use Rattle.sa_lex.specs.declared.word.Word.{Word}
 use Rattle.sa_lex.specs.contracts.sign.Sign.{the_type as signs}
 use Rattle.sa_lex.specs.contracts.word.Word.{the_type as words}
 use Rattle.sa_parse_expr.specs.Lexemes.{Lexeme, IsWord, IsSign, IsClass, class_name, abstract_name, IsFeature, lower_name, iter_name}
-use Rattle.sa_grammar.specs.Tests.{is_sign_kind, is_word_kind, is_class_kind, is_class_name_kind, is_abstract_name_kind, is_feature_kind, is_number_kind, is_character_kind, is_text_kind}
-use Rattle.sa_grammar.specs.Tests.{is_sign, is_word, is_class, is_class_name, is_abstract_name, is_feature, is_number, is_character, is_text, value_of_kind, text_of_kind, value_of, text_of}
+use Rattle.sa_parse_expr.specs.Tests.{is_sign_kind, is_word_kind, is_class_kind, is_class_name_kind, is_abstract_name_kind, is_feature_kind, is_number_kind, is_character_kind, is_text_kind}
+use Rattle.sa_parse_expr.specs.Tests.{is_sign, is_word, is_class, is_class_name, is_abstract_name, is_feature, is_number, is_character, is_text, value_of_kind, text_of_kind, value_of, text_of}
 
 sign_kind : (sign : Sign) (kind : TokenKind) → is_sign_kind sign kind ≡ true → kind ≡ token.Sign sign
 sign_kind sign (token.Sign other) h = ap token.Sign (sym (same_true signs tt sign other h))
@@ -89,6 +89,12 @@ class_met (abstract_name e) = ap is_class_kind e
 pub feature_met : {l : Lexeme} → IsFeature l → is_feature l ≡ true
 feature_met (lower_name e) = ap is_feature_kind e
 feature_met (iter_name e) = ap is_feature_kind e
+
+pub sign_is : (sign : Sign) → is_sign_kind sign (token.Sign sign) ≡ true
+sign_is sign = true_same signs sign sign refl
+
+pub word_is : (word : Word) → is_word_kind word (token.Word word) ≡ true
+word_is word = true_same words word word refl
 
 -- another sign and another word
 pub other_sign : (other : Sign) {sign : Sign} {l : Lexeme} → sameb signs other sign ≡ false → IsSign sign l → is_sign other l ≡ false

@@ -1,9 +1,9 @@
 -- What is left isn't longer than what was there, and a form that opens with a lexeme takes it.
 use Rattle.std.proofs.Common.{◌≡◌, ℕ, zero, suc, ◌≤◌, Bool, true, false, cond, ◌||◌, List, [], ◌∷◌, length, refl, ap, arith}
 use Rattle.sa_parse_expr.specs.Lexemes.{Lexeme}
-use Rattle.sa_grammar.specs.Readings.{Reading, Read, Refused}
-use Rattle.sa_grammar.specs.Forms.{Form, give, refuse, shift, either, follow, separated, repeat, placed, nest, opens}
-use Rattle.sa_grammar.specs.Forms.{Reader, behind, with_read, shifted, chosen, place_of, listed, repeated, run, Nested, Tree}
+use Rattle.sa_parse_expr.specs.Readings.{Reading, Read, Refused}
+use Rattle.sa_parse_expr.specs.Forms.{Form, give, refuse, shift, either, follow, separated, repeat, placed, nest, opens}
+use Rattle.sa_parse_expr.specs.Forms.{Reader, behind, with_read, shifted, chosen, place_of, listed, repeated, run, Nested, Tree}
 
 -- what follows one of a list: a lexeme that meets the test, and others, or the end of the list
 abbrev pub behind_one : {A : Type 0} → ℕ → (Lexeme → Bool) → Reader A → A → Reader (List A)

@@ -9,8 +9,8 @@ use Rattle.sa_tree.specs.declared.ty.Mode.{Mode}
 use Rattle.sa_tree.specs.declared.ty.Mode.TheVariants.{In, Out, Inout, Once}
 use Rattle.sa_parse_expr.specs.declared.types.CallableKind.{CallableKind}
 use Rattle.sa_parse_expr.specs.declared.types.CallableKind.TheVariants.{Routine, Iter}
-use Rattle.sa_grammar.specs.Tests.{is_sign, is_word, is_class}
-use Rattle.sa_grammar.specs.Forms.{Form, give, refuse, shift, follow, list, nest, type, make, until}
+use Rattle.sa_parse_expr.specs.Tests.{is_sign, is_word, is_class}
+use Rattle.sa_parse_expr.specs.Forms.{Form, give, refuse, shift, follow, list, nest, type, make, until}
 
 unfoldable pub once_form : CallableKind → Form Mode
 once_form Routine = give In

@@ -7,13 +7,13 @@ use Rattle.sa_tree.specs.declared.contract.Condition.{Condition}
 use Rattle.sa_parse_expr.specs.declared.grammar.Scope.{Scope}
 use Rattle.sa_parse_expr.specs.declared.grammar.Scope.TheVariants.{Plain, PostClause}
 use Rattle.sa_parse_expr.specs.Lexemes.{Lexeme}
+use Rattle.sa_parse_expr.specs.Arounds.{outside}
+use Rattle.sa_parse_expr.specs.Tests.{is_sign, is_word, is_class_name}
+use Rattle.sa_parse_expr.specs.Forms.{Form, give, refuse, shift, follow, placed, nest, expr, make}
+use Rattle.sa_parse.specs.declared.contract.Clauses.{Clauses}
 use Rattle.sa_parse.specs.declared.file.FileKind.{FileKind}
 use Rattle.sa_parse.specs.declared.file.FileKind.TheVariants.{Prelude, Program}
 use Rattle.sa_parse.specs.Conditions.{no_clauses}
-use Rattle.sa_grammar.specs.Arounds.{outside}
-use Rattle.sa_grammar.specs.Tests.{is_sign, is_word, is_class_name}
-use Rattle.sa_grammar.specs.Forms.{Form, give, refuse, shift, follow, placed, nest, expr, make}
-use Rattle.sa_grammar.specs.Parts.{Clauses}
 
 -- expr, at its first lexeme
 unfoldable pub condition_form : Scope → Form Condition

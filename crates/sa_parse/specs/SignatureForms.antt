@@ -5,13 +5,13 @@ use Rattle.sa_tree.specs.declared.ty.Ty.{Ty}
 use Rattle.sa_tree.specs.declared.stmt.Local.{Local}
 use Rattle.sa_tree.specs.declared.class.Formal.{Formal}
 use Rattle.sa_parse_expr.specs.declared.types.CallableKind.{CallableKind}
-use Rattle.sa_grammar.specs.Parts.{Signature}
-use Rattle.sa_parse.specs.Names.{name_of}
+use Rattle.sa_parse_expr.specs.Lexemes.{name_of}
+use Rattle.sa_parse_expr.specs.Tests.{is_sign, is_feature}
+use Rattle.sa_parse_expr.specs.Forms.{Form, give, refuse, shift, follow, list, nest, type, make, until}
+use Rattle.sa_parse_expr.specs.TypeForms.{mode_form}
+use Rattle.sa_parse_expr.specs.StatementForms.{name_form, joined}
+use Rattle.sa_parse.specs.declared.signature.Signature.{Signature}
 use Rattle.sa_parse.specs.Signatures.{callable_of, formal_of}
-use Rattle.sa_grammar.specs.Tests.{is_sign, is_feature}
-use Rattle.sa_grammar.specs.Forms.{Form, give, refuse, shift, follow, list, nest, type, make, until}
-use Rattle.sa_grammar.specs.TypeForms.{mode_form}
-use Rattle.sa_grammar.specs.StatementForms.{name_form, joined}
 
 -- LNAME {"," LNAME}
 abbrev pub names_form : Form (List Local)

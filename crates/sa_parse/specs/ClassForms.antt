@@ -11,16 +11,17 @@ use Rattle.sa_tree.specs.declared.class.Kind.TheVariants.{Reference, Immutable, 
 use Rattle.sa_tree.specs.declared.class.Part.TheVariants as part
 use Rattle.sa_tree.specs.declared.class.Param.{Param}
 use Rattle.sa_tree.specs.declared.class.Feature.{Feature}
+use Rattle.sa_parse_expr.specs.Lexemes.{name_of}
+use Rattle.sa_parse_expr.specs.Tests.{is_sign, is_word, is_class_name, is_abstract_name}
+use Rattle.sa_parse_expr.specs.Forms.{Form, give, refuse, shift, either, follow, separated, repeat, list, nest, type, make, until, until_word}
+use Rattle.sa_parse_expr.specs.StatementForms.{joined}
 use Rattle.sa_parse.specs.declared.file.FileKind.{FileKind}
-use Rattle.sa_parse.specs.Names.{name_of}
 use Rattle.sa_parse.specs.Features.{Enclosing, feature_of}
 use Rattle.sa_parse.specs.Classes.{Written, invariants_of}
-use Rattle.sa_grammar.specs.Tests.{is_sign, is_word, is_class_name, is_abstract_name}
-use Rattle.sa_grammar.specs.Forms.{Form, give, refuse, shift, either, follow, separated, repeat, list, nest, type, make, until, until_word}
-use Rattle.sa_grammar.specs.Parts.{Declaration, Head}
-use Rattle.sa_grammar.specs.StatementForms.{joined}
-use Rattle.sa_grammar.specs.SignatureForms.{sig_form}
-use Rattle.sa_grammar.specs.FeatureForms.{member_form}
+use Rattle.sa_parse.specs.declared.class.Head.{Head}
+use Rattle.sa_parse.specs.declared.member.Declaration.{Declaration}
+use Rattle.sa_parse.specs.SignatureForms.{sig_form}
+use Rattle.sa_parse.specs.FeatureForms.{member_form}
 
 -- ---- heads
 

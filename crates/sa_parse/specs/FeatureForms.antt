@@ -2,6 +2,7 @@
 use Rattle.std.specs.Prelude.{ℕ, Bool, true, false, List, [], ◌∷◌, Option, Some, None, map}
 use Rattle.sa_lex.specs.declared.sign.Sign.TheVariants as sign
 use Rattle.sa_lex.specs.declared.word.Word.TheVariants as word
+use Rattle.sa_tree.specs.declared.ty.Ty.{Ty}
 use Rattle.sa_tree.specs.declared.stmt.Local.{Local}
 use Rattle.sa_tree.specs.declared.stmt.Stmt.{Stmt}
 use Rattle.sa_tree.specs.declared.class.Access.{Access}
@@ -11,18 +12,19 @@ use Rattle.sa_tree.specs.declared.class.Kind.TheVariants.{Partial}
 use Rattle.sa_tree.specs.declared.class.Part.TheVariants as part
 use Rattle.sa_tree.specs.declared.class.Feature.{Feature}
 use Rattle.sa_tree.specs.declared.class.Change.{Change}
-use Rattle.sa_parse_expr.specs.Lexemes.{Lexeme}
+use Rattle.sa_parse_expr.specs.Lexemes.{Lexeme, name_of}
+use Rattle.sa_parse_expr.specs.Tests.{is_sign, is_word, is_lower, is_feature}
+use Rattle.sa_parse_expr.specs.Forms.{Form, give, refuse, shift, either, follow, list, nest, type, stmts, make, until_word}
+use Rattle.sa_parse_expr.specs.StatementForms.{assigned_form, value_form}
 use Rattle.sa_parse.specs.declared.file.FileKind.{FileKind}
 use Rattle.sa_parse.specs.declared.file.FileKind.TheVariants.{Prelude, Program}
 use Rattle.sa_parse.specs.Conditions.{no_clauses}
 use Rattle.sa_parse.specs.Features.{Enclosing, variable_of, counted_from, feature_of}
-use Rattle.sa_parse.specs.Names.{name_of}
-use Rattle.sa_grammar.specs.Tests.{is_sign, is_word, is_lower, is_feature}
-use Rattle.sa_grammar.specs.Forms.{Form, give, refuse, shift, either, follow, list, nest, type, stmts, make, until_word}
-use Rattle.sa_grammar.specs.Parts.{SharedParts, Declaration, called_of, variables_of, invariant_of, include_of}
-use Rattle.sa_grammar.specs.StatementForms.{assigned_form, value_form}
-use Rattle.sa_grammar.specs.SignatureForms.{names_form, sig_form}
-use Rattle.sa_grammar.specs.ConditionForms.{clauses_form, holding_form}
+use Rattle.sa_parse.specs.declared.declared.SharedParts.{SharedParts}
+use Rattle.sa_parse.specs.declared.member.Declaration.{Declaration}
+use Rattle.sa_parse.specs.declared.member.Declaration.TheVariants as member
+use Rattle.sa_parse.specs.SignatureForms.{names_form, sig_form}
+use Rattle.sa_parse.specs.ConditionForms.{clauses_form, holding_form}
 
 -- ---- includes
 
@@ -48,6 +50,10 @@ change_form = shift is_feature (λ f. shift (is_sign sign.Arrow) (λ _. changed_
 -- [change {"," change}]
 unfoldable pub optional_changes_form : Form (List Change)
 optional_changes_form = either (list change_form) (give [])
+
+-- an include of this type
+abbrev pub include_of : Bool → Ty → List Change → Declaration
+include_of private t changes = member.Include (record { ty = t; private = private; changes = changes })
 
 -- type [change {"," change}], behind the "include"
 unfoldable pub include_form : Bool → Form Declaration
@@ -96,8 +102,8 @@ constants_form access =
 -- attr | shared, or else another form
 unfoldable pub declared_or : Access → Form Declaration → Form Declaration
 declared_or access other =
-    shift (is_word word.Attr) (λ _. make variables_of (attr_form access))
-    (shift (is_word word.Shared) (λ _. make variables_of (shared_form access)) other)
+    shift (is_word word.Attr) (λ _. make member.Variables (attr_form access))
+    (shift (is_word word.Shared) (λ _. make member.Variables (shared_form access)) other)
 
 -- ---- features
 
@@ -110,19 +116,19 @@ unfoldable pub routine_form : Enclosing → Access → Form Declaration
 routine_form class access =
     follow sig_form
     (λ sig. follow (clauses_form class.file_kind)
-    (λ clauses. make (λ body. called_of (feature_of sig access (part.Routine body)) clauses) whole_body_form))
+    (λ clauses. make (λ body. member.Called (feature_of sig access (part.Routine body)) clauses) whole_body_form))
 
 -- stub, which stands in partial classes alone, or else another form
 unfoldable pub stub_or : Kind → Access → Form Declaration → Form Declaration
 stub_or Partial access other =
-    shift (is_word word.Stub) (λ _. make (λ sig. called_of (feature_of sig access part.Stub) no_clauses) sig_form) other
+    shift (is_word word.Stub) (λ _. make (λ sig. member.Called (feature_of sig access part.Stub) no_clauses) sig_form) other
 stub_or _ access other = other
 
 -- builtin, which stands in the prelude alone, or else another form
 unfoldable pub builtin_or : FileKind → List ℕ → Access → Form Declaration → Form Declaration
 builtin_or Prelude name access other =
     shift (is_word word.Builtin)
-    (λ _. make (λ sig. called_of (feature_of sig access (part.Builtin name sig.name.name)) no_clauses) sig_form)
+    (λ _. make (λ sig. member.Called (feature_of sig access (part.Builtin name sig.name.name)) no_clauses) sig_form)
     other
 builtin_or Program name access other = other
 
@@ -135,13 +141,13 @@ is_private _ = false
 unfoldable pub open_form : Enclosing → Access → Form Declaration
 open_form class access =
     declared_or access
-    (shift (is_word word.Const) (λ _. make variables_of (constants_form access))
+    (shift (is_word word.Const) (λ _. make member.Variables (constants_form access))
     (shift (is_word word.Include) (λ _. include_form (is_private access))
     (stub_or class.kind access (builtin_or class.file_kind class.name access (routine_form class access)))))
 
 -- invariant, which the prelude has none of, where one may stand, or else another form
 unfoldable pub invariant_or : FileKind → Bool → Form Declaration → Form Declaration
-invariant_or Program true other = shift (is_word word.Invariant) (λ _. make invariant_of holding_form) other
+invariant_or Program true other = shift (is_word word.Invariant) (λ _. make member.Invariant holding_form) other
 invariant_or _ _ other = other
 
 -- member = ["private"] (routine | stub | builtin | const | include) | ["private" | "readonly"] (attr | shared) | invariant, where

@@ -1,10 +1,10 @@
 -- The reader of the grammar: each production that nests, by its form.
 use Rattle.std.specs.Prelude.{ℕ, zero, suc, length}
-use Rattle.sa_grammar.specs.Readings.{Refused}
-use Rattle.sa_grammar.specs.Forms.{Form, Reader, Nested, Tree, type, expr, unary, power, post, stmts, run}
-use Rattle.sa_grammar.specs.TypeForms.{type_form}
-use Rattle.sa_grammar.specs.ExpressionForms.{expr_form, unary_form, power_form, post_form}
-use Rattle.sa_grammar.specs.StatementForms.{stmts_form}
+use Rattle.sa_parse_expr.specs.Readings.{Refused}
+use Rattle.sa_parse_expr.specs.Forms.{Form, Reader, Nested, Tree, type, expr, unary, power, post, stmts, run}
+use Rattle.sa_parse_expr.specs.TypeForms.{type_form}
+use Rattle.sa_parse_expr.specs.ExpressionForms.{expr_form, unary_form, power_form, post_form}
+use Rattle.sa_parse_expr.specs.StatementForms.{stmts_form}
 
 unfoldable pub form_of : (n : Nested) → Form (Tree n)
 form_of type = type_form
