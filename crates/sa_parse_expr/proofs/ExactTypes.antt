@@ -1,10 +1,13 @@
 -- Types, as their forms read them: a lemma for each alternative that a reader decides by the token that stands there.
-use Rattle.std.proofs.Common.{◌≡◌, ◌≢◌, ℕ, ◌+◌, List, [], Option, Some, None, refl, sym, ap, ◌∙◌}
+use Rattle.std.proofs.Common.{◌≡◌, ◌≢◌, ℕ, ◌+◌, true, false, ◌||◌, List, [], Option, Some, None, refl, sym, ap, ◌∙◌}
 use Rattle.std.proofs.lemmas.Bool.{false_from_ne_true}
+use denote.Enum.Bare.{sameb}
 use Rattle.sa_lex.specs.declared.token.TokenKind.{TokenKind}
 use Rattle.sa_lex.specs.declared.token.TokenKind.TheVariants as token
 use Rattle.sa_lex.specs.declared.sign.Sign.TheVariants as sign
+use Rattle.sa_lex.specs.declared.word.Word.{Word}
 use Rattle.sa_lex.specs.declared.word.Word.TheVariants as word
+use Rattle.sa_lex.specs.contracts.word.Word.{the_type as words}
 use Rattle.sa_tree.specs.declared.pos.Pos.{Pos}
 use Rattle.sa_tree.specs.declared.ty.Ty.{Ty}
 use Rattle.sa_tree.specs.declared.ty.Ty.TheVariants as ty
@@ -15,17 +18,36 @@ use Rattle.sa_parse_expr.specs.declared.tokens.Tokens.{Tokens}
 use Rattle.sa_parse_expr.specs.declared.types.CallableKind.{CallableKind}
 use Rattle.sa_parse_expr.specs.declared.types.CallableKind.TheVariants.{Routine, Iter}
 use Rattle.sa_parse_expr.specs.Exactly.{lexemes_from, Takes}
-use Rattle.sa_parse_expr.specs.Forms.{follow, list, nest, type, make, until}
+use Rattle.sa_parse_expr.specs.ExpressionForms.{optional_type_form}
+use Rattle.sa_parse_expr.specs.Forms.{follow, list, nest, type, make, until, opens}
 use Rattle.sa_parse_expr.specs.Grammar.{form_of}
 use Rattle.sa_parse_expr.specs.Lexemes.{Lexeme, IsClass, class_name, abstract_name, Stands, lexeme_at}
 use Rattle.sa_parse_expr.specs.Places.{kind_at, bytes_at}
 use Rattle.sa_parse_expr.specs.Readings.{Reading, Read, Refused}
-use Rattle.sa_parse_expr.specs.Tests.{is_class}
+use Rattle.sa_parse_expr.specs.Starts.{begins_type, word_begins_type}
+use Rattle.sa_parse_expr.specs.Tests.{is_class, is_class_kind, is_word_kind}
 use Rattle.sa_parse_expr.specs.TypeForms.{once_form, mode_form, given_types_form, mode_type_form, bound_args_form, bound_result_form, type_form}
-use Rattle.sa_parse_expr.proofs.Runs.{Runs, taken, takes, gives, refused, met, not_met, another, follows, makes, nests, shut_by, shut_sign, shut_word}
+use Rattle.sa_parse_expr.proofs.Runs.{Runs, taken, takes, gives, refused, met, not_met, another, follows, makes, nests, nested, first_one, second_one, meets_by, shut_by, shut_sign, shut_word}
 use Rattle.sa_parse_expr.proofs.Shifts.{Shut}
 use Rattle.sa_parse_expr.proofs.Stretches.{pos_at}
 use Rattle.sa_parse_expr.proofs.Tested.{class_met, class_stands, sign_is, word_is}
+
+-- which lexeme the form of a type opens with
+opening_word : (w : Word) → (sameb words word.Same w || (sameb words word.Rout w || (sameb words word.Iter w || false))) ≡ word_begins_type w
+opening_word word.Same = refl
+opening_word word.Rout = refl
+opening_word word.Iter = refl
+opening_word _ = refl
+
+opening_kind : (kind : TokenKind) → (is_class_kind kind || (is_word_kind word.Same kind || (is_word_kind word.Rout kind || (is_word_kind word.Iter kind || false)))) ≡ begins_type (Some kind)
+opening_kind token.ClassName = refl
+opening_kind token.AbstractName = refl
+opening_kind (token.Word w) = opening_word w
+opening_kind _ = refl
+
+opening : (l : Lexeme) → opens type_form l ≡ begins_type (Some l.kind)
+unfolding type_form
+opening l = opening_kind l.kind
 
 module _ (t : Tokens) where
   pub mode_out : (callable : CallableKind) (at : ℕ) → kind_at t.list.now at ≡ Some (token.Word word.Out) → Takes (mode_form callable) t at Out (at + 1)
@@ -206,3 +228,19 @@ module _ (t : Tokens) where
     no_class =
         shut_by t is_class at (λ kind there.
         false_from_ne_true (is_class (lexeme_at t at kind)) (λ met. neither kind (lexeme_at t at kind) there refl (class_stands (lexeme_at t at kind) met)))
+
+  -- ---- what may be left out
+
+  pub as_form : {at : ℕ} {v : Reading Ty} → Runs t (nest type) at v → Runs t type_form at v
+  unfolding form_of
+  as_form r = nested t type r
+
+  pub type_there : (at : ℕ) (kind : TokenKind) → kind_at t.list.now at ≡ Some kind → begins_type (kind_at t.list.now at) ≡ true → {v : Reading (Option Ty)}
+      → Runs t (make Some type_form) at v → Runs t optional_type_form at v
+  unfolding optional_type_form
+  type_there at kind there h r = first_one t (meets_by t (opens type_form) at kind there (opening (lexeme_at t at kind) ∙ sym (ap begins_type there) ∙ h)) r
+
+  pub type_absent : (at : ℕ) → begins_type (kind_at t.list.now at) ≡ false → Takes optional_type_form t at None at
+  unfolding optional_type_form
+  type_absent at h =
+      takes t (second_one t (shut_by t (opens type_form) at (λ kind there. opening (lexeme_at t at kind) ∙ sym (ap begins_type there) ∙ h)) (gives t))

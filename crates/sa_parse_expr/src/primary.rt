@@ -17,6 +17,8 @@ ghost use Rattle.sa_lex.specs.declared.word.Word.TheVariants as word;
 ghost use Rattle.sa_parse_expr.specs.declared.grammar.Around.TheVariants.{Open};
 ghost use Rattle.sa_parse_expr.specs.declared.grammar.Around.{Around};
 ghost use Rattle.sa_parse_expr.specs.declared.grammar.Scope.TheVariants.{PostClause};
+ghost use Rattle.sa_parse_expr.specs.Exactly.{ReadsAs};
+ghost use Rattle.sa_parse_expr.specs.ExpressionForms.{optional_type_form};
 ghost use Rattle.sa_parse_expr.specs.Expressions.{ContinuesTexts, IsFirst, IsOptionalType, IsParenthesised};
 ghost use Rattle.sa_parse_expr.specs.Lexemes.{between};
 ghost use Rattle.sa_parse_expr.specs.Nests.{Nests};
@@ -269,6 +271,7 @@ fn optional_type(
     ensures next { IfOk result (λ read. IsFrom tokens.now.list.now from read.1) }
     ensures spelled { IfOk result (λ read. IsOptionalType (between tokens.now from read.1) read.0) }
     ensures refused { IfErr result (IsUnexpected tokens.now.file) }
+    ensures exact { ReadsAs optional_type_form tokens.now from result }
 {
     if !begins_type(tokens.kind(from)) {
         return Ok((None, from));
