@@ -7,6 +7,8 @@ use Rattle.sa_tree.specs.declared.ty.Mode.TheVariants.{In}
 use Rattle.sa_tree.specs.declared.expr.Given.TheVariants.{Value}
 use Rattle.sa_tree.specs.declared.expr.Expr.{Expr}
 use Rattle.sa_tree.specs.declared.expr.Expr.TheVariants as tree
+use Rattle.sa_parse_expr.specs.declared.grammar.Around as code
+use Rattle.sa_parse_expr.specs.declared.grammar.Around.TheVariants.{Open, Items}
 use Rattle.sa_parse_expr.specs.declared.grammar.Scope.{Scope}
 use Rattle.sa_parse_expr.specs.declared.grammar.Scope.TheVariants.{Plain}
 use Rattle.sa_parse_expr.specs.Lexemes.{Lexeme, IsSign}
@@ -41,3 +43,7 @@ pub data Where : Type 0 where
 abbrev pub around_of : Where → Around
 around_of outside = around_value {s = Plain} {ls = []} {e = tree.Me any_lexeme.pos} exprs.in_value
 around_of in_array = around_items {s = Plain} {l = any_lexeme} {ls = []} {es = []} (λ bar among. exprs.items bar among bar)
+
+abbrev pub where_of : code.Around → Where
+where_of Open = outside
+where_of Items = in_array

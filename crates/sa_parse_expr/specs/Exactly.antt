@@ -1,13 +1,25 @@
 -- What is read of a file's tokens is what a form of the grammar reads of their lexemes, exactly.
-use Rattle.std.specs.Prelude.{◌≡◌, ⊤, ℕ, List, drop, Result, Ok, Err}
+use Rattle.std.specs.Prelude.{◌≡◌, ⊤, ℕ, List, drop, Option, Result, Ok, Err}
+use Rattle.std.specs.Option.{option_and_then}
+use Rattle.sa_lex.specs.declared.token.TokenKind.{TokenKind}
+use Rattle.sa_tree.specs.declared.expr.Op.{Op}
 use Rattle.sa_tree.specs.declared.refusal.FrontFault.{FrontFault}
 use Rattle.sa_tree.specs.declared.refusal.FrontFault.TheVariants as fault
+use Rattle.sa_tree.specs.declared.expr.Expr.{Expr}
+use Rattle.sa_parse_expr.specs.declared.grammar.Form as code
+use Rattle.sa_parse_expr.specs.declared.grammar.Form.TheVariants as code_form
+use Rattle.sa_parse_expr.specs.declared.grammar.Scope.{Scope}
+use Rattle.sa_parse_expr.specs.declared.operators.Precedence.{Precedence}
+use Rattle.sa_parse_expr.specs.declared.operators.Precedence.TheVariants.{Logical, Comparing, Adding, Multiplying}
 use Rattle.sa_parse_expr.specs.declared.tokens.Tokens.{Tokens}
-use Rattle.sa_parse_expr.specs.Forms.{Form}
+use Rattle.sa_parse_expr.specs.Arounds.{Where, outside, where_of}
+use Rattle.sa_parse_expr.specs.ExpressionForms.{expr_form, comparison_form, sum_form, product_form, unary_form}
+use Rattle.sa_parse_expr.specs.Forms.{Form, nest, expr, post}
 use Rattle.sa_parse_expr.specs.Grammar.{read_as}
 use Rattle.sa_parse_expr.specs.Lexemes.{Lexeme, lexemes_of}
-use Rattle.sa_parse_expr.specs.Places.{unexpected_at}
+use Rattle.sa_parse_expr.specs.Places.{kind_at, unexpected_at}
 use Rattle.sa_parse_expr.specs.Readings.{Read, Refused}
+use Rattle.sa_parse_expr.specs.Tests.{logical_kind, comparing_kind, adding_kind, multiplying_kind}
 
 -- the lexemes of a file from a place on
 unfoldable pub lexemes_from : Tokens → ℕ → List Lexeme
@@ -28,3 +40,32 @@ abbrev pub ReadsAs : {A : Type 0} → Form A → Tokens → ℕ → Result (A ×
 ReadsAs form t from (Ok read) = Takes form t from read.0 read.1
 ReadsAs form t from (Err (fault.Refused refusal)) = Refuses form t from (fault.Refused refusal)
 ReadsAs form t from (Err fault.NoMemory) = ⊤
+
+-- the form of a production of expressions that nests
+abbrev pub nested_form : Scope → code.Form → Form Expr
+nested_form s (code_form.Expr around) = nest (expr s (where_of around))
+nested_form s code_form.Post = nest (post s outside)
+
+-- ---- operators by their precedence
+
+abbrev pub operators_of : Precedence → TokenKind → Option Op
+operators_of Logical = logical_kind
+operators_of Comparing = comparing_kind
+operators_of Adding = adding_kind
+operators_of Multiplying = multiplying_kind
+
+-- the one of these that stands at a place
+abbrev pub operator_at : (TokenKind → Option Op) → Tokens → ℕ → Option Op
+operator_at operators t at = option_and_then operators (kind_at t.list.now at)
+
+abbrev pub operation_of : Precedence → Scope → Where → Form Expr
+operation_of Logical = expr_form
+operation_of Comparing = comparison_form
+operation_of Adding = sum_form
+operation_of Multiplying = product_form
+
+abbrev pub operand_of : Precedence → Scope → Where → Form Expr
+operand_of Logical = comparison_form
+operand_of Comparing = sum_form
+operand_of Adding = product_form
+operand_of Multiplying = unary_form

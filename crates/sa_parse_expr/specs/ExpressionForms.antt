@@ -55,6 +55,10 @@ places_form s = until sign.RightBracket (list (nest (expr s outside)))
 unfoldable pub inside_form : Scope → Form Expr
 inside_form s = until sign.RightParen (nest (expr s outside))
 
+-- "(" expr ")"
+unfoldable pub parenthesised_form : Scope → Form Expr
+parenthesised_form s = shift (is_sign sign.LeftParen) (λ _. inside_form s) refuse
+
 -- ["(" expr ")"], and what it makes where it is absent and where it stands
 unfoldable pub optional_form : Scope → Expr → (Expr → Expr) → Form Expr
 optional_form s absent of = shift (is_sign sign.LeftParen) (λ _. make of (inside_form s)) (give absent)

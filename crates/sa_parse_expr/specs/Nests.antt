@@ -7,6 +7,7 @@ use Rattle.sa_tree.specs.declared.refusal.FrontFault.{FrontFault}
 use Rattle.sa_parse_expr.specs.declared.tokens.Tokens.{Tokens}
 use Rattle.sa_parse_expr.specs.declared.grammar.Form.{Form}
 use Rattle.sa_parse_expr.specs.declared.grammar.Scope.{Scope}
+use Rattle.sa_parse_expr.specs.Exactly.{ReadsAs, nested_form}
 use Rattle.sa_parse_expr.specs.Expressions.{IsForm}
 use Rattle.sa_parse_expr.specs.Lexemes.{between}
 use Rattle.sa_parse_expr.specs.Places.{IsBehind, IsUnexpected}
@@ -21,6 +22,9 @@ pub record Nests (from : ℕ) (pre : Global → Bor Tokens → Scope → Form �
   pub spelled : (alloc : Global) (tokens : Bor Tokens) (scope : Scope) (form : Form) (at : ℕ) (r : Result (Expr × ℕ) FrontFault)
       → post alloc tokens scope form at r
       → IfOk r (λ read. IsForm scope form (between tokens.now at read.1) read.0)
+  pub exact : (alloc : Global) (tokens : Bor Tokens) (scope : Scope) (form : Form) (at : ℕ) (r : Result (Expr × ℕ) FrontFault)
+      → post alloc tokens scope form at r
+      → ReadsAs (nested_form scope form) tokens.now at r
   pub refused : (alloc : Global) (tokens : Bor Tokens) (scope : Scope) (form : Form) (at : ℕ) (r : Result (Expr × ℕ) FrontFault)
       → post alloc tokens scope form at r
       → IfErr r (IsUnexpected tokens.now.file)

@@ -2,11 +2,14 @@
 
 ghost use Rattle.std.specs.Prelude.{◌<◌, All, IfErr, IfOk, length, slice_range};
 ghost use Rattle.sa_lex.specs.Token.{IsWithin};
-ghost use Rattle.sa_parse_expr.specs.declared.grammar.Around.TheVariants.{Open};
-ghost use Rattle.sa_parse_expr.specs.declared.grammar.Scope.TheVariants.{Plain};
+ghost use Rattle.sa_parse_expr.specs.Arounds.{outside};
+ghost use Rattle.sa_parse_expr.specs.Exactly.{ReadsAs};
 ghost use Rattle.sa_parse_expr.specs.Expressions.{IsExpr};
+ghost use Rattle.sa_parse_expr.specs.Forms.{expr, nest};
 ghost use Rattle.sa_parse_expr.specs.Lexemes.{between, lexemes_of};
 ghost use Rattle.sa_parse_expr.specs.Places.{IsBehind, IsUnexpected};
+ghost use Rattle.sa_parse_expr.specs.declared.grammar.Around.TheVariants.{Open};
+ghost use Rattle.sa_parse_expr.specs.declared.grammar.Scope.TheVariants.{Plain};
 
 use crate::grammar::{Around, Form, Scope, read_form};
 use crate::tokens::Tokens;
@@ -21,6 +24,7 @@ pub fn read_expr(alloc: Global, tokens: &Tokens<'_>, from: u32) -> Result<(Expr,
     ensures next { IfOk result (λ read. IsBehind tokens.now.list.now from read.1) }
     ensures spelled { IfOk result (λ read. IsExpr Plain Open (between tokens.now from read.1) read.0) }
     ensures refused { IfErr result (IsUnexpected tokens.now.file) }
+    ensures exact { ReadsAs (nest (expr Plain outside)) tokens.now from result }
 {
     read_condition(alloc, tokens, Scope::Plain, from)
 }
@@ -37,6 +41,7 @@ pub fn read_condition(
     ensures next { IfOk result (λ read. IsBehind tokens.now.list.now from read.1) }
     ensures spelled { IfOk result (λ read. IsExpr scope Open (between tokens.now from read.1) read.0) }
     ensures refused { IfErr result (IsUnexpected tokens.now.file) }
+    ensures exact { ReadsAs (nest (expr scope outside)) tokens.now from result }
 {
     read_form(alloc, tokens, scope, Form::Expr(Around::Open), from)
 }

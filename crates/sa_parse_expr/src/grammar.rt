@@ -2,6 +2,7 @@
 //! expression as a parameter, so that each is proved by itself.
 
 ghost use Rattle.std.specs.Prelude.{◌<◌, IfErr, IfOk};
+ghost use Rattle.sa_parse_expr.specs.Exactly.{ReadsAs, nested_form};
 ghost use Rattle.sa_parse_expr.specs.Expressions.{IsForm};
 ghost use Rattle.sa_parse_expr.specs.Lexemes.{between};
 ghost use Rattle.sa_parse_expr.specs.Nests.{Nests};
@@ -65,6 +66,7 @@ impl<F: Fn(Global, &Tokens<'_>, Scope, Form, u32) -> Result<(Expr, u32), FrontFa
         ensures next { IfOk result (λ read. IsBehind self.now.tokens.list.now from read.1) }
         ensures spelled { IfOk result (λ read. IsForm scope form (between self.now.tokens from read.1) read.0) }
         ensures refused { IfErr result (IsUnexpected self.now.tokens.file) }
+        ensures exact { ReadsAs (nested_form scope form) self.now.tokens from result }
     {
         (self.nested)(self.alloc, &self.tokens, scope, form, from)
     }
@@ -81,6 +83,7 @@ pub(crate) fn read_form(
     ensures next { IfOk result (λ read. IsBehind tokens.now.list.now from read.1) }
     ensures spelled { IfOk result (λ read. IsForm scope form (between tokens.now from read.1) read.0) }
     ensures refused { IfErr result (IsUnexpected tokens.now.file) }
+    ensures exact { ReadsAs (nested_form scope form) tokens.now from result }
 {
     let grammar = Grammar {
         alloc,

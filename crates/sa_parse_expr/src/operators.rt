@@ -15,11 +15,15 @@
 
 ghost use Rattle.std.specs.Prelude.{◌≡◌, ◌<◌, ◌≤◌, IfErr, IfOk, IfSome, OnSome, length};
 ghost use Rattle.sa_tree.specs.declared.expr.Expr.TheVariants as tree;
+ghost use Rattle.sa_parse_expr.specs.Arounds.{where_of};
+ghost use Rattle.sa_parse_expr.specs.Exactly.{ReadsAs, operand_of, operation_of, operator_at, operators_of};
+ghost use Rattle.sa_parse_expr.specs.ExpressionForms.{expr_form, power_form, unary_form};
 ghost use Rattle.sa_parse_expr.specs.Expressions.{IsAdding, IsComparing, IsLogical, IsMultiplying, IsOperator, IsPrefix};
 ghost use Rattle.sa_parse_expr.specs.Expressions.{IsExpr, IsOperand, IsOperation, IsPower, IsUnary};
 ghost use Rattle.sa_parse_expr.specs.Lexemes.{Stands, between};
 ghost use Rattle.sa_parse_expr.specs.Nests.{Nests};
 ghost use Rattle.sa_parse_expr.specs.Places.{IsBehind, IsUnexpected};
+ghost use Rattle.sa_parse_expr.specs.Tests.{adding_kind, comparing_kind, logical_kind, multiplying_kind, prefix_kind};
 
 use crate::grammar::{Around, Form, Grammar, Scope};
 use crate::tokens::Tokens;
@@ -54,6 +58,7 @@ fn binary(alloc: Global, op: Op, left: Expr, right: Expr, pos: Pos) -> Result<Ex
 fn operator(precedence: Precedence, tokens: &Tokens<'_>, at: u32) -> Option<Op>
     ensures within { OnSome result (at < length tokens.now.list.now) }
     ensures spelled { IfSome result (λ op. Stands (IsOperator precedence op) tokens.now at) }
+    ensures exact { result ≡ operator_at (operators_of precedence) tokens.now at }
 {
     match precedence {
         Precedence::Logical => logical(tokens, at),
@@ -67,6 +72,7 @@ fn operator(precedence: Precedence, tokens: &Tokens<'_>, at: u32) -> Option<Op>
 fn logical(tokens: &Tokens<'_>, at: u32) -> Option<Op>
     ensures within { OnSome result (at < length tokens.now.list.now) }
     ensures spelled { IfSome result (λ op. Stands (IsLogical op) tokens.now at) }
+    ensures exact { result ≡ operator_at logical_kind tokens.now at }
 {
     match tokens.kind(at) {
         Some(TokenKind::Word(Word::And)) => Some(Op::And),
@@ -79,6 +85,7 @@ fn logical(tokens: &Tokens<'_>, at: u32) -> Option<Op>
 fn comparing(tokens: &Tokens<'_>, at: u32) -> Option<Op>
     ensures within { OnSome result (at < length tokens.now.list.now) }
     ensures spelled { IfSome result (λ op. Stands (IsComparing op) tokens.now at) }
+    ensures exact { result ≡ operator_at comparing_kind tokens.now at }
 {
     match tokens.kind(at) {
         Some(TokenKind::Sign(Sign::Equal)) => Some(Op::Eq),
@@ -95,6 +102,7 @@ fn comparing(tokens: &Tokens<'_>, at: u32) -> Option<Op>
 fn adding(tokens: &Tokens<'_>, at: u32) -> Option<Op>
     ensures within { OnSome result (at < length tokens.now.list.now) }
     ensures spelled { IfSome result (λ op. Stands (IsAdding op) tokens.now at) }
+    ensures exact { result ≡ operator_at adding_kind tokens.now at }
 {
     match tokens.kind(at) {
         Some(TokenKind::Sign(Sign::Plus)) => Some(Op::Plus),
@@ -107,6 +115,7 @@ fn adding(tokens: &Tokens<'_>, at: u32) -> Option<Op>
 fn multiplying(tokens: &Tokens<'_>, at: u32) -> Option<Op>
     ensures within { OnSome result (at < length tokens.now.list.now) }
     ensures spelled { IfSome result (λ op. Stands (IsMultiplying op) tokens.now at) }
+    ensures exact { result ≡ operator_at multiplying_kind tokens.now at }
 {
     match tokens.kind(at) {
         Some(TokenKind::Sign(Sign::Star)) => Some(Op::Times),
@@ -120,6 +129,7 @@ fn multiplying(tokens: &Tokens<'_>, at: u32) -> Option<Op>
 fn prefix(tokens: &Tokens<'_>, at: u32) -> Option<Op>
     ensures within { OnSome result (at < length tokens.now.list.now) }
     ensures spelled { IfSome result (λ op. Stands (IsPrefix op) tokens.now at) }
+    ensures exact { result ≡ operator_at prefix_kind tokens.now at }
 {
     match tokens.kind(at) {
         Some(TokenKind::Sign(Sign::Minus)) => Some(Op::Negate),
@@ -139,6 +149,7 @@ impl<F: Fn(Global, &Tokens<'_>, Scope, Form, u32) -> Result<(Expr, u32), FrontFa
         ensures next { IfOk result (λ read. IsBehind self.now.tokens.list.now from read.1) }
         ensures spelled { IfOk result (λ read. IsExpr self.now.scope around (between self.now.tokens from read.1) read.0) }
         ensures refused { IfErr result (IsUnexpected self.now.tokens.file) }
+        ensures exact { ReadsAs (expr_form self.now.scope (where_of around)) self.now.tokens from result }
     {
         self.operation(Precedence::Logical, around, from)
     }
@@ -156,6 +167,7 @@ impl<F: Fn(Global, &Tokens<'_>, Scope, Form, u32) -> Result<(Expr, u32), FrontFa
         ensures next { IfOk result (λ read. IsBehind self.now.tokens.list.now from read.1) }
         ensures spelled { IfOk result (λ read. IsOperation self.now.scope precedence around (between self.now.tokens from read.1) read.0) }
         ensures refused { IfErr result (IsUnexpected self.now.tokens.file) }
+        ensures exact { ReadsAs (operation_of precedence self.now.scope (where_of around)) self.now.tokens from result }
     {
         let (mut left, mut next) = self.operand(precedence, around, from)?;
         'more: while let Some(op) = operator(precedence, &self.tokens, next) {
@@ -179,6 +191,7 @@ impl<F: Fn(Global, &Tokens<'_>, Scope, Form, u32) -> Result<(Expr, u32), FrontFa
         ensures next { IfOk result (λ read. IsBehind self.now.tokens.list.now from read.1) }
         ensures spelled { IfOk result (λ read. IsOperand self.now.scope precedence around (between self.now.tokens from read.1) read.0) }
         ensures refused { IfErr result (IsUnexpected self.now.tokens.file) }
+        ensures exact { ReadsAs (operand_of precedence self.now.scope (where_of around)) self.now.tokens from result }
     {
         match precedence {
             Precedence::Logical => self.operation(Precedence::Comparing, around, from),
@@ -195,6 +208,7 @@ impl<F: Fn(Global, &Tokens<'_>, Scope, Form, u32) -> Result<(Expr, u32), FrontFa
         ensures next { IfOk result (λ read. IsBehind self.now.tokens.list.now from read.1) }
         ensures spelled { IfOk result (λ read. IsUnary self.now.scope around (between self.now.tokens from read.1) read.0) }
         ensures refused { IfErr result (IsUnexpected self.now.tokens.file) }
+        ensures exact { ReadsAs (unary_form self.now.scope (where_of around)) self.now.tokens from result }
     {
         let Some(op) = prefix(&self.tokens, from) else {
             return self.power(around, from);
@@ -211,6 +225,7 @@ impl<F: Fn(Global, &Tokens<'_>, Scope, Form, u32) -> Result<(Expr, u32), FrontFa
         ensures next { IfOk result (λ read. IsBehind self.now.tokens.list.now from read.1) }
         ensures spelled { IfOk result (λ read. IsPower self.now.scope around (between self.now.tokens from read.1) read.0) }
         ensures refused { IfErr result (IsUnexpected self.now.tokens.file) }
+        ensures exact { ReadsAs (power_form self.now.scope (where_of around)) self.now.tokens from result }
     {
         let (base, next) = self.post(around, from)?;
         if !self.tokens.is_sign(next, Sign::Caret) {

@@ -11,14 +11,18 @@
 //! F is a lower name or an iter name. A call stands at this name, and an index at the first token of the whole form, a
 //! parenthesis among them.
 
-ghost use Rattle.std.specs.Prelude.{◌≡◌, ◌<◌, ◌≤◌, IfErr, IfOk, Some, length};
+ghost use Rattle.std.specs.Prelude.{◌+◌, ◌≡◌, ◌<◌, ◌≤◌, IfErr, IfOk, length, Some};
 ghost use Rattle.sa_lex.specs.declared.sign.Sign.TheVariants as sign;
 ghost use Rattle.sa_lex.specs.declared.token.TokenKind.TheVariants as token;
-ghost use Rattle.sa_parse_expr.specs.declared.grammar.Scope.{Scope};
+ghost use Rattle.sa_parse_expr.specs.Arounds.{where_of};
+ghost use Rattle.sa_parse_expr.specs.Exactly.{ReadsAs};
+ghost use Rattle.sa_parse_expr.specs.ExpressionForms.{arg_form, args_form, call_form, places_form, post_form};
 ghost use Rattle.sa_parse_expr.specs.Expressions.{GivesMode, IsArg, IsArgList, IsArgs, IsCall, IsExprs, IsIndex, IsPost};
+ghost use Rattle.sa_parse_expr.specs.Forms.{expr, list, nest};
 ghost use Rattle.sa_parse_expr.specs.Lexemes.{between};
 ghost use Rattle.sa_parse_expr.specs.Nests.{Nests};
 ghost use Rattle.sa_parse_expr.specs.Places.{IsBehind, IsFrom, IsUnexpected, kind_at};
+ghost use Rattle.sa_parse_expr.specs.declared.grammar.Scope.{Scope};
 
 use crate::grammar::{Around, Form, Grammar, Scope};
 use crate::tokens::Tokens;
@@ -39,6 +43,7 @@ impl<F: Fn(Global, &Tokens<'_>, Scope, Form, u32) -> Result<(Expr, u32), FrontFa
         ensures next { IfOk result (λ read. IsBehind self.now.tokens.list.now from read.1) }
         ensures spelled { IfOk result (λ read. IsPost self.now.scope around (between self.now.tokens from read.1) read.0) }
         ensures refused { IfErr result (IsUnexpected self.now.tokens.file) }
+        ensures exact { ReadsAs (post_form self.now.scope (where_of around)) self.now.tokens from result }
     {
         let (mut of, mut next) = self.first(around, from)?;
         'more: loop {
@@ -65,6 +70,7 @@ impl<F: Fn(Global, &Tokens<'_>, Scope, Form, u32) -> Result<(Expr, u32), FrontFa
         ensures next { IfOk result (λ read. IsBehind self.now.tokens.list.now from read.1) }
         ensures spelled { IfOk result (λ read. IsCall self.now.scope on (between self.now.tokens from read.1) read.0) }
         ensures refused { IfErr result (IsUnexpected self.now.tokens.file) }
+        ensures exact { ReadsAs (call_form self.now.scope on) self.now.tokens from result }
     {
         if !self.tokens.is_feature_name(from) {
             return Err(self.tokens.unexpected(from));
@@ -82,6 +88,7 @@ impl<F: Fn(Global, &Tokens<'_>, Scope, Form, u32) -> Result<(Expr, u32), FrontFa
         ensures next { IfOk result (λ read. IsFrom self.now.tokens.list.now from read.1) }
         ensures spelled { IfOk result (λ read. IsArgs self.now.scope (between self.now.tokens from read.1) read.0) }
         ensures refused { IfErr result (IsUnexpected self.now.tokens.file) }
+        ensures exact { ReadsAs (args_form self.now.scope) self.now.tokens from result }
     {
         if !self.tokens.is_sign(from, Sign::LeftParen) {
             return Ok((Items::new(self.alloc), from));
@@ -97,6 +104,7 @@ impl<F: Fn(Global, &Tokens<'_>, Scope, Form, u32) -> Result<(Expr, u32), FrontFa
         ensures next { IfOk result (λ read. IsBehind self.now.tokens.list.now from read.1) }
         ensures spelled { IfOk result (λ read. IsArgList self.now.scope (between self.now.tokens from read.1) read.0) }
         ensures refused { IfErr result (IsUnexpected self.now.tokens.file) }
+        ensures exact { ReadsAs (list (arg_form self.now.scope)) self.now.tokens from result }
     {
         let (first, mut next) = self.arg(from)?;
         let mut args = Vec::new(self.alloc);
@@ -117,6 +125,7 @@ impl<F: Fn(Global, &Tokens<'_>, Scope, Form, u32) -> Result<(Expr, u32), FrontFa
         ensures next { IfOk result (λ read. IsBehind self.now.tokens.list.now from read.1) }
         ensures spelled { IfOk result (λ read. IsArg self.now.scope (between self.now.tokens from read.1) read.0) }
         ensures refused { IfErr result (IsUnexpected self.now.tokens.file) }
+        ensures exact { ReadsAs (arg_form self.now.scope) self.now.tokens from result }
     {
         if self.tokens.is_sign(from, Sign::Underscore) {
             return left_open(self.alloc, &self.tokens, from);
@@ -135,6 +144,7 @@ impl<F: Fn(Global, &Tokens<'_>, Scope, Form, u32) -> Result<(Expr, u32), FrontFa
         ensures next { IfOk result (λ read. IsBehind self.now.tokens.list.now from read.1) }
         ensures spelled { IfOk result (λ read. IsIndex self.now.scope (between self.now.tokens from read.1) read.0) }
         ensures refused { IfErr result (IsUnexpected self.now.tokens.file) }
+        ensures exact { ReadsAs (places_form self.now.scope) self.now.tokens (from + 1) result }
     {
         let (places, next) = self.exprs(Around::Open, from + 1)?;
         Ok((places, self.tokens.after_sign(next, Sign::RightBracket)?))
@@ -147,6 +157,7 @@ impl<F: Fn(Global, &Tokens<'_>, Scope, Form, u32) -> Result<(Expr, u32), FrontFa
         ensures next { IfOk result (λ read. IsBehind self.now.tokens.list.now from read.1) }
         ensures spelled { IfOk result (λ read. IsExprs self.now.scope around (between self.now.tokens from read.1) read.0) }
         ensures refused { IfErr result (IsUnexpected self.now.tokens.file) }
+        ensures exact { ReadsAs (list (nest (expr self.now.scope (where_of around)))) self.now.tokens from result }
     {
         let (first, mut next) = self.inner(self.scope, Form::Expr(around), from)?;
         let mut exprs = Vec::new(self.alloc);
@@ -180,6 +191,7 @@ fn left_open(alloc: Global, tokens: &Tokens<'_>, from: u32) -> Result<(Given, u3
     ensures next { IfOk result (λ read. IsBehind tokens.now.list.now from read.1) }
     ensures spelled { (scope : Scope) → IfOk result (λ read. IsArg scope (between tokens.now from read.1) read.0) }
     ensures refused { IfErr result (IsUnexpected tokens.now.file) }
+    ensures exact { (scope : Scope) → ReadsAs (arg_form scope) tokens.now from result }
 {
     let pos = tokens.pos(from);
     if !tokens.is_sign(from + 1, Sign::Colon) {

@@ -14,15 +14,16 @@ ghost use Rattle.std.specs.Prelude.{◌≡◌, ◌<◌, ◌≤◌, IfErr, IfOk, 
 ghost use Rattle.sa_lex.specs.declared.sign.Sign.TheVariants as sign;
 ghost use Rattle.sa_lex.specs.declared.token.TokenKind.TheVariants as token;
 ghost use Rattle.sa_lex.specs.declared.word.Word.TheVariants as word;
-ghost use Rattle.sa_parse_expr.specs.declared.grammar.Around.TheVariants.{Open};
-ghost use Rattle.sa_parse_expr.specs.declared.grammar.Around.{Around};
-ghost use Rattle.sa_parse_expr.specs.declared.grammar.Scope.TheVariants.{PostClause};
-ghost use Rattle.sa_parse_expr.specs.Exactly.{ReadsAs};
-ghost use Rattle.sa_parse_expr.specs.ExpressionForms.{optional_type_form};
+ghost use Rattle.sa_parse_expr.specs.Arounds.{outside, where_of};
+ghost use Rattle.sa_parse_expr.specs.Exactly.{ReadsAs, Takes};
+ghost use Rattle.sa_parse_expr.specs.ExpressionForms.{class_call_form, first_form, optional_type_form, parenthesised_form, texts_form};
 ghost use Rattle.sa_parse_expr.specs.Expressions.{ContinuesTexts, IsFirst, IsOptionalType, IsParenthesised};
 ghost use Rattle.sa_parse_expr.specs.Lexemes.{between};
 ghost use Rattle.sa_parse_expr.specs.Nests.{Nests};
 ghost use Rattle.sa_parse_expr.specs.Places.{IsBehind, IsFrom, IsUnexpected, kind_at};
+ghost use Rattle.sa_parse_expr.specs.declared.grammar.Around.TheVariants.{Open};
+ghost use Rattle.sa_parse_expr.specs.declared.grammar.Around.{Around};
+ghost use Rattle.sa_parse_expr.specs.declared.grammar.Scope.TheVariants.{PostClause};
 
 use crate::grammar::{Around, Form, Grammar, Scope};
 use crate::starts::begins_type;
@@ -44,6 +45,7 @@ impl<F: Fn(Global, &Tokens<'_>, Scope, Form, u32) -> Result<(Expr, u32), FrontFa
         ensures next { IfOk result (λ read. IsBehind self.now.tokens.list.now from read.1) }
         ensures spelled { IfOk result (λ read. IsFirst self.now.scope around (between self.now.tokens from read.1) read.0) }
         ensures refused { IfErr result (IsUnexpected self.now.tokens.file) }
+        ensures exact { ReadsAs (first_form self.now.scope (where_of around)) self.now.tokens from result }
     {
         let pos = self.tokens.pos(from);
         match self.tokens.kind(from) {
@@ -71,6 +73,7 @@ impl<F: Fn(Global, &Tokens<'_>, Scope, Form, u32) -> Result<(Expr, u32), FrontFa
         ensures spelled { (around : Around)
             → IfOk result (λ read. IsFirst self.now.scope around (between self.now.tokens from read.1) read.0) }
         ensures refused { IfErr result (IsUnexpected self.now.tokens.file) }
+        ensures exact { (around : Around) → ReadsAs (first_form self.now.scope (where_of around)) self.now.tokens from result }
     {
         let pos = self.tokens.pos(from);
         match word {
@@ -97,6 +100,7 @@ impl<F: Fn(Global, &Tokens<'_>, Scope, Form, u32) -> Result<(Expr, u32), FrontFa
         ensures next { IfOk result (λ read. IsBehind self.now.tokens.list.now from read.1) }
         ensures spelled { IfOk result (λ read. IsFirst self.now.scope around (between self.now.tokens from read.1) read.0) }
         ensures refused { IfErr result (IsUnexpected self.now.tokens.file) }
+        ensures exact { ReadsAs (first_form self.now.scope (where_of around)) self.now.tokens from result }
     {
         match sign {
             Sign::LeftParen => self.parenthesised(self.scope, from),
@@ -117,6 +121,7 @@ impl<F: Fn(Global, &Tokens<'_>, Scope, Form, u32) -> Result<(Expr, u32), FrontFa
         ensures next { IfOk result (λ read. IsBehind self.now.tokens.list.now from read.1) }
         ensures spelled { IfOk result (λ read. IsParenthesised scope (between self.now.tokens from read.1) read.0) }
         ensures refused { IfErr result (IsUnexpected self.now.tokens.file) }
+        ensures exact { ReadsAs (parenthesised_form scope) self.now.tokens from result }
     {
         let next = self.tokens.after_sign(from, Sign::LeftParen)?;
         let (inner, next) = self.inner(scope, Form::Expr(Around::Open), next)?;
@@ -133,6 +138,7 @@ impl<F: Fn(Global, &Tokens<'_>, Scope, Form, u32) -> Result<(Expr, u32), FrontFa
         ensures spelled { (around : Around)
             → IfOk result (λ read. IsFirst self.now.scope around (between self.now.tokens from read.1) read.0) }
         ensures refused { IfErr result (IsUnexpected self.now.tokens.file) }
+        ensures exact { (around : Around) → ReadsAs (first_form self.now.scope (where_of around)) self.now.tokens from result }
     {
         let pos = self.tokens.pos(from);
         if !self.tokens.is_sign(from + 1, Sign::LeftParen) {
@@ -152,6 +158,7 @@ impl<F: Fn(Global, &Tokens<'_>, Scope, Form, u32) -> Result<(Expr, u32), FrontFa
         ensures spelled { (around : Around)
             → IfOk result (λ read. IsFirst self.now.scope around (between self.now.tokens from read.1) read.0) }
         ensures refused { IfErr result (IsUnexpected self.now.tokens.file) }
+        ensures exact { (around : Around) → ReadsAs (first_form self.now.scope (where_of around)) self.now.tokens from result }
     {
         let pos = self.tokens.pos(from);
         if !self.tokens.is_sign(from + 1, Sign::LeftParen) {
@@ -169,6 +176,7 @@ impl<F: Fn(Global, &Tokens<'_>, Scope, Form, u32) -> Result<(Expr, u32), FrontFa
         ensures spelled { (around : Around)
             → IfOk result (λ read. IsFirst self.now.scope around (between self.now.tokens from read.1) read.0) }
         ensures refused { IfErr result (IsUnexpected self.now.tokens.file) }
+        ensures exact { ReadsAs (class_call_form self.now.scope) self.now.tokens from result }
     {
         let (class, next) = read_type(self.alloc, &self.tokens, from)?;
         let next = self.tokens.after_sign(next, Sign::DoubleColon)?;
@@ -185,6 +193,7 @@ impl<F: Fn(Global, &Tokens<'_>, Scope, Form, u32) -> Result<(Expr, u32), FrontFa
         ensures spelled { (around : Around)
             → IfOk result (λ read. IsFirst self.now.scope around (between self.now.tokens from read.1) read.0) }
         ensures refused { IfErr result (IsUnexpected self.now.tokens.file) }
+        ensures exact { (around : Around) → ReadsAs (first_form self.now.scope (where_of around)) self.now.tokens from result }
     {
         let (class, next) = optional_type(self.alloc, &self.tokens, from + 1)?;
         let (given, next) = self.args(next)?;
@@ -200,6 +209,7 @@ impl<F: Fn(Global, &Tokens<'_>, Scope, Form, u32) -> Result<(Expr, u32), FrontFa
         ensures next { IfOk result (λ read. IsBehind self.now.tokens.list.now from read.1) }
         ensures spelled { IfOk result (λ read. IsFirst self.now.scope Open (between self.now.tokens from read.1) read.0) }
         ensures refused { IfErr result (IsUnexpected self.now.tokens.file) }
+        ensures exact { ReadsAs (first_form self.now.scope outside) self.now.tokens from result }
     {
         let (items, next) = self.exprs(Around::Items, from + 1)?;
         let next = self.tokens.after_sign(next, Sign::Bar)?;
@@ -216,6 +226,7 @@ impl<F: Fn(Global, &Tokens<'_>, Scope, Form, u32) -> Result<(Expr, u32), FrontFa
         ensures spelled { (around : Around)
             → IfOk result (λ read. IsFirst self.now.scope around (between self.now.tokens from read.1) read.0) }
         ensures refused { IfErr result (IsUnexpected self.now.tokens.file) }
+        ensures exact { (around : Around) → ReadsAs (first_form self.now.scope (where_of around)) self.now.tokens from result }
     {
         let next = self.tokens.after_sign(from + 1, Sign::LeftParen)?;
         let (head, next) = self.inner(self.scope, Form::Post, next)?;
@@ -233,6 +244,7 @@ impl<F: Fn(Global, &Tokens<'_>, Scope, Form, u32) -> Result<(Expr, u32), FrontFa
         ensures spelled { (around : Around)
             → IfOk result (λ read. IsFirst self.now.scope around (between self.now.tokens from read.1) read.0) }
         ensures refused { IfErr result (IsUnexpected self.now.tokens.file) }
+        ensures exact { (around : Around) → ReadsAs (first_form self.now.scope (where_of around)) self.now.tokens from result }
     {
         let name = self.tokens.name(self.alloc, from)?;
         let given = Items::new(self.alloc);
@@ -251,6 +263,7 @@ impl<F: Fn(Global, &Tokens<'_>, Scope, Form, u32) -> Result<(Expr, u32), FrontFa
         ensures spelled { (around : Around)
             → IfOk result (λ read. IsFirst self.now.scope around (between self.now.tokens from read.1) read.0) }
         ensures refused { IfErr result (IsUnexpected self.now.tokens.file) }
+        ensures exact { (around : Around) → ReadsAs (first_form self.now.scope (where_of around)) self.now.tokens from result }
     {
         let (old, next) = self.parenthesised(Scope::Plain, from + 1)?;
         let mut given = Items::new(self.alloc);
@@ -290,6 +303,7 @@ fn texts(
     requires { from ≤ length tokens.now.list.now }
     ensures next { IfOk result (λ read. IsFrom tokens.now.list.now from read.1) }
     ensures spelled { IfOk result (λ read. ContinuesTexts first.now (between tokens.now from read.1) read.0) }
+    ensures exact { IfOk result (λ read. Takes (texts_form first.now) tokens.now from read.0 read.1) }
 {
     let mut bytes = Vec::from_slice(alloc, first.as_slice())?;
     let mut next = from;
