@@ -1,3 +1,4 @@
+mod ExactArguments
 mod ExactTypes
 mod Innermost
 mod Precedences

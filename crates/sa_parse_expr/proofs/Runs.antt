@@ -1,5 +1,5 @@
 -- How forms read the lexemes of a file from a place on: a lemma for each way to make forms, by what stands at the place.
-use Rattle.std.proofs.Common.{◌≡◌, ◌≢◌, ℕ, suc, ◌+◌, ◌<◌, Bool, true, false, cond, List, [], ◌∷◌, ◌++◌, Some, Err, length, Result, refl, sym, ap, ◌∙◌, inl, inr, append_assoc, arith}
+use Rattle.std.proofs.Common.{◌≡◌, ◌≢◌, ℕ, suc, ◌+◌, ◌<◌, Bool, true, false, cond, List, [], ◌∷◌, ◌++◌, Some, Ok, Err, length, Result, refl, sym, ap, ◌∙◌, inl, inr, append_assoc, arith}
 use Rattle.std.proofs.lemmas.Bool.{false_from_ne_true}
 use Rattle.std.proofs.lemmas.Option.{slice_get_cases}
 use Rattle.sa_lex.specs.declared.token.TokenKind.{TokenKind}
@@ -10,11 +10,11 @@ use Rattle.sa_lex.specs.declared.word.Word.{Word}
 use Rattle.sa_tree.specs.declared.refusal.FrontFault.{FrontFault}
 use Rattle.sa_tree.specs.declared.refusal.FrontFault.TheVariants as fault
 use Rattle.sa_parse_expr.specs.declared.tokens.Tokens.{Tokens}
-use Rattle.sa_parse_expr.specs.Exactly.{lexemes_from, Takes, Refuses, ReadsAs}
+use Rattle.sa_parse_expr.specs.Exactly.{lexemes_from, Takes, Refuses, ReadsAs, ReadsOf}
 use Rattle.sa_parse_expr.specs.Forms.{Form, give, refuse, shift, either, follow, separated, list, repeat, placed, nest, make, until, opens}
 use Rattle.sa_parse_expr.specs.Forms.{Reader, behind, with_read, shifted, place_of, listed, repeated, run, Nested, Tree}
 use Rattle.sa_parse_expr.specs.Grammar.{form_of, nested_to, read_as}
-use Rattle.sa_parse_expr.specs.Lexemes.{Lexeme, lexeme_at}
+use Rattle.sa_parse_expr.specs.Lexemes.{Lexeme, lexemes_of, lexeme_at}
 use Rattle.sa_parse_expr.specs.Places.{kind_at, unexpected_at}
 use Rattle.sa_parse_expr.specs.Readings.{Reading, Read, Refused}
 use Rattle.sa_parse_expr.specs.Tests.{is_sign, is_word}
@@ -103,6 +103,14 @@ module _ (t : Tokens) where
   pub refused_at : {A : Type 0} {form : Form A} {from : ℕ} {r : Result (A × ℕ) FrontFault} (at : ℕ) (e : FrontFault) → r ≡ Err e
       → e ≡ unexpected_at t.file t.src.now t.list.now at → Runs form from (Refused (lexemes_from t at)) → ReadsAs form t from r
   refused_at at e is there r = rw (is, there) (refuses at r)
+
+  -- and the same is said of all lexemes of the file
+  pub of_lexemes : {A : Type 0} (form : Form A) (from : ℕ) (r : Result (A × ℕ) FrontFault) → ReadsAs form t from r
+      → ReadsOf form (lexemes_of t.file t.src.now t.list.now) (unexpected_at t.file t.src.now t.list.now) from r
+  unfolding lexemes_from
+  of_lexemes form from (Ok read) h = h.is
+  of_lexemes form from (Err (fault.Refused refusal)) h = (h.at, h.is, h.fault)
+  of_lexemes form from (Err fault.NoMemory) h = tt
 
   -- ---- tests
 
@@ -202,6 +210,11 @@ module _ (t : Tokens) where
   nested n {at = at} r = record {
     is = sym (levels_same level level (suc level) (omega arith) (omega arith) n (lexemes_from t at) (omega (arith, few t at))) ∙ r.is;
   }
+
+  -- what the form of a production that nests reads is read of the production
+  pub nested_reads : (n : Nested) (from : ℕ) (r : Result (Tree n × ℕ) FrontFault) → ReadsAs (form_of n) t from r → ReadsAs (nest n) t from r
+  nested_reads n from (Ok read) h = takes (nests n (taken h))
+  nested_reads n from (Err e) h = handed (form_of n) (nest n) from from (λ rest r. nests n r) e h
 
   short : {A : Type 0} (form : Form A) (ls : List Lexeme) → NoLonger ls (at_level form ls)
   short form ls = NoLonger-run level (nested_to level) (short_to level) form ls

@@ -1,7 +1,11 @@
 -- What is read of a file's tokens is what a form of the grammar reads of their lexemes, exactly.
-use Rattle.std.specs.Prelude.{◌≡◌, ⊤, ℕ, List, drop, Option, Result, Ok, Err}
+use Rattle.std.specs.Prelude.{◌≡◌, ◌≢◌, ⊤, ℕ, ◌+◌, List, drop, Option, Some, Result, Ok, Err}
 use Rattle.std.specs.Option.{option_and_then}
 use Rattle.sa_lex.specs.declared.token.TokenKind.{TokenKind}
+use Rattle.sa_lex.specs.declared.token.TokenKind.TheVariants as token
+use Rattle.sa_lex.specs.declared.word.Word.TheVariants as word
+use Rattle.sa_tree.specs.declared.ty.Mode.{Mode}
+use Rattle.sa_tree.specs.declared.ty.Mode.TheVariants.{In, Out, Inout}
 use Rattle.sa_tree.specs.declared.expr.Op.{Op}
 use Rattle.sa_tree.specs.declared.refusal.FrontFault.{FrontFault}
 use Rattle.sa_tree.specs.declared.refusal.FrontFault.TheVariants as fault
@@ -41,10 +45,23 @@ ReadsAs form t from (Ok read) = Takes form t from read.0 read.1
 ReadsAs form t from (Err (fault.Refused refusal)) = Refuses form t from (fault.Refused refusal)
 ReadsAs form t from (Err fault.NoMemory) = ⊤
 
+-- the same of all lexemes of a file, where `unexpected` is E06 at a place
+abbrev pub ReadsOf : {A : Type 0} → Form A → List Lexeme → (ℕ → FrontFault) → ℕ → Result (A × ℕ) FrontFault → Type 0
+ReadsOf form ls unexpected from (Ok read) = read_as form (drop from ls) ≡ Read read.0 (drop read.1 ls)
+ReadsOf form ls unexpected from (Err (fault.Refused refusal)) =
+    (at : ℕ) × (read_as form (drop from ls) ≡ Refused (drop at ls)) × (fault.Refused refusal ≡ unexpected at)
+ReadsOf form ls unexpected from (Err fault.NoMemory) = ⊤
+
 -- the form of a production of expressions that nests
 abbrev pub nested_form : Scope → code.Form → Form Expr
 nested_form s (code_form.Expr around) = nest (expr s (where_of around))
 nested_form s code_form.Post = nest (post s outside)
+
+-- the mode that stands in front of the value of an argument, and the place behind it
+pub data ModeAt (t : Tokens) (at : ℕ) : Mode → ℕ → Type 0 where
+  out_there : kind_at t.list.now at ≡ Some (token.Word word.Out) → ModeAt t at Out (at + 1)
+  inout_there : kind_at t.list.now at ≡ Some (token.Word word.Inout) → ModeAt t at Inout (at + 1)
+  no_mode_there : kind_at t.list.now at ≢ Some (token.Word word.Out) → kind_at t.list.now at ≢ Some (token.Word word.Inout) → ModeAt t at In at
 
 -- ---- operators by their precedence
 

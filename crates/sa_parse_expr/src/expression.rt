@@ -3,11 +3,11 @@
 ghost use Rattle.std.specs.Prelude.{◌<◌, All, IfErr, IfOk, length, slice_range};
 ghost use Rattle.sa_lex.specs.Token.{IsWithin};
 ghost use Rattle.sa_parse_expr.specs.Arounds.{outside};
-ghost use Rattle.sa_parse_expr.specs.Exactly.{ReadsAs};
+ghost use Rattle.sa_parse_expr.specs.Exactly.{ReadsAs, ReadsOf};
 ghost use Rattle.sa_parse_expr.specs.Expressions.{IsExpr};
 ghost use Rattle.sa_parse_expr.specs.Forms.{expr, nest};
 ghost use Rattle.sa_parse_expr.specs.Lexemes.{between, lexemes_of};
-ghost use Rattle.sa_parse_expr.specs.Places.{IsBehind, IsUnexpected};
+ghost use Rattle.sa_parse_expr.specs.Places.{IsBehind, IsUnexpected, unexpected_at};
 ghost use Rattle.sa_parse_expr.specs.declared.grammar.Around.TheVariants.{Open};
 ghost use Rattle.sa_parse_expr.specs.declared.grammar.Scope.TheVariants.{Plain};
 
@@ -60,6 +60,7 @@ pub fn expr(
     ensures next { IfOk result (λ read. IsBehind tokens.now from read.1) }
     ensures spelled { IfOk result (λ read. IsExpr Plain Open (slice_range (lexemes_of file src.now tokens.now) from read.1) read.0) }
     ensures refused { IfErr result (IsUnexpected file) }
+    ensures exact { ReadsOf (nest (expr Plain outside)) (lexemes_of file src.now tokens.now) (unexpected_at file src.now tokens.now) from result }
 {
     let tokens = Tokens {
         list: tokens,
@@ -84,6 +85,7 @@ pub fn condition(
     ensures next { IfOk result (λ read. IsBehind tokens.now from read.1) }
     ensures spelled { IfOk result (λ read. IsExpr scope Open (slice_range (lexemes_of file src.now tokens.now) from read.1) read.0) }
     ensures refused { IfErr result (IsUnexpected file) }
+    ensures exact { ReadsOf (nest (expr scope outside)) (lexemes_of file src.now tokens.now) (unexpected_at file src.now tokens.now) from result }
 {
     let tokens = Tokens {
         list: tokens,

@@ -15,7 +15,7 @@ ghost use Rattle.std.specs.Prelude.{◌+◌, ◌≡◌, ◌<◌, ◌≤◌, IfEr
 ghost use Rattle.sa_lex.specs.declared.sign.Sign.TheVariants as sign;
 ghost use Rattle.sa_lex.specs.declared.token.TokenKind.TheVariants as token;
 ghost use Rattle.sa_parse_expr.specs.Arounds.{where_of};
-ghost use Rattle.sa_parse_expr.specs.Exactly.{ReadsAs};
+ghost use Rattle.sa_parse_expr.specs.Exactly.{ModeAt, ReadsAs};
 ghost use Rattle.sa_parse_expr.specs.ExpressionForms.{arg_form, args_form, call_form, places_form, post_form};
 ghost use Rattle.sa_parse_expr.specs.Expressions.{GivesMode, IsArg, IsArgList, IsArgs, IsCall, IsExprs, IsIndex, IsPost};
 ghost use Rattle.sa_parse_expr.specs.Forms.{expr, list, nest};
@@ -176,6 +176,7 @@ impl<F: Fn(Global, &Tokens<'_>, Scope, Form, u32) -> Result<(Expr, u32), FrontFa
 fn given_mode(tokens: &Tokens<'_>, from: u32) -> (Mode, u32)
     ensures from { from ≤ result.1 }
     ensures spelled { GivesMode (between tokens.now from result.1) result.0 }
+    ensures exact { ModeAt tokens.now from result.0 result.1 }
 {
     match tokens.kind(from) {
         Some(TokenKind::Word(Word::Out)) => (Mode::Out, from + 1),

@@ -1,0 +1,72 @@
+-- Arguments, indexes and what follows a first, as their forms read them: a lemma for each alternative that a reader decides by the
+-- token that stands there.
+use Rattle.std.proofs.Common.{◌≡◌, ◌≢◌, ℕ, ◌+◌, true, false, List, [], Some, None, refl, arith}
+use Rattle.sa_lex.specs.declared.token.TokenKind.{TokenKind}
+use Rattle.sa_lex.specs.declared.token.TokenKind.TheVariants as token
+use Rattle.sa_lex.specs.declared.sign.Sign.TheVariants as sign
+use Rattle.sa_lex.specs.declared.word.Word.TheVariants as word
+use Rattle.sa_tree.specs.declared.pos.Pos.{Pos}
+use Rattle.sa_tree.specs.declared.ty.Ty.{Ty}
+use Rattle.sa_tree.specs.declared.ty.Mode.{Mode}
+use Rattle.sa_tree.specs.declared.expr.Recv.{Recv}
+use Rattle.sa_tree.specs.declared.expr.Recv.TheVariants.{Of}
+use Rattle.sa_tree.specs.declared.expr.Given.{Given}
+use Rattle.sa_tree.specs.declared.expr.Given.TheVariants.{Value, Left}
+use Rattle.sa_tree.specs.declared.expr.Expr.{Expr}
+use Rattle.sa_tree.specs.declared.expr.Expr.TheVariants as tree
+use Rattle.sa_parse_expr.specs.declared.grammar.Scope.{Scope}
+use Rattle.sa_parse_expr.specs.declared.tokens.Tokens.{Tokens}
+use Rattle.sa_parse_expr.specs.Arounds.{Where, outside}
+use Rattle.sa_parse_expr.specs.Exactly.{lexemes_from, Takes, ModeAt, out_there, inout_there, no_mode_there}
+use Rattle.sa_parse_expr.specs.ExpressionForms.{arg_form, args_form, named_form, call_form, places_form}
+use Rattle.sa_parse_expr.specs.Forms.{Form, give, shift, list, nest, type, expr, make, until}
+use Rattle.sa_parse_expr.specs.Lexemes.{Lexeme, IsFeature, lower_name, iter_name, Stands, lexeme_at}
+use Rattle.sa_parse_expr.specs.Places.{kind_at, bytes_at}
+use Rattle.sa_parse_expr.specs.Readings.{Reading, Read, Refused}
+use Rattle.sa_parse_expr.specs.Tests.{is_sign}
+use Rattle.sa_parse_expr.proofs.Runs.{Runs, taken, takes, gives, met, not_met, another, makes, shut_sign, shut_word}
+use Rattle.sa_parse_expr.proofs.Stretches.{pos_at}
+use Rattle.sa_parse_expr.proofs.Tested.{sign_is, word_is}
+
+module _ (t : Tokens) (s : Scope) where
+  -- ---- arguments
+
+  behind_underscore : (at : ℕ) → kind_at t.list.now at ≡ Some (token.Sign sign.Underscore) → {v : Reading Given}
+      → Runs t (shift (is_sign sign.Colon) (λ _. make (λ one. Left (Some one) (pos_at t at)) (nest type)) (give (Left None (pos_at t at)))) (at + 1) v
+      → Runs t (arg_form s) at v
+  unfolding arg_form
+  behind_underscore at there r = met t (token.Sign sign.Underscore) there (sign_is sign.Underscore) r
+
+  pub left : (at : ℕ) (pos : Pos) → kind_at t.list.now at ≡ Some (token.Sign sign.Underscore) → kind_at t.list.now (at + 1) ≢ Some (token.Sign sign.Colon)
+      → pos ≡ pos_at t at → Takes (arg_form s) t at (Left None pos) (at + 1)
+  left at pos there other stands = rw stands (takes t (behind_underscore at there (not_met t (shut_sign t sign.Colon (at + 1) other) (gives t))))
+
+  two_behind : {A : Type 0} {form : Form A} {v : Reading A} (at : ℕ) → Runs t form (at + 2) v → Runs t form (at + 1 + 1) v
+  two_behind at r =
+      let same : at + 1 + 1 ≡ at + 2 = omega arith in
+      rw same r
+
+  pub behind_left_colon : (at : ℕ) → kind_at t.list.now at ≡ Some (token.Sign sign.Underscore) → kind_at t.list.now (at + 1) ≡ Some (token.Sign sign.Colon)
+      → {v : Reading Given} → Runs t (make (λ one. Left (Some one) (pos_at t at)) (nest type)) (at + 2) v → Runs t (arg_form s) at v
+  behind_left_colon at there colon r = behind_underscore at there (met t (token.Sign sign.Colon) colon (sign_is sign.Colon) (two_behind at r))
+
+  pub left_of_type : (at next : ℕ) (one : Ty) (pos : Pos) → kind_at t.list.now at ≡ Some (token.Sign sign.Underscore)
+      → kind_at t.list.now (at + 1) ≡ Some (token.Sign sign.Colon) → pos ≡ pos_at t at → Takes (nest type) t (at + 2) one next
+      → Takes (arg_form s) t at (Left (Some one) pos) next
+  left_of_type at next one pos there colon stands inside = rw stands (takes t (behind_left_colon at there colon (makes t next (taken t inside))))
+
+  pub behind_mode : {at next : ℕ} {mode : Mode} → kind_at t.list.now at ≢ Some (token.Sign sign.Underscore) → ModeAt t at mode next → {v : Reading Given}
+      → Runs t (make (Value mode) (nest (expr s outside))) next v → Runs t (arg_form s) at v
+  unfolding arg_form
+  behind_mode other (out_there there) r =
+      let kind = token.Word word.Out in
+      another t kind there refl (met t kind there (word_is word.Out) r)
+  behind_mode other (inout_there there) r =
+      let kind = token.Word word.Inout in
+      another t kind there refl (another t kind there refl (met t kind there (word_is word.Inout) r))
+  behind_mode {at = at} other (no_mode_there out inout) r =
+      not_met t (shut_sign t sign.Underscore at other) (not_met t (shut_word t word.Out at out) (not_met t (shut_word t word.Inout at inout) r))
+
+  pub valued : (at mid next : ℕ) (mode : Mode) (e : Expr) → kind_at t.list.now at ≢ Some (token.Sign sign.Underscore) → ModeAt t at mode mid
+      → Takes (nest (expr s outside)) t mid e next → Takes (arg_form s) t at (Value mode e) next
+  valued at mid next mode e other gives value = takes t (behind_mode other gives (makes t next (taken t value)))
