@@ -1,6 +1,7 @@
 -- Arguments, indexes and what follows a first, as their forms read them: a lemma for each alternative that a reader decides by the
 -- token that stands there.
-use Rattle.std.proofs.Common.{◌≡◌, ◌≢◌, ℕ, ◌+◌, true, false, List, [], Some, None, refl, arith}
+use Rattle.std.proofs.Common.{◌≡◌, ◌≢◌, ◌⊎◌, ℕ, ◌+◌, true, false, List, [], Some, None, refl, sym, ap, ◌∙◌, inl, inr, arith}
+use Rattle.std.proofs.lemmas.Bool.{false_from_ne_true}
 use Rattle.sa_lex.specs.declared.token.TokenKind.{TokenKind}
 use Rattle.sa_lex.specs.declared.token.TokenKind.TheVariants as token
 use Rattle.sa_lex.specs.declared.sign.Sign.TheVariants as sign
@@ -23,10 +24,21 @@ use Rattle.sa_parse_expr.specs.Forms.{Form, give, shift, list, nest, type, expr,
 use Rattle.sa_parse_expr.specs.Lexemes.{Lexeme, IsFeature, lower_name, iter_name, Stands, lexeme_at}
 use Rattle.sa_parse_expr.specs.Places.{kind_at, bytes_at}
 use Rattle.sa_parse_expr.specs.Readings.{Reading, Read, Refused}
-use Rattle.sa_parse_expr.specs.Tests.{is_sign}
-use Rattle.sa_parse_expr.proofs.Runs.{Runs, taken, takes, gives, met, not_met, another, makes, shut_sign, shut_word}
+use Rattle.sa_parse_expr.specs.Tests.{is_sign, is_feature}
+use Rattle.sa_parse_expr.proofs.Runs.{Runs, taken, takes, gives, refused, met, not_met, another, stops, makes, closed, unclosed, shut_by, shut_sign, shut_word}
+use Rattle.sa_parse_expr.proofs.Shifts.{Shut}
 use Rattle.sa_parse_expr.proofs.Stretches.{pos_at}
-use Rattle.sa_parse_expr.proofs.Tested.{sign_is, word_is}
+use Rattle.sa_parse_expr.proofs.Tested.{feature_met, feature_stands, sign_is, word_is}
+
+module _ (t : Tokens) (at : ℕ) (other : (kind_at t.list.now at ≡ Some token.Lower) ⊎ (kind_at t.list.now at ≡ Some token.IterName) → ⊥) where
+  neither : (kind : TokenKind) (l : Lexeme) → kind_at t.list.now at ≡ Some kind → l.kind ≡ kind → IsFeature l → ⊥
+  neither kind l there is (lower_name e) = other (inl (there ∙ ap Some (sym is ∙ e)))
+  neither kind l there is (iter_name e) = other (inr (there ∙ ap Some (sym is ∙ e)))
+
+  pub no_feature : Shut is_feature (lexemes_from t at)
+  no_feature =
+      shut_by t is_feature at (λ kind there.
+      false_from_ne_true (is_feature (lexeme_at t at kind)) (λ met. neither kind (lexeme_at t at kind) there refl (feature_stands (lexeme_at t at kind) met)))
 
 module _ (t : Tokens) (s : Scope) where
   -- ---- arguments
@@ -70,3 +82,44 @@ module _ (t : Tokens) (s : Scope) where
   pub valued : (at mid next : ℕ) (mode : Mode) (e : Expr) → kind_at t.list.now at ≢ Some (token.Sign sign.Underscore) → ModeAt t at mode mid
       → Takes (nest (expr s outside)) t mid e next → Takes (arg_form s) t at (Value mode e) next
   valued at mid next mode e other gives value = takes t (behind_mode other gives (makes t next (taken t value)))
+
+  -- ---- calls, and the lists of arguments and of places
+
+  pub behind_paren : (at : ℕ) → kind_at t.list.now at ≡ Some (token.Sign sign.LeftParen) → {v : Reading (List Given)}
+      → Runs t (until sign.RightParen (list (arg_form s))) (at + 1) v → Runs t (args_form s) at v
+  unfolding args_form
+  behind_paren at there r = met t (token.Sign sign.LeftParen) there (sign_is sign.LeftParen) r
+
+  pub no_args : (at : ℕ) (given : List Given) → kind_at t.list.now at ≢ Some (token.Sign sign.LeftParen) → given ≡ []
+      → Takes (args_form s) t at given at
+  unfolding args_form
+  no_args at given other empty = rw empty (takes t (not_met t (shut_sign t sign.LeftParen at other) (gives t)))
+
+  pub behind_name : (on : Recv) (at : ℕ) → Stands IsFeature t at → {v : Reading Expr}
+      → Runs t (make (λ given. tree.Call on (bytes_at t.src.now t.list.now at) given (pos_at t at)) (args_form s)) (at + 1) v → Runs t (call_form s on) at v
+  unfolding call_form named_form
+  behind_name on at f r = met t f.kind f.there (feature_met f.is) r
+
+  pub called : (on : Recv) (at next : ℕ) (name : List ℕ) (given : List Given) (pos : Pos) → Stands IsFeature t at
+      → name ≡ bytes_at t.src.now t.list.now at → pos ≡ pos_at t at → Takes (args_form s) t (at + 1) given next
+      → Takes (call_form s on) t at (tree.Call on name given pos) next
+  called on at next name given pos f named stands inside = rw (named, stands) (takes t (behind_name on at f (makes t next (taken t inside))))
+
+  pub no_name : (on : Recv) (at : ℕ) → ((kind_at t.list.now at ≡ Some token.Lower) ⊎ (kind_at t.list.now at ≡ Some token.IterName) → ⊥)
+      → Runs t (call_form s on) at (Refused (lexemes_from t at))
+  unfolding call_form
+  no_name on at other = not_met t (no_feature t at other) (refused t)
+
+  pub closed_places : (at mid : ℕ) (places : List Expr) → Takes (list (nest (expr s outside))) t at places mid
+      → kind_at t.list.now mid ≡ Some (token.Sign sign.RightBracket) → Takes (places_form s) t at places (mid + 1)
+  unfolding places_form
+  closed_places at mid places inside there = takes t (closed t mid (taken t inside) there)
+
+  pub places_refused : (at : ℕ) {rest : List Lexeme} → Runs t (list (nest (expr s outside))) at (Refused rest) → Runs t (places_form s) at (Refused rest)
+  unfolding places_form
+  places_refused at r = stops t r
+
+  pub unclosed_places : (at mid : ℕ) (places : List Expr) → Takes (list (nest (expr s outside))) t at places mid
+      → kind_at t.list.now mid ≢ Some (token.Sign sign.RightBracket) → Runs t (places_form s) at (Refused (lexemes_from t mid))
+  unfolding places_form
+  unclosed_places at mid places inside other = unclosed t mid (taken t inside) other

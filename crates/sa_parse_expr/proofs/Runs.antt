@@ -289,6 +289,10 @@ module _ (t : Tokens) where
       → kind_at t.list.now mid ≡ Some (token.Sign sign.Comma) → Takes item t (mid + 1) a next → whole ≡ all ++ a ∷ [] → Lists item from whole next
   next_taken l comma one pushed = rw pushed (next_listed l comma (taken one))
 
+  pub all_taken : {A : Type 0} {item : Form A} {from next : ℕ} {all whole : List A} → Lists item from all next
+      → kind_at t.list.now next ≢ Some (token.Sign sign.Comma) → whole ≡ all → Takes (list item) t from whole next
+  all_taken l other same = rw same (takes (all_listed l other))
+
   -- ---- turns, as long as a lexeme meets a test
 
   module _ {A : Type 0} (test : Lexeme → Bool) (step : A → Lexeme → Form A) where

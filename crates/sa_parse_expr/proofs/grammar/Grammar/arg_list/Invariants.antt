@@ -1,13 +1,16 @@
 use Rattle.std.proofs.Common.{length, ◌-◌}
+use Rattle.sa_parse_expr.specs.ExpressionForms.{arg_form}
 use Rattle.sa_parse_expr.specs.Expressions.{IsArgList}
 use Rattle.sa_parse_expr.specs.Lexemes.{between}
 use Rattle.sa_parse_expr.specs.Places.{IsBehind}
+use Rattle.sa_parse_expr.proofs.Runs.{Lists}
 use Rattle.sa_parse_expr.proofs.grammar.Grammar.arg_list.Given as goal
 
 abbrev pub invariant-more : goal.invariant-more
 invariant-more g l = record {
   behind : IsBehind l.self.tokens.list.now l.from l.next;
   spelled : IsArgList l.self.scope (between l.self.tokens l.from l.next) l.args.items;
+  listed : Lists l.self.tokens (arg_form l.self.scope) l.from l.args.items l.next;
 }
 
 abbrev pub decreases-more : goal.decreases-more
