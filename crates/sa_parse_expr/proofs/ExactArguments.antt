@@ -1,6 +1,6 @@
 -- Arguments, indexes and what follows a first, as their forms read them: a lemma for each alternative that a reader decides by the
 -- token that stands there.
-use Rattle.std.proofs.Common.{◌≡◌, ◌≢◌, ◌⊎◌, ℕ, ◌+◌, true, false, List, [], Some, None, refl, sym, ap, ◌∙◌, inl, inr, arith}
+use Rattle.std.proofs.Common.{◌≡◌, ◌≢◌, ◌⊎◌, ℕ, ◌+◌, Bool, true, false, ◌||◌, List, [], ◌∷◌, Some, None, refl, sym, ap, ◌∙◌, subst, inl, inr, arith}
 use Rattle.std.proofs.lemmas.Bool.{false_from_ne_true}
 use Rattle.sa_lex.specs.declared.token.TokenKind.{TokenKind}
 use Rattle.sa_lex.specs.declared.token.TokenKind.TheVariants as token
@@ -19,13 +19,14 @@ use Rattle.sa_parse_expr.specs.declared.grammar.Scope.{Scope}
 use Rattle.sa_parse_expr.specs.declared.tokens.Tokens.{Tokens}
 use Rattle.sa_parse_expr.specs.Arounds.{Where, outside}
 use Rattle.sa_parse_expr.specs.Exactly.{lexemes_from, Takes, ModeAt, out_there, inout_there, no_mode_there}
-use Rattle.sa_parse_expr.specs.ExpressionForms.{arg_form, args_form, named_form, call_form, places_form}
-use Rattle.sa_parse_expr.specs.Forms.{Form, give, shift, list, nest, type, expr, make, until}
+use Rattle.sa_parse_expr.specs.ExpressionForms.{arg_form, args_form, named_form, call_form, places_form, first_form, goes_on, going_form, placed_post_form, post_form}
+use Rattle.sa_parse_expr.specs.Forms.{Form, give, shift, list, repeat, nest, type, expr, make, until}
 use Rattle.sa_parse_expr.specs.Lexemes.{Lexeme, IsFeature, lower_name, iter_name, Stands, lexeme_at}
 use Rattle.sa_parse_expr.specs.Places.{kind_at, bytes_at}
 use Rattle.sa_parse_expr.specs.Readings.{Reading, Read, Refused}
 use Rattle.sa_parse_expr.specs.Tests.{is_sign, is_feature}
-use Rattle.sa_parse_expr.proofs.Runs.{Runs, taken, takes, gives, refused, met, not_met, another, stops, makes, closed, unclosed, shut_by, shut_sign, shut_word}
+use Rattle.sa_parse_expr.proofs.Runs.{Runs, taken, takes, gives, refused, met, not_met, another, follows, stops, makes, closed, unclosed, places, unplaced, shut_by, shut_sign, shut_word}
+use Rattle.sa_parse_expr.proofs.Runs.{Turns, no_turn, next_turn, turn_refused, all_turned}
 use Rattle.sa_parse_expr.proofs.Shifts.{Shut}
 use Rattle.sa_parse_expr.proofs.Stretches.{pos_at}
 use Rattle.sa_parse_expr.proofs.Tested.{feature_met, feature_stands, sign_is, word_is}
@@ -39,6 +40,16 @@ module _ (t : Tokens) (at : ℕ) (other : (kind_at t.list.now at ≡ Some token.
   no_feature =
       shut_by t is_feature at (λ kind there.
       false_from_ne_true (is_feature (lexeme_at t at kind)) (λ met. neither kind (lexeme_at t at kind) there refl (feature_stands (lexeme_at t at kind) met)))
+
+shut_both : (test other : Lexeme → Bool) (ls : List Lexeme) → Shut test ls → Shut other ls → Shut (λ l. test l || other l) ls
+shut_both test other [] h k = tt
+shut_both test other (l ∷ ls) h k = rw (h, k) refl
+
+module _ (t : Tokens) where
+  -- neither a "." nor a "[" stands there
+  ends : (at : ℕ) → kind_at t.list.now at ≢ Some (token.Sign sign.Dot) → kind_at t.list.now at ≢ Some (token.Sign sign.LeftBracket)
+      → Shut goes_on (lexemes_from t at)
+  ends at dot bracket = shut_both (is_sign sign.Dot) (is_sign sign.LeftBracket) (lexemes_from t at) (shut_sign t sign.Dot at dot) (shut_sign t sign.LeftBracket at bracket)
 
 module _ (t : Tokens) (s : Scope) where
   -- ---- arguments
@@ -123,3 +134,98 @@ module _ (t : Tokens) (s : Scope) where
       → kind_at t.list.now mid ≢ Some (token.Sign sign.RightBracket) → Runs t (places_form s) at (Refused (lexemes_from t mid))
   unfolding places_form
   unclosed_places at mid places inside other = unclosed t mid (taken t inside) other
+
+  -- ---- what follows a first
+
+  -- one turn: behind a "." or behind a "["
+  abbrev going : Pos × Expr → Lexeme → Form (Pos × Expr)
+  going so_far l = going_form (is_sign sign.Dot l) s so_far
+
+  behind_dot : (so_far : Pos × Expr) (at : ℕ) {v : Reading (Pos × Expr)} → Runs t (make (λ e. (so_far.0, e)) (call_form s (Of so_far.1))) at v
+      → Runs t (going_form true s so_far) at v
+  unfolding going_form
+  behind_dot so_far at r = r
+
+  behind_bracket : (so_far : Pos × Expr) (at : ℕ) {v : Reading (Pos × Expr)}
+      → Runs t (make (λ places. (so_far.0, tree.Index (Some so_far.1) places so_far.0)) (places_form s)) at v → Runs t (going_form false s so_far) at v
+  unfolding going_form
+  behind_bracket so_far at r = r
+
+  module _ (x : Where) where
+    -- what was read of a post up to a place: a first, and turns that make the tree so far
+    pub record Posts (from : ℕ) (so_far : Expr) (next : ℕ) : Type 0 where
+      pub first : Expr
+      pub behind : ℕ
+      pub begun : Runs t (first_form s x) from (Read first (lexemes_from t behind))
+      pub turned : Turns t goes_on going (pos_at t from, first) behind (pos_at t from, so_far) next
+
+    pub first_read : {from next : ℕ} {a : Expr} → Takes (first_form s x) t from a next → Posts from a next
+    first_read {from = from} {next = next} {a = a} h = record {
+      first = a;
+      behind = next;
+      begun = taken t h;
+      turned = no_turn t goes_on going (pos_at t from, a) next;
+    }
+
+    pub call_read : {from mid next : ℕ} {a on e : Expr} → Posts from a mid → kind_at t.list.now mid ≡ Some (token.Sign sign.Dot)
+        → Takes (call_form s (Of on)) t (mid + 1) e next → on ≡ a → Posts from e next
+    call_read {from = from} {mid = mid} {next = next} {a = a} {e = e} p dot inside same =
+        let called = subst (λ (on : Expr). Takes (call_form s (Of on)) t (mid + 1) e next) same inside in
+        record {
+          first = p.first;
+          behind = p.behind;
+          begun = p.begun;
+          turned = next_turn t goes_on going p.turned (token.Sign sign.Dot) dot refl (behind_dot (pos_at t from, a) (mid + 1) (makes t next (taken t called)));
+        }
+
+    pub index_read : {from mid next : ℕ} {a on : Expr} {places : List Expr} {pos : Pos} → Posts from a mid → kind_at t.list.now mid ≡ Some (token.Sign sign.LeftBracket)
+        → Takes (places_form s) t (mid + 1) places next → on ≡ a → pos ≡ pos_at t from → Posts from (tree.Index (Some on) places pos) next
+    index_read {from = from} {mid = mid} {next = next} {a = a} p bracket inside same stands = rw (same, stands) (record {
+      first = p.first;
+      behind = p.behind;
+      begun = p.begun;
+      turned = next_turn t goes_on going p.turned (token.Sign sign.LeftBracket) bracket refl (behind_bracket (pos_at t from, a) (mid + 1) (makes t next (taken t inside)));
+    })
+
+    -- a form for the whole
+    placed_first : {from mid : ℕ} {a : Expr} (kind : TokenKind) → kind_at t.list.now from ≡ Some kind → Runs t (first_form s x) from (Read a (lexemes_from t mid))
+        → {v : Reading (Pos × Expr)} → Runs t (repeat goes_on going (pos_at t from, a)) mid v → Runs t (placed_post_form s x) from v
+    unfolding placed_post_form
+    placed_first {mid = mid} kind there first r = follows t (places t kind mid there first) r
+
+    no_placed : {from : ℕ} {rest : List Lexeme} → Runs t (first_form s x) from (Refused rest) → Runs t (placed_post_form s x) from (Refused rest)
+    unfolding placed_post_form
+    no_placed r = stops t (unplaced t r)
+
+    whole : {from : ℕ} (next : ℕ) {placed : Pos × Expr} → Runs t (placed_post_form s x) from (Read placed (lexemes_from t next))
+        → Runs t (post_form s x) from (Read placed.1 (lexemes_from t next))
+    unfolding post_form
+    whole next r = makes t next r
+
+    no_whole : {from : ℕ} {rest : List Lexeme} → Runs t (placed_post_form s x) from (Refused rest) → Runs t (post_form s x) from (Refused rest)
+    unfolding post_form
+    no_whole r = stops t r
+
+    pub no_first : {from : ℕ} {rest : List Lexeme} → Runs t (first_form s x) from (Refused rest) → Runs t (post_form s x) from (Refused rest)
+    no_first r = no_whole (no_placed r)
+
+    pub no_call : {from mid : ℕ} {a on : Expr} {rest : List Lexeme} (kind : TokenKind) → kind_at t.list.now from ≡ Some kind → Posts from a mid
+        → kind_at t.list.now mid ≡ Some (token.Sign sign.Dot) → on ≡ a → Runs t (call_form s (Of on)) (mid + 1) (Refused rest)
+        → Runs t (post_form s x) from (Refused rest)
+    no_call {from = from} {mid = mid} {a = a} {rest = rest} kind there p dot same r =
+        let called = subst (λ (on : Expr). Runs t (call_form s (Of on)) (mid + 1) (Refused rest)) same r in
+        no_whole (placed_first kind there p.begun
+        (turn_refused t goes_on going p.turned (token.Sign sign.Dot) dot refl (behind_dot (pos_at t from, a) (mid + 1) (stops t called))))
+
+    pub no_index : {from mid : ℕ} {a : Expr} {rest : List Lexeme} (kind : TokenKind) → kind_at t.list.now from ≡ Some kind → Posts from a mid
+        → kind_at t.list.now mid ≡ Some (token.Sign sign.LeftBracket) → Runs t (places_form s) (mid + 1) (Refused rest)
+        → Runs t (post_form s x) from (Refused rest)
+    no_index {from = from} {mid = mid} {a = a} kind there p bracket r =
+        no_whole (placed_first kind there p.begun
+        (turn_refused t goes_on going p.turned (token.Sign sign.LeftBracket) bracket refl (behind_bracket (pos_at t from, a) (mid + 1) (stops t r))))
+
+    pub all_read : {from next : ℕ} {a : Expr} (kind : TokenKind) → kind_at t.list.now from ≡ Some kind → Posts from a next
+        → kind_at t.list.now next ≢ Some (token.Sign sign.Dot) → kind_at t.list.now next ≢ Some (token.Sign sign.LeftBracket)
+        → Takes (post_form s x) t from a next
+    all_read {next = next} kind there p dot bracket =
+        takes t (whole next (placed_first kind there p.begun (all_turned t goes_on going p.turned (ends t next dot bracket))))

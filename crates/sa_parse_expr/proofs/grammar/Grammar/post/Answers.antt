@@ -1,8 +1,13 @@
-use Rattle.std.proofs.Common.{◌≡◌, Some, arith, rules}
+use Rattle.std.proofs.Common.{◌≡◌, ◌≢◌, ◌+◌, Some, arith, rules}
 use Rattle.sa_lex.specs.declared.token.TokenKind.TheVariants as token
 use Rattle.sa_lex.specs.declared.sign.Sign.TheVariants as sign
+use Rattle.sa_tree.specs.declared.expr.Recv.TheVariants.{Of}
+use Rattle.sa_parse_expr.specs.Arounds.{where_of}
+use Rattle.sa_parse_expr.specs.ExpressionForms.{first_form, call_form, places_form}
 use Rattle.sa_parse_expr.specs.Expressions as exprs
 use Rattle.sa_parse_expr.specs.Places.{kind_at}
+use Rattle.sa_parse_expr.proofs.ExactArguments as exact
+use Rattle.sa_parse_expr.proofs.Runs.{handed_on}
 use Rattle.sa_parse_expr.proofs.SpelledExpressions.{call_on, index_of}
 use Rattle.sa_parse_expr.proofs.Stretches.{standing}
 use Rattle.sa_parse_expr.proofs.grammar.Grammar.post.Goals as goal
@@ -11,6 +16,7 @@ pub more-init : goal.more-init
 more-init g c = record {
   behind = c.in_ok-of.ensures.next;
   spelled = exprs.first c.in_ok-of.ensures.spelled;
+  read = exact.first_read c.args.self.now.tokens c.args.self.now.scope (where_of c.args.around) c.in_ok-of.ensures.exact;
 }
 
 pub more-preserved-then-is_sign : goal.more-preserved-then-is_sign
@@ -21,15 +27,40 @@ more-preserved-then-is_sign g c =
     record {
       behind = (omega (arith, begun.behind.0, called.next.0), called.next.1);
       spelled = call_on c.args.self.now.tokens c.args.self.now.scope c.args.around c.args.from c.more.next _ c.more.of _ _ begun.spelled dot called.spelled (omega (arith, begun.behind.0)) (omega (arith, called.next.0)) (search rules);
+      read = exact.call_read c.args.self.now.tokens c.args.self.now.scope (where_of c.args.around) begun.read dot called.exact (search rules);
     }
 
 pub more-preserved : goal.more-preserved
 more-preserved g c =
     let t = c.args.self.now.tokens in
     let begun = c.more.invariant in
+    let bracket : kind_at t.list.now c.more.next ≡ Some (token.Sign sign.LeftBracket) = search rules in
     let index = c.in_ok-places.ensures in
     let there = standing t c.args.from (omega (arith, begun.behind.0, begun.behind.1)) in
     record {
       behind = (omega (arith, begun.behind.0, index.next.0), index.next.1);
       spelled = index_of t c.args.self.now.scope c.args.around c.args.from c.more.next _ there.0 c.more.of _ _ _ there.1 begun.spelled index.spelled begun.behind.0 (omega (arith, index.next.0)) (search rules) (search rules);
+      read = exact.index_read t c.args.self.now.scope (where_of c.args.around) begun.read bracket index.exact (search rules) (search rules);
     }
+
+pub returns-in_err-of-clause-exact : goal.returns-in_err-of-clause-exact
+returns-in_err-of-clause-exact g c =
+    let t = c.args.self.now.tokens in
+    let s = c.args.self.now.scope in
+    let x = where_of c.args.around in
+    handed_on t (first_form s x) c.args.from _ (search rules) c.in_err-of.ensures.exact (λ rest r. exact.no_first t s x r)
+
+pub returns-in_err-called-clause-exact : goal.returns-in_err-called-clause-exact
+returns-in_err-called-clause-exact g c = ?
+
+pub returns-in_err-places-clause-exact : goal.returns-in_err-places-clause-exact
+returns-in_err-places-clause-exact g c = ?
+
+pub returns-clause-exact : goal.returns-clause-exact
+returns-clause-exact g c =
+    let t = c.args.self.now.tokens in
+    let begun = c.more.invariant in
+    let there = standing t c.args.from (omega (arith, begun.behind.0, begun.behind.1)) in
+    let dot : kind_at t.list.now c.more.next ≢ Some (token.Sign sign.Dot) = search rules in
+    let bracket : kind_at t.list.now c.more.next ≢ Some (token.Sign sign.LeftBracket) = search rules in
+    exact.all_read t c.args.self.now.scope (where_of c.args.around) there.0 there.1 begun.read dot bracket
