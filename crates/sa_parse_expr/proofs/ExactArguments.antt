@@ -1,6 +1,6 @@
 -- Arguments, indexes and what follows a first, as their forms read them: a lemma for each alternative that a reader decides by the
 -- token that stands there.
-use Rattle.std.proofs.Common.{◌≡◌, ◌≢◌, ◌⊎◌, ℕ, ◌+◌, Bool, true, false, ◌||◌, List, [], ◌∷◌, Some, None, refl, sym, ap, ◌∙◌, subst, inl, inr, arith}
+use Rattle.std.proofs.Common.{◌≡◌, ◌≢◌, ◌⊎◌, ℕ, ◌+◌, Bool, true, false, ◌||◌, List, [], ◌∷◌, Some, None, Result, refl, sym, ap, ◌∙◌, subst, inl, inr, arith}
 use Rattle.std.proofs.lemmas.Bool.{false_from_ne_true}
 use Rattle.sa_lex.specs.declared.token.TokenKind.{TokenKind}
 use Rattle.sa_lex.specs.declared.token.TokenKind.TheVariants as token
@@ -13,19 +13,21 @@ use Rattle.sa_tree.specs.declared.expr.Recv.{Recv}
 use Rattle.sa_tree.specs.declared.expr.Recv.TheVariants.{Of}
 use Rattle.sa_tree.specs.declared.expr.Given.{Given}
 use Rattle.sa_tree.specs.declared.expr.Given.TheVariants.{Value, Left}
+use Rattle.sa_tree.specs.declared.refusal.FrontFault.{FrontFault}
 use Rattle.sa_tree.specs.declared.expr.Expr.{Expr}
 use Rattle.sa_tree.specs.declared.expr.Expr.TheVariants as tree
 use Rattle.sa_parse_expr.specs.declared.grammar.Scope.{Scope}
 use Rattle.sa_parse_expr.specs.declared.tokens.Tokens.{Tokens}
 use Rattle.sa_parse_expr.specs.Arounds.{Where, outside}
-use Rattle.sa_parse_expr.specs.Exactly.{lexemes_from, Takes, ModeAt, out_there, inout_there, no_mode_there}
-use Rattle.sa_parse_expr.specs.ExpressionForms.{arg_form, args_form, named_form, call_form, places_form, first_form, goes_on, going_form, placed_post_form, post_form}
-use Rattle.sa_parse_expr.specs.Forms.{Form, give, shift, list, repeat, nest, type, expr, make, until}
+use Rattle.sa_parse_expr.specs.Exactly.{lexemes_from, Takes, ReadsAs, ModeAt, out_there, inout_there, no_mode_there}
+use Rattle.sa_parse_expr.specs.ExpressionForms.{arg_form, args_form, named_form, call_form, places_form, first_form, goes_on, going_form, placed_post_form, post_form, expr_form}
+use Rattle.sa_parse_expr.specs.Forms.{Form, give, shift, list, repeat, nest, type, expr, post, make, until}
+use Rattle.sa_parse_expr.specs.Grammar.{form_of}
 use Rattle.sa_parse_expr.specs.Lexemes.{Lexeme, IsFeature, lower_name, iter_name, Stands, lexeme_at}
 use Rattle.sa_parse_expr.specs.Places.{kind_at, bytes_at}
 use Rattle.sa_parse_expr.specs.Readings.{Reading, Read, Refused}
 use Rattle.sa_parse_expr.specs.Tests.{is_sign, is_feature}
-use Rattle.sa_parse_expr.proofs.Runs.{Runs, taken, takes, gives, refused, met, not_met, another, follows, stops, makes, closed, unclosed, places, unplaced, shut_by, shut_sign, shut_word}
+use Rattle.sa_parse_expr.proofs.Runs.{Runs, taken, takes, gives, refused, met, not_met, another, follows, stops, makes, closed, unclosed, places, unplaced, nested_reads, shut_by, shut_sign, shut_word}
 use Rattle.sa_parse_expr.proofs.Runs.{Turns, no_turn, next_turn, turn_refused, all_turned}
 use Rattle.sa_parse_expr.proofs.Shifts.{Shut}
 use Rattle.sa_parse_expr.proofs.Stretches.{pos_at}
@@ -229,3 +231,13 @@ module _ (t : Tokens) (s : Scope) where
         → Takes (post_form s x) t from a next
     all_read {next = next} kind there p dot bracket =
         takes t (whole next (placed_first kind there p.begun (all_turned t goes_on going p.turned (ends t next dot bracket))))
+
+  -- ---- the productions that nest
+
+  pub nested_expr : (x : Where) (from : ℕ) (r : Result (Expr × ℕ) FrontFault) → ReadsAs (expr_form s x) t from r → ReadsAs (nest (expr s x)) t from r
+  unfolding form_of
+  nested_expr x from r h = nested_reads t (expr s x) from r h
+
+  pub nested_post : (from : ℕ) (r : Result (Expr × ℕ) FrontFault) → ReadsAs (post_form s outside) t from r → ReadsAs (nest (post s outside)) t from r
+  unfolding form_of
+  nested_post from r h = nested_reads t (post s outside) from r h

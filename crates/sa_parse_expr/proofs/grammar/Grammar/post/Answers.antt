@@ -51,13 +51,31 @@ returns-in_err-of-clause-exact g c =
     handed_on t (first_form s x) c.args.from _ (search rules) c.in_err-of.ensures.exact (λ rest r. exact.no_first t s x r)
 
 pub returns-in_err-called-clause-exact : goal.returns-in_err-called-clause-exact
-returns-in_err-called-clause-exact g c = ?
+returns-in_err-called-clause-exact g c =
+    let t = c.args.self.now.tokens in
+    let s = c.args.self.now.scope in
+    let x = where_of c.args.around in
+    let begun = c.more.invariant in
+    let there = standing t c.args.from (omega (arith, begun.behind.0, begun.behind.1)) in
+    let dot : kind_at t.list.now c.more.next ≡ Some (token.Sign sign.Dot) = search rules in
+    let boxed = c.in_ok-new.field-0 in
+    let same : boxed ≡ c.more.of = search rules in
+    handed_on t (call_form s (Of boxed)) (c.more.next + 1) _ (search rules) c.in_err-called.ensures.exact
+    (λ rest r. exact.no_call t s x there.0 there.1 begun.read dot same r)
 
 pub returns-in_err-places-clause-exact : goal.returns-in_err-places-clause-exact
-returns-in_err-places-clause-exact g c = ?
+returns-in_err-places-clause-exact g c =
+    let t = c.args.self.now.tokens in
+    let s = c.args.self.now.scope in
+    let x = where_of c.args.around in
+    let begun = c.more.invariant in
+    let there = standing t c.args.from (omega (arith, begun.behind.0, begun.behind.1)) in
+    let bracket : kind_at t.list.now c.more.next ≡ Some (token.Sign sign.LeftBracket) = search rules in
+    handed_on t (places_form s) (c.more.next + 1) _ (search rules) c.in_err-places.ensures.exact
+    (λ rest r. exact.no_index t s x there.0 there.1 begun.read bracket r)
 
-pub returns-clause-exact : goal.returns-clause-exact
-returns-clause-exact g c =
+pub returns-else-is_sign-2-clause-exact : goal.returns-else-is_sign-2-clause-exact
+returns-else-is_sign-2-clause-exact g c =
     let t = c.args.self.now.tokens in
     let begun = c.more.invariant in
     let there = standing t c.args.from (omega (arith, begun.behind.0, begun.behind.1)) in
