@@ -33,7 +33,8 @@ use Rattle.sa_parse_expr.proofs.Shifts.{Shut}
 use Rattle.sa_parse_expr.proofs.Stretches.{pos_at}
 use Rattle.sa_parse_expr.proofs.Tested.{feature_met, feature_stands, sign_is, word_is}
 
-module _ (t : Tokens) (at : ℕ) (other : (kind_at t.list.now at ≡ Some token.Lower) ⊎ (kind_at t.list.now at ≡ Some token.IterName) → ⊥) where
+module _ (t : Tokens) (at : ℕ)
+    (other : (kind_at t.list.now at ≡ Some token.Lower) ⊎ (kind_at t.list.now at ≡ Some token.IterName) → ⊥) where
   neither : (kind : TokenKind) (l : Lexeme) → kind_at t.list.now at ≡ Some kind → l.kind ≡ kind → IsFeature l → ⊥
   neither kind l there is (lower_name e) = other (inl (there ∙ ap Some (sym is ∙ e)))
   neither kind l there is (iter_name e) = other (inr (there ∙ ap Some (sym is ∙ e)))
@@ -41,7 +42,8 @@ module _ (t : Tokens) (at : ℕ) (other : (kind_at t.list.now at ≡ Some token.
   pub no_feature : Shut is_feature (lexemes_from t at)
   no_feature =
       shut_by t is_feature at (λ kind there.
-      false_from_ne_true (is_feature (lexeme_at t at kind)) (λ met. neither kind (lexeme_at t at kind) there refl (feature_stands (lexeme_at t at kind) met)))
+      false_from_ne_true (is_feature (lexeme_at t at kind)) (λ met.
+      neither kind (lexeme_at t at kind) there refl (feature_stands (lexeme_at t at kind) met)))
 
 shut_both : (test other : Lexeme → Bool) (ls : List Lexeme) → Shut test ls → Shut other ls → Shut (λ l. test l || other l) ls
 shut_both test other [] h k = tt
@@ -51,37 +53,44 @@ module _ (t : Tokens) where
   -- neither a "." nor a "[" stands there
   ends : (at : ℕ) → kind_at t.list.now at ≢ Some (token.Sign sign.Dot) → kind_at t.list.now at ≢ Some (token.Sign sign.LeftBracket)
       → Shut goes_on (lexemes_from t at)
-  ends at dot bracket = shut_both (is_sign sign.Dot) (is_sign sign.LeftBracket) (lexemes_from t at) (shut_sign t sign.Dot at dot) (shut_sign t sign.LeftBracket at bracket)
+  ends at dot bracket =
+      shut_both (is_sign sign.Dot) (is_sign sign.LeftBracket) (lexemes_from t at) (shut_sign t sign.Dot at dot)
+      (shut_sign t sign.LeftBracket at bracket)
 
 module _ (t : Tokens) (s : Scope) where
   -- ---- arguments
 
   behind_underscore : (at : ℕ) → kind_at t.list.now at ≡ Some (token.Sign sign.Underscore) → {v : Reading Given}
-      → Runs t (shift (is_sign sign.Colon) (λ _. make (λ one. Left (Some one) (pos_at t at)) (nest type)) (give (Left None (pos_at t at)))) (at + 1) v
+      → Runs t (shift (is_sign sign.Colon) (λ _. make (λ one. Left (Some one) (pos_at t at)) (nest type)) (give (Left None (pos_at t at))))
+      (at + 1) v
       → Runs t (arg_form s) at v
   unfolding arg_form
   behind_underscore at there r = met t (token.Sign sign.Underscore) there (sign_is sign.Underscore) r
 
-  pub left : (at : ℕ) (pos : Pos) → kind_at t.list.now at ≡ Some (token.Sign sign.Underscore) → kind_at t.list.now (at + 1) ≢ Some (token.Sign sign.Colon)
-      → pos ≡ pos_at t at → Takes (arg_form s) t at (Left None pos) (at + 1)
-  left at pos there other stands = rw stands (takes t (behind_underscore at there (not_met t (shut_sign t sign.Colon (at + 1) other) (gives t))))
+  pub left : (at : ℕ) (pos : Pos) → kind_at t.list.now at ≡ Some (token.Sign sign.Underscore)
+      → kind_at t.list.now (at + 1) ≢ Some (token.Sign sign.Colon) → pos ≡ pos_at t at → Takes (arg_form s) t at (Left None pos) (at + 1)
+  left at pos there other stands =
+      rw stands (takes t (behind_underscore at there (not_met t (shut_sign t sign.Colon (at + 1) other) (gives t))))
 
   two_behind : {A : Type 0} {form : Form A} {v : Reading A} (at : ℕ) → Runs t form (at + 2) v → Runs t form (at + 1 + 1) v
   two_behind at r =
       let same : at + 1 + 1 ≡ at + 2 = omega arith in
       rw same r
 
-  pub behind_left_colon : (at : ℕ) → kind_at t.list.now at ≡ Some (token.Sign sign.Underscore) → kind_at t.list.now (at + 1) ≡ Some (token.Sign sign.Colon)
-      → {v : Reading Given} → Runs t (make (λ one. Left (Some one) (pos_at t at)) (nest type)) (at + 2) v → Runs t (arg_form s) at v
-  behind_left_colon at there colon r = behind_underscore at there (met t (token.Sign sign.Colon) colon (sign_is sign.Colon) (two_behind at r))
+  pub behind_left_colon : (at : ℕ) → kind_at t.list.now at ≡ Some (token.Sign sign.Underscore)
+      → kind_at t.list.now (at + 1) ≡ Some (token.Sign sign.Colon) → {v : Reading Given}
+      → Runs t (make (λ one. Left (Some one) (pos_at t at)) (nest type)) (at + 2) v → Runs t (arg_form s) at v
+  behind_left_colon at there colon r =
+      behind_underscore at there (met t (token.Sign sign.Colon) colon (sign_is sign.Colon) (two_behind at r))
 
   pub left_of_type : (at next : ℕ) (one : Ty) (pos : Pos) → kind_at t.list.now at ≡ Some (token.Sign sign.Underscore)
       → kind_at t.list.now (at + 1) ≡ Some (token.Sign sign.Colon) → pos ≡ pos_at t at → Takes (nest type) t (at + 2) one next
       → Takes (arg_form s) t at (Left (Some one) pos) next
-  left_of_type at next one pos there colon stands inside = rw stands (takes t (behind_left_colon at there colon (makes t next (taken t inside))))
+  left_of_type at next one pos there colon stands inside =
+      rw stands (takes t (behind_left_colon at there colon (makes t next (taken t inside))))
 
-  pub behind_mode : {at next : ℕ} {mode : Mode} → kind_at t.list.now at ≢ Some (token.Sign sign.Underscore) → ModeAt t at mode next → {v : Reading Given}
-      → Runs t (make (Value mode) (nest (expr s outside))) next v → Runs t (arg_form s) at v
+  pub behind_mode : {at next : ℕ} {mode : Mode} → kind_at t.list.now at ≢ Some (token.Sign sign.Underscore) → ModeAt t at mode next
+      → {v : Reading Given} → Runs t (make (Value mode) (nest (expr s outside))) next v → Runs t (arg_form s) at v
   unfolding arg_form
   behind_mode other (out_there there) r =
       let kind = token.Word word.Out in
@@ -90,7 +99,8 @@ module _ (t : Tokens) (s : Scope) where
       let kind = token.Word word.Inout in
       another t kind there refl (another t kind there refl (met t kind there (word_is word.Inout) r))
   behind_mode {at = at} other (no_mode_there out inout) r =
-      not_met t (shut_sign t sign.Underscore at other) (not_met t (shut_word t word.Out at out) (not_met t (shut_word t word.Inout at inout) r))
+      not_met t (shut_sign t sign.Underscore at other) (not_met t (shut_word t word.Out at out)
+      (not_met t (shut_word t word.Inout at inout) r))
 
   pub valued : (at mid next : ℕ) (mode : Mode) (e : Expr) → kind_at t.list.now at ≢ Some (token.Sign sign.Underscore) → ModeAt t at mode mid
       → Takes (nest (expr s outside)) t mid e next → Takes (arg_form s) t at (Value mode e) next
@@ -109,14 +119,16 @@ module _ (t : Tokens) (s : Scope) where
   no_args at given other empty = rw empty (takes t (not_met t (shut_sign t sign.LeftParen at other) (gives t)))
 
   pub behind_name : (on : Recv) (at : ℕ) → Stands IsFeature t at → {v : Reading Expr}
-      → Runs t (make (λ given. tree.Call on (bytes_at t.src.now t.list.now at) given (pos_at t at)) (args_form s)) (at + 1) v → Runs t (call_form s on) at v
+      → Runs t (make (λ given. tree.Call on (bytes_at t.src.now t.list.now at) given (pos_at t at)) (args_form s)) (at + 1) v
+      → Runs t (call_form s on) at v
   unfolding call_form named_form
   behind_name on at f r = met t f.kind f.there (feature_met f.is) r
 
   pub called : (on : Recv) (at next : ℕ) (name : List ℕ) (given : List Given) (pos : Pos) → Stands IsFeature t at
       → name ≡ bytes_at t.src.now t.list.now at → pos ≡ pos_at t at → Takes (args_form s) t (at + 1) given next
       → Takes (call_form s on) t at (tree.Call on name given pos) next
-  called on at next name given pos f named stands inside = rw (named, stands) (takes t (behind_name on at f (makes t next (taken t inside))))
+  called on at next name given pos f named stands inside =
+      rw (named, stands) (takes t (behind_name on at f (makes t next (taken t inside))))
 
   pub no_name : (on : Recv) (at : ℕ) → ((kind_at t.list.now at ≡ Some token.Lower) ⊎ (kind_at t.list.now at ≡ Some token.IterName) → ⊥)
       → Runs t (call_form s on) at (Refused (lexemes_from t at))
@@ -128,7 +140,8 @@ module _ (t : Tokens) (s : Scope) where
   unfolding places_form
   closed_places at mid places inside there = takes t (closed t mid (taken t inside) there)
 
-  pub places_refused : (at : ℕ) {rest : List Lexeme} → Runs t (list (nest (expr s outside))) at (Refused rest) → Runs t (places_form s) at (Refused rest)
+  pub places_refused : (at : ℕ) {rest : List Lexeme} → Runs t (list (nest (expr s outside))) at (Refused rest)
+      → Runs t (places_form s) at (Refused rest)
   unfolding places_form
   places_refused at r = stops t r
 
@@ -143,13 +156,14 @@ module _ (t : Tokens) (s : Scope) where
   abbrev going : Pos × Expr → Lexeme → Form (Pos × Expr)
   going so_far l = going_form (is_sign sign.Dot l) s so_far
 
-  behind_dot : (so_far : Pos × Expr) (at : ℕ) {v : Reading (Pos × Expr)} → Runs t (make (λ e. (so_far.0, e)) (call_form s (Of so_far.1))) at v
-      → Runs t (going_form true s so_far) at v
+  behind_dot : (so_far : Pos × Expr) (at : ℕ) {v : Reading (Pos × Expr)}
+      → Runs t (make (λ e. (so_far.0, e)) (call_form s (Of so_far.1))) at v → Runs t (going_form true s so_far) at v
   unfolding going_form
   behind_dot so_far at r = r
 
   behind_bracket : (so_far : Pos × Expr) (at : ℕ) {v : Reading (Pos × Expr)}
-      → Runs t (make (λ places. (so_far.0, tree.Index (Some so_far.1) places so_far.0)) (places_form s)) at v → Runs t (going_form false s so_far) at v
+      → Runs t (make (λ places. (so_far.0, tree.Index (Some so_far.1) places so_far.0)) (places_form s)) at v
+      → Runs t (going_form false s so_far) at v
   unfolding going_form
   behind_bracket so_far at r = r
 
@@ -177,25 +191,30 @@ module _ (t : Tokens) (s : Scope) where
           first = p.first;
           behind = p.behind;
           begun = p.begun;
-          turned = next_turn t goes_on going p.turned (token.Sign sign.Dot) dot refl (behind_dot (pos_at t from, a) (mid + 1) (makes t next (taken t called)));
+          turned = next_turn t goes_on going p.turned (token.Sign sign.Dot) dot refl
+              (behind_dot (pos_at t from, a) (mid + 1) (makes t next (taken t called)));
         }
 
-    pub index_read : {from mid next : ℕ} {a on : Expr} {places : List Expr} {pos : Pos} → Posts from a mid → kind_at t.list.now mid ≡ Some (token.Sign sign.LeftBracket)
+    pub index_read : {from mid next : ℕ} {a on : Expr} {places : List Expr} {pos : Pos} → Posts from a mid
+        → kind_at t.list.now mid ≡ Some (token.Sign sign.LeftBracket)
         → Takes (places_form s) t (mid + 1) places next → on ≡ a → pos ≡ pos_at t from → Posts from (tree.Index (Some on) places pos) next
     index_read {from = from} {mid = mid} {next = next} {a = a} p bracket inside same stands = rw (same, stands) (record {
       first = p.first;
       behind = p.behind;
       begun = p.begun;
-      turned = next_turn t goes_on going p.turned (token.Sign sign.LeftBracket) bracket refl (behind_bracket (pos_at t from, a) (mid + 1) (makes t next (taken t inside)));
+      turned = next_turn t goes_on going p.turned (token.Sign sign.LeftBracket) bracket refl
+          (behind_bracket (pos_at t from, a) (mid + 1) (makes t next (taken t inside)));
     })
 
     -- a form for the whole
-    placed_first : {from mid : ℕ} {a : Expr} (kind : TokenKind) → kind_at t.list.now from ≡ Some kind → Runs t (first_form s x) from (Read a (lexemes_from t mid))
-        → {v : Reading (Pos × Expr)} → Runs t (repeat goes_on going (pos_at t from, a)) mid v → Runs t (placed_post_form s x) from v
+    placed_first : {from mid : ℕ} {a : Expr} (kind : TokenKind) → kind_at t.list.now from ≡ Some kind
+        → Runs t (first_form s x) from (Read a (lexemes_from t mid)) → {v : Reading (Pos × Expr)}
+        → Runs t (repeat goes_on going (pos_at t from, a)) mid v → Runs t (placed_post_form s x) from v
     unfolding placed_post_form
     placed_first {mid = mid} kind there first r = follows t (places t kind mid there first) r
 
-    no_placed : {from : ℕ} {rest : List Lexeme} → Runs t (first_form s x) from (Refused rest) → Runs t (placed_post_form s x) from (Refused rest)
+    no_placed : {from : ℕ} {rest : List Lexeme} → Runs t (first_form s x) from (Refused rest)
+        → Runs t (placed_post_form s x) from (Refused rest)
     unfolding placed_post_form
     no_placed r = stops t (unplaced t r)
 
@@ -204,27 +223,31 @@ module _ (t : Tokens) (s : Scope) where
     unfolding post_form
     whole next r = makes t next r
 
-    no_whole : {from : ℕ} {rest : List Lexeme} → Runs t (placed_post_form s x) from (Refused rest) → Runs t (post_form s x) from (Refused rest)
+    no_whole : {from : ℕ} {rest : List Lexeme} → Runs t (placed_post_form s x) from (Refused rest)
+        → Runs t (post_form s x) from (Refused rest)
     unfolding post_form
     no_whole r = stops t r
 
-    pub no_first : {from : ℕ} {rest : List Lexeme} → Runs t (first_form s x) from (Refused rest) → Runs t (post_form s x) from (Refused rest)
+    pub no_first : {from : ℕ} {rest : List Lexeme} → Runs t (first_form s x) from (Refused rest)
+        → Runs t (post_form s x) from (Refused rest)
     no_first r = no_whole (no_placed r)
 
-    pub no_call : {from mid : ℕ} {a on : Expr} {rest : List Lexeme} (kind : TokenKind) → kind_at t.list.now from ≡ Some kind → Posts from a mid
-        → kind_at t.list.now mid ≡ Some (token.Sign sign.Dot) → on ≡ a → Runs t (call_form s (Of on)) (mid + 1) (Refused rest)
+    pub no_call : {from mid : ℕ} {a on : Expr} {rest : List Lexeme} (kind : TokenKind) → kind_at t.list.now from ≡ Some kind
+        → Posts from a mid → kind_at t.list.now mid ≡ Some (token.Sign sign.Dot) → on ≡ a
+        → Runs t (call_form s (Of on)) (mid + 1) (Refused rest)
         → Runs t (post_form s x) from (Refused rest)
     no_call {from = from} {mid = mid} {a = a} {rest = rest} kind there p dot same r =
         let called = subst (λ (on : Expr). Runs t (call_form s (Of on)) (mid + 1) (Refused rest)) same r in
         no_whole (placed_first kind there p.begun
         (turn_refused t goes_on going p.turned (token.Sign sign.Dot) dot refl (behind_dot (pos_at t from, a) (mid + 1) (stops t called))))
 
-    pub no_index : {from mid : ℕ} {a : Expr} {rest : List Lexeme} (kind : TokenKind) → kind_at t.list.now from ≡ Some kind → Posts from a mid
-        → kind_at t.list.now mid ≡ Some (token.Sign sign.LeftBracket) → Runs t (places_form s) (mid + 1) (Refused rest)
+    pub no_index : {from mid : ℕ} {a : Expr} {rest : List Lexeme} (kind : TokenKind) → kind_at t.list.now from ≡ Some kind
+        → Posts from a mid → kind_at t.list.now mid ≡ Some (token.Sign sign.LeftBracket) → Runs t (places_form s) (mid + 1) (Refused rest)
         → Runs t (post_form s x) from (Refused rest)
     no_index {from = from} {mid = mid} {a = a} kind there p bracket r =
         no_whole (placed_first kind there p.begun
-        (turn_refused t goes_on going p.turned (token.Sign sign.LeftBracket) bracket refl (behind_bracket (pos_at t from, a) (mid + 1) (stops t r))))
+        (turn_refused t goes_on going p.turned (token.Sign sign.LeftBracket) bracket refl
+        (behind_bracket (pos_at t from, a) (mid + 1) (stops t r))))
 
     pub all_read : {from next : ℕ} {a : Expr} (kind : TokenKind) → kind_at t.list.now from ≡ Some kind → Posts from a next
         → kind_at t.list.now next ≢ Some (token.Sign sign.Dot) → kind_at t.list.now next ≢ Some (token.Sign sign.LeftBracket)
@@ -234,10 +257,12 @@ module _ (t : Tokens) (s : Scope) where
 
   -- ---- the productions that nest
 
-  pub nested_expr : (x : Where) (from : ℕ) (r : Result (Expr × ℕ) FrontFault) → ReadsAs (expr_form s x) t from r → ReadsAs (nest (expr s x)) t from r
+  pub nested_expr : (x : Where) (from : ℕ) (r : Result (Expr × ℕ) FrontFault) → ReadsAs (expr_form s x) t from r
+      → ReadsAs (nest (expr s x)) t from r
   unfolding form_of
   nested_expr x from r h = nested_reads t (expr s x) from r h
 
-  pub nested_post : (from : ℕ) (r : Result (Expr × ℕ) FrontFault) → ReadsAs (post_form s outside) t from r → ReadsAs (nest (post s outside)) t from r
+  pub nested_post : (from : ℕ) (r : Result (Expr × ℕ) FrontFault) → ReadsAs (post_form s outside) t from r
+      → ReadsAs (nest (post s outside)) t from r
   unfolding form_of
   nested_post from r h = nested_reads t (post s outside) from r h

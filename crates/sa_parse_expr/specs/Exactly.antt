@@ -61,7 +61,8 @@ nested_form s code_form.Post = nest (post s outside)
 pub data ModeAt (t : Tokens) (at : ℕ) : Mode → ℕ → Type 0 where
   out_there : kind_at t.list.now at ≡ Some (token.Word word.Out) → ModeAt t at Out (at + 1)
   inout_there : kind_at t.list.now at ≡ Some (token.Word word.Inout) → ModeAt t at Inout (at + 1)
-  no_mode_there : kind_at t.list.now at ≢ Some (token.Word word.Out) → kind_at t.list.now at ≢ Some (token.Word word.Inout) → ModeAt t at In at
+  no_mode_there : kind_at t.list.now at ≢ Some (token.Word word.Out) → kind_at t.list.now at ≢ Some (token.Word word.Inout)
+      → ModeAt t at In at
 
 -- ---- operators by their precedence
 

@@ -60,7 +60,8 @@ pub fn expr(
     ensures next { IfOk result (λ read. IsBehind tokens.now from read.1) }
     ensures spelled { IfOk result (λ read. IsExpr Plain Open (slice_range (lexemes_of file src.now tokens.now) from read.1) read.0) }
     ensures refused { IfErr result (IsUnexpected file) }
-    ensures exact { ReadsOf (nest (expr Plain outside)) (lexemes_of file src.now tokens.now) (unexpected_at file src.now tokens.now) from result }
+    ensures exact { ReadsOf (nest (expr Plain outside)) (lexemes_of file src.now tokens.now)
+        (unexpected_at file src.now tokens.now) from result }
 {
     let tokens = Tokens {
         list: tokens,
@@ -85,7 +86,8 @@ pub fn condition(
     ensures next { IfOk result (λ read. IsBehind tokens.now from read.1) }
     ensures spelled { IfOk result (λ read. IsExpr scope Open (slice_range (lexemes_of file src.now tokens.now) from read.1) read.0) }
     ensures refused { IfErr result (IsUnexpected file) }
-    ensures exact { ReadsOf (nest (expr scope outside)) (lexemes_of file src.now tokens.now) (unexpected_at file src.now tokens.now) from result }
+    ensures exact { ReadsOf (nest (expr scope outside)) (lexemes_of file src.now tokens.now)
+        (unexpected_at file src.now tokens.now) from result }
 {
     let tokens = Tokens {
         list: tokens,
