@@ -1,4 +1,5 @@
 mod ExactArguments
+mod ExactOperations
 mod ExactTypes
 mod Innermost
 mod Precedences

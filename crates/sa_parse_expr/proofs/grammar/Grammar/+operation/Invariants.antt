@@ -1,8 +1,10 @@
 -- The weaker operators before the stronger ones, and an operation before its operands.
 use Rattle.std.proofs.Common.{length, ◌+◌, ◌-◌, ◌*◌}
+use Rattle.sa_parse_expr.specs.Arounds.{where_of}
 use Rattle.sa_parse_expr.specs.Expressions.{IsOperation}
 use Rattle.sa_parse_expr.specs.Lexemes.{between}
 use Rattle.sa_parse_expr.specs.Places.{IsBehind}
+use Rattle.sa_parse_expr.proofs.ExactOperations.{OperatedBy}
 use Rattle.sa_parse_expr.proofs.Precedences.{weaker_than}
 use Rattle.sa_parse_expr.proofs.grammar.Grammar.+operation.Given as goal
 
@@ -16,6 +18,7 @@ abbrev pub invariant-operation-more : goal.invariant-operation-more
 invariant-operation-more g l = record {
   behind : IsBehind l.self.tokens.list.now l.from l.next;
   spelled : IsOperation l.self.scope l.precedence l.around (between l.self.tokens l.from l.next) l.left;
+  operated : OperatedBy l.self.tokens l.precedence l.self.scope (where_of l.around) l.from l.left l.next;
 }
 
 abbrev pub decreases-operation-more : goal.decreases-operation-more
