@@ -1,4 +1,5 @@
 mod ExactArguments
+mod ExactFirsts
 mod ExactOperations
 mod ExactTypes
 mod Innermost

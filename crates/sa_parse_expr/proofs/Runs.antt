@@ -54,6 +54,17 @@ listed_on-one test item short n a (l ∷ ls) h =
     (ap (with_read (λ others. a ∷ others)) (listed-same n test item item short (λ ms lt. refl) n (suc n) ls (omega arith) (omega arith) (omega arith)))
     refl
 
+-- ---- what is behind a lexeme that has to stand there
+
+behind-cond : {A B : Type 0} (next : A → Reader B) (b : Bool) (v w : Reading A) → behind next (cond b v w) ≡ cond b (behind next v) (behind next w)
+behind-cond next true v w = refl
+behind-cond next false v w = refl
+
+behind_shifted : {A B : Type 0} (test : Lexeme → Bool) (go : Lexeme → Reader A) (next : A → Reader B) (ls : List Lexeme)
+    → behind next (shifted test go Refused ls) ≡ shifted test (λ l more. behind next (go l more)) Refused ls
+behind_shifted test go next [] = refl
+behind_shifted test go next (l ∷ ls) = behind-cond next (test l) (go l ls) (Refused (l ∷ ls))
+
 -- ---- forms at places
 
 module _ (t : Tokens) where
@@ -148,6 +159,14 @@ module _ (t : Tokens) where
         ∙ shifted_met test (λ l. at_level (go l)) (at_level other) (lexeme_at t at kind) (lexemes_from t (at + 1)) h ∙ r.is;
   }
 
+  -- and back: what is read behind the token
+  pub met_inside : {A : Type 0} {test : Lexeme → Bool} {go : Lexeme → Form A} {other : Form A} {at : ℕ} {v : Reading A} (kind : TokenKind)
+      → kind_at t.list.now at ≡ Some kind → test (lexeme_at t at kind) ≡ true → Runs (shift test go other) at v → Runs (go (lexeme_at t at kind)) (at + 1) v
+  met_inside {test = test} {go = go} {other = other} {at = at} kind there h r = record {
+    is = sym (ap (at_level (shift test go other)) (stands t at kind there)
+        ∙ shifted_met test (λ l. at_level (go l)) (at_level other) (lexeme_at t at kind) (lexemes_from t (at + 1)) h) ∙ r.is;
+  }
+
   pub not_met : {A : Type 0} {test : Lexeme → Bool} {go : Lexeme → Form A} {other : Form A} {at : ℕ} {v : Reading A}
       → Shut test (lexemes_from t at) → Runs other at v → Runs (shift test go other) at v
   not_met {test = test} {go = go} {other = other} {at = at} h r = record {
@@ -170,6 +189,13 @@ module _ (t : Tokens) where
   pub makes : {A B : Type 0} {form : Form A} {f : A → B} {at : ℕ} {a : A} (next : ℕ)
       → Runs form at (Read a (lexemes_from t next)) → Runs (make f form) at (Read (f a) (lexemes_from t next))
   makes next r = follows r gives
+
+  -- what is made of a token and what follows it is made of what follows
+  pub makes_inside : {A B : Type 0} {test : Lexeme → Bool} {go : Lexeme → Form A} {f : A → B} {at : ℕ} {v : Reading B}
+      → Runs (make f (shift test go refuse)) at v → Runs (shift test (λ l. make f (go l)) refuse) at v
+  makes_inside {test = test} {go = go} {f = f} {at = at} r = record {
+    is = sym (behind_shifted test (λ l. at_level (go l)) (λ a. Read (f a)) (lexemes_from t at)) ∙ r.is;
+  }
 
   pub closed : {A : Type 0} {form : Form A} {sign : Sign} {at : ℕ} {a : A} (mid : ℕ) → Runs form at (Read a (lexemes_from t mid))
       → kind_at t.list.now mid ≡ Some (token.Sign sign) → Runs (until sign form) at (Read a (lexemes_from t (mid + 1)))
