@@ -440,24 +440,31 @@ module _ (t : Tokens) where
   end_begins_none Plain in_array at end = passing_end 14 (first_form Plain in_array) end (stops t (passing_end 4 type_form end (refused t)))
 
   -- another sign, and another word
-  sign_opens_none : (s : Scope) (a : Around) (at : ℕ) (sg : Sign) → sg ≢ sign.LeftParen → sg ≢ sign.Hash → sg ≢ sign.LeftBracket → (sg ≡ sign.Bar → a ≢ Open)
-      → opens (first_form s (where_of a)) (lexeme_at t at (token.Sign sg)) ≡ false
+  sign_opens_none : (s : Scope) (x : Where) (at : ℕ) (sg : Sign) → sg ≢ sign.LeftParen → sg ≢ sign.Hash → sg ≢ sign.LeftBracket → sg ≢ sign.Bar
+      → opens (first_form s x) (lexeme_at t at (token.Sign sg)) ≡ false
   unfolding first_form items_or result_or class_call_form type_form
-  sign_opens_none s a at sign.LeftParen paren hash bracket bar = absurd (paren refl)
-  sign_opens_none s a at sign.Hash paren hash bracket bar = absurd (hash refl)
-  sign_opens_none s a at sign.LeftBracket paren hash bracket bar = absurd (bracket refl)
-  sign_opens_none s Open at sign.Bar paren hash bracket bar = absurd (bar refl refl)
-  sign_opens_none PostClause Items at _ paren hash bracket bar = refl
-  sign_opens_none Plain Items at _ paren hash bracket bar = refl
-  sign_opens_none PostClause Open at _ paren hash bracket bar = refl
-  sign_opens_none Plain Open at _ paren hash bracket bar = refl
+  sign_opens_none s x at sign.LeftParen paren hash bracket bar = absurd (paren refl)
+  sign_opens_none s x at sign.Hash paren hash bracket bar = absurd (hash refl)
+  sign_opens_none s x at sign.LeftBracket paren hash bracket bar = absurd (bracket refl)
+  sign_opens_none s x at sign.Bar paren hash bracket bar = absurd (bar refl)
+  sign_opens_none PostClause outside at _ paren hash bracket bar = refl
+  sign_opens_none PostClause in_array at _ paren hash bracket bar = refl
+  sign_opens_none Plain outside at _ paren hash bracket bar = refl
+  sign_opens_none Plain in_array at _ paren hash bracket bar = refl
 
-  pub no_sign : (s : Scope) (a : Around) (at : ℕ) (sg : Sign) → kind_at t.list.now at ≡ Some (token.Sign sg)
-      → sg ≢ sign.LeftParen → sg ≢ sign.Hash → sg ≢ sign.LeftBracket → (sg ≡ sign.Bar → a ≢ Open)
+  pub no_sign : (s : Scope) (x : Where) (at : ℕ) (sg : Sign) → kind_at t.list.now at ≡ Some (token.Sign sg)
+      → sg ≢ sign.LeftParen → sg ≢ sign.Hash → sg ≢ sign.LeftBracket → sg ≢ sign.Bar → Runs t (first_form s x) at (Refused (lexemes_from t at))
+  no_sign s x at sg there paren hash bracket bar = none_begins s x at (token.Sign sg) there (sign_opens_none s x at sg paren hash bracket bar)
+
+  -- a `|` that ends an array literal
+  pub no_items : (s : Scope) (a : Around) (at : ℕ) → kind_at t.list.now at ≡ Some (token.Sign sign.Bar) → a ≢ Open
       → Runs t (first_form s (where_of a)) at (Refused (lexemes_from t at))
-  no_sign s a at sg there paren hash bracket bar =
-      none_begins s (where_of a) at (token.Sign sg) there (sign_opens_none s a at sg paren hash bracket bar)
+  unfolding first_form items_or result_or class_call_form type_form
+  no_items s Open at there other = absurd (other refl)
+  no_items PostClause Items at there other = none_begins PostClause in_array at (token.Sign sign.Bar) there refl
+  no_items Plain Items at there other = none_begins Plain in_array at (token.Sign sign.Bar) there refl
 
+  -- `result` and `initial` outside of a `post`
   pub no_post : (s : Scope) (x : Where) (at : ℕ) (w : Word) → kind_at t.list.now at ≡ Some (token.Word w) → s ≢ PostClause
       → (w ≡ word.Result) ⊎ (w ≡ word.Initial) → Runs t (first_form s x) at (Refused (lexemes_from t at))
   unfolding first_form items_or result_or class_call_form type_form
