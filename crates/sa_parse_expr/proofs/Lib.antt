@@ -1,3 +1,4 @@
+pub mod Alternatives
 mod ExactArguments
 mod ExactFirsts
 mod ExactOperations

@@ -1,5 +1,6 @@
-use Rattle.std.proofs.Common.{arith, ◌+◌, rules}
+use Rattle.std.proofs.Common.{arith, rules}
 use Rattle.sa_parse_expr.proofs.SpelledExpressions.{class_called}
+use Rattle.sa_parse_expr.proofs.Alternatives.{alike}
 use Rattle.sa_parse_expr.proofs.ExactFirsts as exact
 use Rattle.sa_parse_expr.proofs.Runs.{handed_on, refused_at}
 use Rattle.sa_parse_expr.specs.Forms.{nest, type}
@@ -21,12 +22,14 @@ returns-in_err-next-clause-exact g c =
     let class = c.in_ok-class in
     let other = c.in_err-next.ensures in
     refused_at c.args.self.now.tokens class.next _ (search rules) other.fault
-    (exact.class_not_called c.args.self.now.tokens c.args.self.now.scope c.args.from class.next class.class class.ensures.exact other.another)
+    (exact.class_not_called c.args.self.now.tokens c.args.self.now.scope c.args.from class.next class.class class.ensures.exact
+    other.another)
 
 pub returns-clause-exact : goal.returns-clause-exact
 returns-clause-exact g c =
     let class = c.in_ok-class in
     let colons = c.in_ok-next.ensures in
-    exact.alike c.args.self.now.tokens c.call.result
-    (λ v r. exact.class_called c.args.self.now.tokens c.args.self.now.scope c.args.from class.next class.class class.ensures.exact colons.sign r)
+    alike c.args.self.now.tokens c.call.result
+    (λ v r. exact.class_called c.args.self.now.tokens c.args.self.now.scope c.args.from class.next class.class class.ensures.exact
+    colons.sign r)
     (rw colons.next.0 at c.call.ensures.exact)

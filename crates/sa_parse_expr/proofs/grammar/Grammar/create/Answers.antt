@@ -15,7 +15,8 @@ returns-clause-spelled g c = λ around.
 pub returns-in_err-class-clause-exact : goal.returns-in_err-class-clause-exact
 returns-in_err-class-clause-exact g c = λ around.
     handed_on c.args.self.now.tokens optional_type_form (c.args.from + 1) _ (search rules) c.in_err-class.ensures.exact
-    (λ rest r. exact.behind_hash c.args.self.now.tokens c.args.self.now.scope (where_of around) c.args.from c.requires.there (stops c.args.self.now.tokens r))
+    (λ rest r. exact.behind_hash c.args.self.now.tokens c.args.self.now.scope (where_of around) c.args.from c.requires.there
+    (stops c.args.self.now.tokens r))
 
 pub returns-in_err-given-clause-exact : goal.returns-in_err-given-clause-exact
 returns-in_err-given-clause-exact g c = λ around.
@@ -26,4 +27,5 @@ returns-in_err-given-clause-exact g c = λ around.
 
 pub returns-clause-exact : goal.returns-clause-exact
 returns-clause-exact g c = λ around.
-    exact.create c.args.self.now.tokens c.args.self.now.scope (where_of around) c.args.from c.in_ok-class.next _ _ _ _ c.requires.there (search rules) c.in_ok-class.ensures.exact c.in_ok-given.ensures.exact
+    exact.create c.args.self.now.tokens c.args.self.now.scope (where_of around) c.args.from c.in_ok-class.next _ _ _ _ c.requires.there
+    (search rules) c.in_ok-class.ensures.exact c.in_ok-given.ensures.exact

@@ -3,6 +3,7 @@ use Rattle.sa_lex.specs.declared.token.TokenKind.TheVariants as token
 use Rattle.std.proofs.lemmas.Result.{IfOk-weaker}
 use Rattle.sa_parse_expr.specs.Expressions as exprs
 use Rattle.sa_parse_expr.proofs.SpelledExpressions.{number, character, texts}
+use Rattle.sa_parse_expr.proofs.Alternatives.{alike}
 use Rattle.sa_parse_expr.proofs.ExactFirsts as exact
 use Rattle.sa_parse_expr.proofs.Runs.{refused_at}
 use Rattle.sa_parse_expr.specs.Arounds.{where_of}
@@ -30,21 +31,24 @@ pub returns-in-Some-Word-clause-spelled : goal.returns-in-Some-Word-clause-spell
 returns-in-Some-Word-clause-spelled g c = c.first_word.ensures.spelled c.args.around
 
 pub returns-in-Some-Int-clause-exact : goal.returns-in-Some-Int-clause-exact
-returns-in-Some-Int-clause-exact g c = exact.number c.args.self.now.tokens c.args.self.now.scope (where_of c.args.around) c.args.from _ _ (grind arith) (search rules)
+returns-in-Some-Int-clause-exact g c =
+    exact.number c.args.self.now.tokens c.args.self.now.scope (where_of c.args.around) c.args.from _ _ (grind arith) (search rules)
 
 pub returns-in-Some-Char-clause-exact : goal.returns-in-Some-Char-clause-exact
-returns-in-Some-Char-clause-exact g c = exact.character c.args.self.now.tokens c.args.self.now.scope (where_of c.args.around) c.args.from _ _ (grind arith) (search rules)
+returns-in-Some-Char-clause-exact g c =
+    exact.character c.args.self.now.tokens c.args.self.now.scope (where_of c.args.around) c.args.from _ _ (grind arith) (search rules)
 
 pub returns-in_ok-text-in-Some-Text-clause-exact : goal.returns-in_ok-text-in-Some-Text-clause-exact
 returns-in_ok-text-in-Some-Text-clause-exact g c =
-    exact.text c.args.self.now.tokens c.args.self.now.scope (where_of c.args.around) c.args.from _ _ _ _ (grind arith) (search rules) c.in_ok-text-in-Some-Text.ensures.exact
+    exact.text c.args.self.now.tokens c.args.self.now.scope (where_of c.args.around) c.args.from _ _ _ _ (grind arith)
+    (search rules) c.in_ok-text-in-Some-Text.ensures.exact
 
 pub returns-in-Some-Lower-clause-exact : goal.returns-in-Some-Lower-clause-exact
 returns-in-Some-Lower-clause-exact g c =
     let kind = c.in-Some-Lower.field-0.now in
     let there : kind_at c.args.self.now.tokens.list.now c.args.from ≡ Some kind = first_of (search rules, grind arith) in
     let names : (kind ≡ token.Lower) ⊎ (kind ≡ token.IterName) = first_of (assumption c.in-Some-Lower, search rules) in
-    exact.alike c.args.self.now.tokens c.call.result
+    alike c.args.self.now.tokens c.call.result
     (λ v r. exact.implied_call c.args.self.now.tokens c.args.self.now.scope (where_of c.args.around) c.args.from kind there names r)
     c.call.ensures.exact
 
@@ -53,7 +57,7 @@ returns-in-Some-ClassName-clause-exact g c =
     let kind = c.in-Some-ClassName.field-0.now in
     let there : kind_at c.args.self.now.tokens.list.now c.args.from ≡ Some kind = first_of (search rules, grind arith) in
     let names : (kind ≡ token.ClassName) ⊎ (kind ≡ token.AbstractName) = first_of (assumption c.in-Some-ClassName, search rules) in
-    exact.alike c.args.self.now.tokens c.class_call.result
+    alike c.args.self.now.tokens c.class_call.result
     (λ v r. exact.named_call c.args.self.now.tokens c.args.self.now.scope (where_of c.args.around) c.args.from kind there names r)
     c.class_call.ensures.exact
 

@@ -4,6 +4,7 @@ use Rattle.sa_lex.specs.declared.sign.Sign.TheVariants as sign
 use Rattle.sa_parse_expr.specs.declared.grammar.Around.TheVariants as around
 use Rattle.sa_parse_expr.specs.Expressions as exprs
 use Rattle.sa_parse_expr.proofs.SpelledExpressions.{index_on_self}
+use Rattle.sa_parse_expr.proofs.Alternatives.{alike}
 use Rattle.sa_parse_expr.proofs.ExactFirsts as exact
 use Rattle.sa_parse_expr.proofs.Runs.{handed_on, refused_at, stops}
 use Rattle.sa_parse_expr.specs.Arounds.{where_of}
@@ -29,8 +30,9 @@ returns-in-Bar-clause-spelled g c =
 
 pub returns-in-LeftParen-clause-exact : goal.returns-in-LeftParen-clause-exact
 returns-in-LeftParen-clause-exact g c =
-    exact.alike c.args.self.now.tokens c.parenthesised.result
-    (λ v r. exact.parenthesised c.args.self.now.tokens c.args.self.now.scope (where_of c.args.around) c.args.from (rw c.in-LeftParen.is at c.requires.there) r)
+    alike c.args.self.now.tokens c.parenthesised.result
+    (λ v r. exact.parenthesised c.args.self.now.tokens c.args.self.now.scope (where_of c.args.around) c.args.from
+    (rw c.in-LeftParen.is at c.requires.there) r)
     c.parenthesised.ensures.exact
 
 pub returns-in-Hash-clause-exact : goal.returns-in-Hash-clause-exact
@@ -38,12 +40,15 @@ returns-in-Hash-clause-exact g c = c.create.ensures.exact c.args.around
 
 pub returns-in_err-places-in-LeftBracket-clause-exact : goal.returns-in_err-places-in-LeftBracket-clause-exact
 returns-in_err-places-in-LeftBracket-clause-exact g c =
-    handed_on c.args.self.now.tokens (places_form c.args.self.now.scope) (c.args.from + 1) _ (search rules) c.in_err-places-in-LeftBracket.ensures.exact
-    (λ rest r. exact.behind_bracket c.args.self.now.tokens c.args.self.now.scope (where_of c.args.around) c.args.from (rw c.in-LeftBracket.is at c.requires.there) (stops c.args.self.now.tokens r))
+    handed_on c.args.self.now.tokens (places_form c.args.self.now.scope) (c.args.from + 1) _
+    (search rules) c.in_err-places-in-LeftBracket.ensures.exact
+    (λ rest r. exact.behind_bracket c.args.self.now.tokens c.args.self.now.scope (where_of c.args.around) c.args.from
+    (rw c.in-LeftBracket.is at c.requires.there) (stops c.args.self.now.tokens r))
 
 pub returns-in_ok-places-in-LeftBracket-clause-exact : goal.returns-in_ok-places-in-LeftBracket-clause-exact
 returns-in_ok-places-in-LeftBracket-clause-exact g c =
-    exact.index c.args.self.now.tokens c.args.self.now.scope (where_of c.args.around) c.args.from _ _ _ (rw c.in-LeftBracket.is at c.requires.there) (search rules)
+    exact.index c.args.self.now.tokens c.args.self.now.scope (where_of c.args.around) c.args.from _ _ _
+    (rw c.in-LeftBracket.is at c.requires.there) (search rules)
     c.in_ok-places-in-LeftBracket.ensures.exact
 
 pub returns-in-Bar-clause-exact : goal.returns-in-Bar-clause-exact

@@ -4,6 +4,7 @@ use Rattle.sa_lex.specs.declared.word.Word.TheVariants as word
 use Rattle.sa_tree.specs.declared.expr.Expr.TheVariants as tree
 use Rattle.sa_parse_expr.specs.Expressions as exprs
 use Rattle.sa_parse_expr.proofs.SpelledExpressions.{word_alone}
+use Rattle.sa_parse_expr.proofs.Alternatives.{alike}
 use Rattle.sa_parse_expr.proofs.ExactFirsts as exact
 use Rattle.sa_parse_expr.proofs.Runs.{refused_at}
 use Rattle.sa_parse_expr.specs.Arounds.{where_of}
@@ -24,22 +25,31 @@ pub returns-in-Exception-clause-spelled : goal.returns-in-Exception-clause-spell
 returns-in-Exception-clause-spelled g c = λ around. word_alone c.args.self.now.tokens c.args.self.now.scope around c.args.from word.Exception tree.Exception _ (rw c.in-Exception.is at c.requires.there) (search rules) (exprs.exception_word (record { kind = refl }))
 
 pub returns-in-True-clause-exact : goal.returns-in-True-clause-exact
-returns-in-True-clause-exact g c = λ around. exact.true_word c.args.self.now.tokens c.args.self.now.scope (where_of around) c.args.from _ (rw c.in-True.is at c.requires.there) (search rules)
+returns-in-True-clause-exact g c = λ around.
+    exact.true_word c.args.self.now.tokens c.args.self.now.scope (where_of around) c.args.from _ (rw c.in-True.is at c.requires.there)
+    (search rules)
 
 pub returns-in-False-clause-exact : goal.returns-in-False-clause-exact
-returns-in-False-clause-exact g c = λ around. exact.false_word c.args.self.now.tokens c.args.self.now.scope (where_of around) c.args.from _ (rw c.in-False.is at c.requires.there) (search rules)
+returns-in-False-clause-exact g c = λ around.
+    exact.false_word c.args.self.now.tokens c.args.self.now.scope (where_of around) c.args.from _ (rw c.in-False.is at c.requires.there)
+    (search rules)
 
 pub returns-in-SelfWord-clause-exact : goal.returns-in-SelfWord-clause-exact
-returns-in-SelfWord-clause-exact g c = λ around. exact.self_word c.args.self.now.tokens c.args.self.now.scope (where_of around) c.args.from _ (rw c.in-SelfWord.is at c.requires.there) (search rules)
+returns-in-SelfWord-clause-exact g c = λ around.
+    exact.self_word c.args.self.now.tokens c.args.self.now.scope (where_of around) c.args.from _ (rw c.in-SelfWord.is at c.requires.there)
+    (search rules)
 
 pub returns-in-Exception-clause-exact : goal.returns-in-Exception-clause-exact
-returns-in-Exception-clause-exact g c = λ around. exact.exception_word c.args.self.now.tokens c.args.self.now.scope (where_of around) c.args.from _ (rw c.in-Exception.is at c.requires.there) (search rules)
+returns-in-Exception-clause-exact g c = λ around.
+    exact.exception_word c.args.self.now.tokens c.args.self.now.scope (where_of around) c.args.from _
+    (rw c.in-Exception.is at c.requires.there) (search rules)
 
 pub returns-in-Same-clause-exact : goal.returns-in-Same-clause-exact
 returns-in-Same-clause-exact g c = λ around.
     let begins : word_begins_type c.args.word ≡ true = first_of (cc, search rules, grind arith) in
-    exact.alike c.args.self.now.tokens c.class_call.result
-    (λ v r. exact.class_call c.args.self.now.tokens c.args.self.now.scope (where_of around) c.args.from (token.Word c.args.word) c.requires.there begins r)
+    alike c.args.self.now.tokens c.class_call.result
+    (λ v r. exact.class_call c.args.self.now.tokens c.args.self.now.scope (where_of around) c.args.from
+    (token.Word c.args.word) c.requires.there begins r)
     c.class_call.ensures.exact
 
 pub returns-in-Result-clause-exact : goal.returns-in-Result-clause-exact
@@ -53,9 +63,11 @@ returns-in_default-clause-exact g c = λ around.
     refused_at c.args.self.now.tokens c.args.from c.unexpected.result refl c.unexpected.ensures.value
     (elim c.in_default.branch [
       | in_default-via-in-Result+else-eq w ↦
-          exact.no_post c.args.self.now.tokens c.args.self.now.scope (where_of around) c.args.from c.args.word c.requires.there (search rules) (inl (search rules))
+          exact.no_post c.args.self.now.tokens c.args.self.now.scope (where_of around) c.args.from c.args.word c.requires.there
+          (search rules) (inl (search rules))
       | in_default-via-in-Initial+else-eq-2 w ↦
-          exact.no_post c.args.self.now.tokens c.args.self.now.scope (where_of around) c.args.from c.args.word c.requires.there (search rules) (inr (search rules))
+          exact.no_post c.args.self.now.tokens c.args.self.now.scope (where_of around) c.args.from c.args.word c.requires.there
+          (search rules) (inr (search rules))
       | in_default-via-in_default w ↦
           exact.no_word c.args.self.now.tokens c.args.self.now.scope (where_of around) c.args.from c.args.word c.requires.there (record {
             no_true = search rules;

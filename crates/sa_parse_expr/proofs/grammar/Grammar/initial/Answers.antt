@@ -15,10 +15,12 @@ returns-clause-spelled g c = λ around.
 pub returns-in_err-old-clause-exact : goal.returns-in_err-old-clause-exact
 returns-in_err-old-clause-exact g c = λ around.
     handed_on c.args.self.now.tokens (parenthesised_form Plain) (c.args.from + 1) _ (search rules) c.in_err-old.ensures.exact
-    (λ rest r. exact.initial_of c.args.self.now.tokens c.args.self.now.scope (where_of around) c.args.from c.requires.scope c.requires.there (stops c.args.self.now.tokens r))
+    (λ rest r. exact.initial_of c.args.self.now.tokens c.args.self.now.scope
+    (where_of around) c.args.from c.requires.scope c.requires.there (stops c.args.self.now.tokens r))
 
 pub returns-clause-exact : goal.returns-clause-exact
 returns-clause-exact g c = λ around.
     let old = c.in_ok-old in
-    exact.initial c.args.self.now.tokens c.args.self.now.scope (where_of around) c.args.from _ old.old _ _ _ c.requires.scope c.requires.there old.ensures.exact (search rules)
+    exact.initial c.args.self.now.tokens c.args.self.now.scope
+    (where_of around) c.args.from _ old.old _ _ _ c.requires.scope c.requires.there old.ensures.exact (search rules)
     (rw (c.in_ok-push.ensures.ok, c.new-given.ensures)) (search rules)

@@ -14,20 +14,24 @@ returns-clause-spelled g c =
 
 pub returns-in_err-items-clause-exact : goal.returns-in_err-items-clause-exact
 returns-in_err-items-clause-exact g c =
-    handed_on c.args.self.now.tokens (list (nest (expr c.args.self.now.scope in_array))) (c.args.from + 1) _ (search rules) c.in_err-items.ensures.exact
-    (λ rest r. exact.behind_bar c.args.self.now.tokens c.args.self.now.scope c.args.from c.requires.there (stops c.args.self.now.tokens (stops c.args.self.now.tokens r)))
+    handed_on c.args.self.now.tokens (list (nest (expr c.args.self.now.scope in_array))) (c.args.from + 1) _
+    (search rules) c.in_err-items.ensures.exact
+    (λ rest r. exact.behind_bar c.args.self.now.tokens c.args.self.now.scope c.args.from c.requires.there
+    (stops c.args.self.now.tokens (stops c.args.self.now.tokens r)))
 
 pub returns-in_err-next-clause-exact : goal.returns-in_err-next-clause-exact
 returns-in_err-next-clause-exact g c =
     let inside = c.in_ok-items in
     let other = c.in_err-next.ensures in
+    let read = taken c.args.self.now.tokens {form = list (nest (expr c.args.self.now.scope in_array))} inside.ensures.exact in
     refused_at c.args.self.now.tokens inside.next _ (search rules) other.fault
     (exact.behind_bar c.args.self.now.tokens c.args.self.now.scope c.args.from c.requires.there
-    (stops c.args.self.now.tokens (unclosed c.args.self.now.tokens inside.next (taken c.args.self.now.tokens inside.ensures.exact) other.another)))
+    (stops c.args.self.now.tokens (unclosed c.args.self.now.tokens inside.next read other.another)))
 
 pub returns-clause-exact : goal.returns-clause-exact
 returns-clause-exact g c =
     let inside = c.in_ok-items in
     let closes = c.in_ok-next.ensures in
     rw closes.next.0
-    (exact.items c.args.self.now.tokens c.args.self.now.scope c.args.from inside.next _ _ c.requires.there (search rules) closes.sign inside.ensures.exact)
+    (exact.items c.args.self.now.tokens c.args.self.now.scope c.args.from inside.next _ _ c.requires.there
+    (search rules) closes.sign inside.ensures.exact)

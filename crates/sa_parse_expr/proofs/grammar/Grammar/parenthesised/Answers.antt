@@ -1,4 +1,4 @@
-use Rattle.std.proofs.Common.{◌+◌, arith, rules}
+use Rattle.std.proofs.Common.{arith, rules}
 use Rattle.sa_parse_expr.proofs.SpelledExpressions.{in_parentheses}
 use Rattle.sa_parse_expr.proofs.ExactFirsts as exact
 use Rattle.sa_parse_expr.proofs.Runs.{taken, takes, handed_on, refused_at, stops, closed, unclosed}
@@ -16,13 +16,15 @@ returns-clause-spelled g c =
 pub returns-in_err-next-clause-exact : goal.returns-in_err-next-clause-exact
 returns-in_err-next-clause-exact g c =
     let other = c.in_err-next.ensures in
-    refused_at c.args.self.now.tokens c.args.from _ (search rules) other.fault (exact.no_paren c.args.self.now.tokens c.args.scope c.args.from other.another)
+    refused_at c.args.self.now.tokens c.args.from _ (search rules) other.fault
+    (exact.no_paren c.args.self.now.tokens c.args.scope c.args.from other.another)
 
 pub returns-in_err-inner-clause-exact : goal.returns-in_err-inner-clause-exact
 returns-in_err-inner-clause-exact g c =
     let opens = c.in_ok-next.ensures in
     handed_on c.args.self.now.tokens (nest (expr c.args.scope outside)) c.in_ok-next.next _ (search rules) c.in_err-inner.ensures.exact
-    (λ rest r. exact.behind_paren c.args.self.now.tokens c.args.scope c.args.from opens.sign (stops c.args.self.now.tokens (rw opens.next.0 at r)))
+    (λ rest r. exact.behind_paren c.args.self.now.tokens c.args.scope c.args.from opens.sign
+    (stops c.args.self.now.tokens (rw opens.next.0 at r)))
 
 pub returns-in_err-after_sign-clause-exact : goal.returns-in_err-after_sign-clause-exact
 returns-in_err-after_sign-clause-exact g c =

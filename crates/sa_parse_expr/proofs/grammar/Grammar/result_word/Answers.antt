@@ -10,4 +10,5 @@ returns-clause-spelled g c = λ around.
 
 pub returns-clause-exact : goal.returns-clause-exact
 returns-clause-exact g c = λ around.
-    exact.result c.args.self.now.tokens c.args.self.now.scope (where_of around) c.args.from _ _ _ c.requires.scope c.requires.there (search rules) (search rules) (search rules)
+    exact.result c.args.self.now.tokens c.args.self.now.scope (where_of around) c.args.from _ _ _ c.requires.scope c.requires.there
+    (search rules) (search rules) (search rules)

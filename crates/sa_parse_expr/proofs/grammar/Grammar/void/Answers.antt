@@ -29,9 +29,11 @@ pub returns-in_err-of-clause-exact : goal.returns-in_err-of-clause-exact
 returns-in_err-of-clause-exact g c = λ around.
     let opening : kind_at c.args.self.now.tokens.list.now (c.args.from + 1) ≡ Some (token.Sign sign.LeftParen) = search rules in
     handed_on c.args.self.now.tokens (parenthesised_form c.args.self.now.scope) (c.args.from + 1) _ (search rules) c.in_err-of.ensures.exact
-    (λ rest r. exact.void_of c.args.self.now.tokens c.args.self.now.scope (where_of around) c.args.from c.requires.there opening (stops c.args.self.now.tokens r))
+    (λ rest r. exact.void_of c.args.self.now.tokens c.args.self.now.scope (where_of around) c.args.from c.requires.there opening
+    (stops c.args.self.now.tokens r))
 
 pub returns-clause-exact : goal.returns-clause-exact
 returns-clause-exact g c = λ around.
     let opening : kind_at c.args.self.now.tokens.list.now (c.args.from + 1) ≡ Some (token.Sign sign.LeftParen) = search rules in
-    exact.is_void c.args.self.now.tokens c.args.self.now.scope (where_of around) c.args.from _ _ _ _ c.requires.there (search rules) opening c.in_ok-of.ensures.exact (search rules)
+    exact.is_void c.args.self.now.tokens c.args.self.now.scope (where_of around) c.args.from _ _ _ _ c.requires.there
+    (search rules) opening c.in_ok-of.ensures.exact (search rules)
