@@ -23,10 +23,10 @@ pub returns-in_err-next-clause-exact : goal.returns-in_err-next-clause-exact
 returns-in_err-next-clause-exact g c =
     let inside = c.in_ok-items in
     let other = c.in_err-next.ensures in
-    let read = taken c.args.self.now.tokens {form = list (nest (expr c.args.self.now.scope in_array))} inside.ensures.exact in
     refused_at c.args.self.now.tokens inside.next _ (search rules) other.fault
     (exact.behind_bar c.args.self.now.tokens c.args.self.now.scope c.args.from c.requires.there
-    (stops c.args.self.now.tokens (unclosed c.args.self.now.tokens inside.next read other.another)))
+    (stops c.args.self.now.tokens (unclosed c.args.self.now.tokens inside.next (taken c.args.self.now.tokens inside.ensures.exact)
+    other.another)))
 
 pub returns-clause-exact : goal.returns-clause-exact
 returns-clause-exact g c =
