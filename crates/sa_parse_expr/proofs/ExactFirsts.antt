@@ -312,9 +312,9 @@ module _ (t : Tokens) where
 
   pub bind_first : (s : Scope) (x : Where) (at : ℕ) → HasWord at word.Bind → {v : Reading Expr}
       → Runs t
-          (shift (is_sign sign.LeftParen)
-          (λ _. make (λ e. tree.Bind e (pos_at t at)) (until sign.RightParen (nest (post s outside)))) refuse)
-          (at + 1) v
+      (shift (is_sign sign.LeftParen)
+      (λ _. make (λ e. tree.Bind e (pos_at t at)) (until sign.RightParen (nest (post s outside)))) refuse)
+      (at + 1) v
       → Runs t (first_form s x) at v
   unfolding first_form
   bind_first s x at there r =
@@ -376,8 +376,8 @@ module _ (t : Tokens) where
 
   pub initial_of : (s : Scope) (x : Where) (at : ℕ) → s ≡ PostClause → HasWord at word.Initial → {v : Reading Expr}
       → Runs t
-          (make (λ e. tree.Call Implied (bytes_at t.src.now t.list.now at) (Value In e ∷ []) (pos_at t at)) (parenthesised_form Plain))
-          (at + 1) v
+      (make (λ e. tree.Call Implied (bytes_at t.src.now t.list.now at) (Value In e ∷ []) (pos_at t at)) (parenthesised_form Plain))
+      (at + 1) v
       → Runs t (first_form s x) at v
   unfolding first_form result_or parenthesised_form
   initial_of s x at scope there r =
