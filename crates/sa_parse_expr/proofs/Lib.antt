@@ -4,6 +4,7 @@ mod ExactFirsts
 mod ExactOperations
 mod ExactTypes
 mod Innermost
+pub mod Openings
 mod Precedences
 pub mod Runs
 pub mod SameLevels
