@@ -1,10 +1,6 @@
 -- Lists of statements and statements that hold others, as their forms read them: a lemma for each alternative.
-use Rattle.std.proofs.Common.{◌≡◌, ◌≢◌, ℕ, ◌+◌, Bool, true, ◌||◌, List, [], ◌∷◌, ◌++◌, Option, Some, None, unwrap_or, Result, refl, sym, ap, ◌∙◌, append_assoc}
-use Rattle.std.proofs.lemmas.List.{append-nil}
-use Rattle.sa_lex.specs.declared.token.TokenKind.{TokenKind}
+use Rattle.std.proofs.Common.{◌≡◌, ◌≢◌, ℕ, ◌+◌, List, [], ◌∷◌, ◌++◌, Option, Some, None, unwrap_or, Result, refl, sym, ap, ◌∙◌}
 use Rattle.sa_lex.specs.declared.token.TokenKind.TheVariants as token
-use Rattle.sa_lex.specs.declared.sign.Sign.{Sign}
-use Rattle.sa_lex.specs.declared.sign.Sign.TheVariants as sign
 use Rattle.sa_lex.specs.declared.word.Word.{Word}
 use Rattle.sa_lex.specs.declared.word.Word.TheVariants as word
 use Rattle.sa_tree.specs.declared.pos.Pos.{Pos}
@@ -19,7 +15,7 @@ use Rattle.sa_tree.specs.declared.stmt.Stmt.{Stmt}
 use Rattle.sa_tree.specs.declared.stmt.Stmt.TheVariants as tree
 use Rattle.sa_parse_expr.specs.declared.tokens.Tokens.{Tokens}
 use Rattle.sa_parse_expr.specs.Exactly.{lexemes_from, Takes, ReadsAs}
-use Rattle.sa_parse_expr.specs.Forms.{Form, give, refuse, shift, follow, separated, list, make, nest, type, stmts, until_word, Reader, behind, with_read}
+use Rattle.sa_parse_expr.specs.Forms.{Form, give, refuse, shift, follow, separated, list, make, nest, type, stmts, Reader, behind, with_read}
 use Rattle.sa_parse_expr.specs.Lexemes.{Lexeme, lexeme_at}
 use Rattle.sa_parse_expr.specs.Places.{kind_at}
 use Rattle.sa_parse_expr.specs.Readings.{Reading, Read, Refused}

@@ -1,6 +1,6 @@
 -- Names and statements that hold no others, as their forms read them: a lemma for each alternative that a reader decides by the token
 -- that stands there.
-use Rattle.std.proofs.Common.{◌≡◌, ◌≢◌, ℕ, ◌+◌, Bool, true, false, ◌||◌, List, [], ◌∷◌, ◌++◌, Option, Some, None, Result, Ok, Err, ◌⊎◌, inl, inr, refl, sym, ap, ◌∙◌}
+use Rattle.std.proofs.Common.{◌≡◌, ◌≢◌, ℕ, ◌+◌, Bool, true, false, List, [], ◌∷◌, Option, Some, None, Result, Ok, Err, ◌⊎◌, inl, inr, refl, sym, ap, ◌∙◌}
 use Rattle.std.proofs.lemmas.Bool.{false_from_ne_true}
 use Rattle.sa_lex.specs.declared.token.TokenKind.{TokenKind}
 use Rattle.sa_lex.specs.declared.token.TokenKind.TheVariants as token
@@ -34,7 +34,7 @@ use Rattle.sa_parse_expr.specs.TypeForms.{type_form}
 use Rattle.sa_parse_expr.proofs.Openings.{runs, same_nest, shut_lower}
 use Rattle.sa_parse_expr.proofs.Runs.{at_level, Runs, taken, takes, handed_on, gives, refused, met, not_met, another, follows, stops, makes, nested, first_one, second_one, meets_by, shut_by, shut_sign, shut_word}
 use Rattle.sa_parse_expr.proofs.Runs.{Lists, first_listed, all_listed, parts_behind}
-use Rattle.sa_parse_expr.proofs.Shifts.{Shut, shifted_met}
+use Rattle.sa_parse_expr.proofs.Shifts.{Shut}
 use Rattle.sa_parse_expr.proofs.Stretches.{pos_at, stands}
 use Rattle.sa_parse_expr.proofs.Tested.{sign_is, word_is, class_name_stands, abstract_name_stands, feature_stands}
 use Rattle.sa_parse.specs.Names.{name_at}

@@ -1,7 +1,4 @@
 -- The forms of parts of statements whose types this crate alone has.
-use Rattle.std.specs.Prelude.{List}
-use Rattle.sa_tree.specs.declared.stmt.CaseArm.{CaseArm}
-use Rattle.sa_tree.specs.declared.stmt.TypeArm.{TypeArm}
 use Rattle.sa_parse_expr.specs.Forms.{Form, follow, make}
 use Rattle.sa_parse_expr.specs.StatementForms.{ending_form, case_arms_form, branches_form}
 use Rattle.sa_parse.specs.declared.blocks.CaseChoice.{CaseChoice}

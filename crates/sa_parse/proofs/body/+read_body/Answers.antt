@@ -1,6 +1,6 @@
 use Rattle.sa_parse.proofs.SpelledStatements.{body}
-use Rattle.std.proofs.Common.{◌+◌, rules}
-use Rattle.sa_parse_expr.proofs.Runs.{taken, takes, handed_on, refused_at}
+use Rattle.std.proofs.Common.{rules}
+use Rattle.sa_parse_expr.proofs.Runs.{refused_at}
 use Rattle.sa_parse.proofs.ExactBlocks as exact
 use Rattle.sa_parse.proofs.body.+read_body.Goals as goal
 

@@ -1,9 +1,8 @@
-use Rattle.std.proofs.Common.{◌≡◌, Some, arith, rules, ◌≢◌, ap, ◌+◌}
+use Rattle.std.proofs.Common.{◌≡◌, Some, arith, rules, ◌≢◌, ◌+◌}
 use Rattle.sa_lex.specs.declared.token.TokenKind.TheVariants as token
 use Rattle.sa_lex.specs.declared.sign.Sign.TheVariants as sign
 use Rattle.sa_parse_expr.specs.Places.{kind_at}
 use Rattle.sa_parse.proofs.SpelledStatements.{IsNames-one, more_names, all_names}
-use Rattle.sa_parse_expr.specs.Exactly.{given_as}
 use Rattle.sa_parse_expr.specs.StatementForms.{name_form}
 use Rattle.sa_parse_expr.proofs.Runs.{taken, takes, handed_on, first_listed, next_taken, all_listed, first_refused, next_refused}
 use Rattle.sa_parse.proofs.ExactStatements as exact

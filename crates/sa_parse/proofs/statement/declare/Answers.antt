@@ -1,11 +1,8 @@
-use Rattle.std.proofs.Common.{arith, rules, ◌≡◌, ◌≢◌, ◌+◌, Some}
+use Rattle.std.proofs.Common.{arith, rules}
 use Rattle.sa_parse.proofs.SpelledStatements.{declare}
-use Rattle.sa_lex.specs.declared.token.TokenKind.TheVariants as token
-use Rattle.sa_lex.specs.declared.sign.Sign.TheVariants as sign
-use Rattle.sa_parse_expr.specs.Places.{kind_at}
 use Rattle.sa_parse_expr.specs.Forms.{nest, type}
 use Rattle.sa_parse_expr.specs.StatementForms.{names_form, assigned_form}
-use Rattle.sa_parse_expr.proofs.Runs.{taken, takes, handed_on, refused_at, follows, stops, makes}
+use Rattle.sa_parse_expr.proofs.Runs.{taken, handed_on, refused_at, follows, stops}
 use Rattle.sa_parse.proofs.ExactStatements as exact
 use Rattle.sa_parse.proofs.statement.declare.Goals as goal
 

@@ -1,8 +1,8 @@
-use Rattle.std.proofs.Common.{arith, ◌+◌, rules}
+use Rattle.std.proofs.Common.{arith, rules}
 use Rattle.sa_parse_expr.specs.Expressions as exprs
 use Rattle.sa_parse.proofs.SpelledStatements.{declare_by_value}
 use Rattle.sa_parse_expr.specs.StatementForms.{name_form, value_form}
-use Rattle.sa_parse_expr.proofs.Runs.{taken, takes, handed_on, refused_at, stops}
+use Rattle.sa_parse_expr.proofs.Runs.{handed_on, refused_at, stops}
 use Rattle.sa_parse.proofs.ExactStatements as exact
 use Rattle.sa_parse.proofs.statement.declare_by_value.Goals as goal
 

@@ -1,12 +1,11 @@
 use Rattle.sa_parse_expr.specs.Expressions as exprs
 use Rattle.sa_parse.specs.Statements as stmts
 use Rattle.sa_parse.proofs.SpelledStatements.{no_expr}
-use Rattle.std.proofs.Common.{◌≡◌, true, arith, rules}
+use Rattle.std.proofs.Common.{◌≡◌, true, rules}
 use Rattle.sa_parse_expr.specs.Places.{kind_at}
 use Rattle.sa_parse_expr.specs.Starts.{begins_expression}
 use Rattle.sa_parse_expr.specs.StatementForms.{value_form}
 use Rattle.sa_parse_expr.proofs.Runs.{taken, takes, handed_on, stops, makes}
-use Rattle.sa_parse_expr.proofs.Stretches.{standing}
 use Rattle.sa_parse.proofs.ExactStatements as exact
 use Rattle.sa_parse.proofs.statement.optional_expr.Goals as goal
 

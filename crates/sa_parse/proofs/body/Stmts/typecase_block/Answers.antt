@@ -1,4 +1,4 @@
-use Rattle.std.proofs.Common.{arith, rules, ◌+◌}
+use Rattle.std.proofs.Common.{arith, rules}
 use Rattle.sa_parse.proofs.SpelledStatements.{typecase_block}
 use Rattle.sa_lex.specs.declared.word.Word.TheVariants as word
 use Rattle.sa_parse_expr.specs.StatementForms.{name_form, typecase_form}
