@@ -5,7 +5,6 @@ use Rattle.sa_lex.specs.declared.token.TokenKind.TheVariants as token
 use Rattle.sa_lex.specs.declared.sign.Sign.{Sign}
 use Rattle.sa_lex.specs.declared.sign.Sign.TheVariants as sign
 use Rattle.sa_lex.specs.declared.word.Word.TheVariants as word
-use Rattle.sa_tree.specs.declared.ty.Ty.{Ty}
 use Rattle.sa_tree.specs.declared.class.Access.TheVariants.{Public}
 use Rattle.sa_tree.specs.declared.class.Kind.{Kind}
 use Rattle.sa_tree.specs.declared.class.Kind.TheVariants.{Reference, Immutable, Abstract, Partial}

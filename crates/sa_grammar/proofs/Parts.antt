@@ -1,16 +1,10 @@
 -- What parts of classes spell, by names of its own: the types of such parts aren't exported, so they are taken from the relations of
 -- the grammar, and so are the ways to make them.
-use Rattle.std.specs.Prelude.{Bool, true, false, List, [], ◌∷◌, refl}
-use Rattle.sa_lex.specs.declared.word.Word.TheVariants as word
-use Rattle.sa_tree.specs.declared.ty.Ty.{Ty}
+use Rattle.std.specs.Prelude.{List, [], refl}
 use Rattle.sa_tree.specs.declared.class.Access.TheVariants.{Public}
 use Rattle.sa_tree.specs.declared.class.Kind.TheVariants.{Reference}
 use Rattle.sa_tree.specs.declared.class.Feature.{Feature}
-use Rattle.sa_tree.specs.declared.class.Change.{Change}
 use Rattle.sa_tree.specs.declared.contract.Condition.{Condition}
-use Rattle.sa_parse_expr.specs.Lexemes.{Lexeme, IsWord}
-use Rattle.sa_parse_expr.specs.Types.{IsType}
-use Rattle.sa_parse_expr.specs.Arounds.{any_lexeme}
 use Rattle.sa_parse_expr.specs.Readings.{Spelling}
 use Rattle.sa_parse.specs.declared.file.FileKind.TheVariants.{Program}
 use Rattle.sa_parse.specs.Signatures.{IsSig}
