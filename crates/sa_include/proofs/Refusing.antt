@@ -1,9 +1,8 @@
 -- What a program is refused by for its includes.
-use Rattle.std.proofs.Common.{◌≡◌, ℕ, ◌||◌, ◌+◌, ◌<◌, ◌≤◌, true, false, Bool, List, [], Option, None, Some, length, get_or, slice_get, refl, sym, ap, subst, ◌∙◌, inl, inr, arith}
+use Rattle.std.proofs.Common.{◌≡◌, ℕ, ◌||◌, ◌+◌, ◌<◌, ◌≤◌, true, false, Bool, List, [], Option, None, Some, length, get_or, min, slice_get, refl, sym, ap, subst, ◌∙◌, inl, inr, arith}
 use Rattle.std.proofs.lemmas.List.Elements.{Contains-get_or}
-use Rattle.std.proofs.lemmas.Option.{get_or_from_slice_get, slice_get_within}
 use Rattle.std.specs.List.{Contains}
-use Rattle.std.specs.Option.{option_or}
+use Rattle.std.specs.Option.{option_and_then, option_map, option_or}
 use Rattle.std.proofs.Math.Path.{fun_ext}
 use Rattle.std.specs.Prelude.{IfSome, MatchOption, count_by, is_some}
 use Rattle.sa_tree.specs.declared.class.Change.{Change}
@@ -34,7 +33,7 @@ use Rattle.sa_include.specs.Flattened.{is_immutable}
 use Rattle.sa_include.specs.declared.clause.Gathered.{Gathered}
 use Rattle.sa_include.specs.declared.resolved.Program.{Program}
 use Rattle.sa_include.specs.Resolved.{KnowsIncludes}
-use Rattle.sa_include.specs.Refusals.{HasFeatures, IsClauseRefusal, IsFirstRefusal, IsGathered, IsOfChange, IsOfClause, IsOfType, IsVerdict, RefusesIncludes, at_name, first_refusal, pos_level, type_pos}
+use Rattle.sa_include.specs.Refusals.{HasFeatures, IsClauseRefusal, IsFirstClash, IsFirstRefusal, IsGathered, IsOfChange, IsOfClause, IsVerdict, RefusesIncludes, at_name, at_type, earlier, first_refusal, pos_level, type_pos}
 
 -- ---- a program
 
@@ -59,9 +58,12 @@ module _ (features : ClassFeatures) (conflicts : Conflicts) (stays : List Bool) 
 
   -- ---- the features that includes bring
 
-  pub brought_conflict : (last : ℕ) (conflict : Option ℕ) → last ≡ length features.brought.now → MatchOption conflict (NoConflict conflicts stays 0 last) (IsFirstConflict conflicts stays 0 last) → is_some conflict ≡ do_brought_clash features.immutable features.brought.now features.written.now features.brought.now
-  brought_conflict last None is none = sym (no_brought_conflict features conflicts stays grouped known last is none)
-  brought_conflict last (Some place) is first = sym (a_brought_conflict features conflicts stays grouped known last place is first)
+  abbrev clash : List Feature → Bool
+  clash = do_brought_clash features.immutable features.brought.now features.written.now
+
+  pub brought_conflict : (last : ℕ) (conflict : Option ℕ) → last ≡ length features.brought.now → MatchOption conflict (NoConflict conflicts stays 0 last) (IsFirstConflict conflicts stays 0 last) → MatchOption conflict (clash features.brought.now ≡ false) (IsFirstClash clash features.brought.now)
+  brought_conflict last None is none = no_brought_conflict features conflicts stays grouped known last is none
+  brought_conflict last (Some place) is first = a_brought_conflict features conflicts stays grouped known last place is first
 
 pub ruleset written_conflicts = (no_written, a_written)
 
@@ -80,7 +82,7 @@ pub ruleset stubs_left = (no_stub, a_stub)
 
 -- ---- the first refusal of a class
 
-module _ (classes : List Class) (c : Class) (features : ClassFeatures) (changes : Option Refusal) (has : HasFeatures c features) (of_change : IfSome changes (IsOfClause c.includes)) where
+module _ (classes : List Class) (c : Class) (features : ClassFeatures) (places : List ℕ) (changes : Option Refusal) (has : HasFeatures c features) (of_change : IfSome changes (IsOfClause c.includes)) where
   abbrev brought : List Feature
   brought = features.brought.now
 
@@ -91,11 +93,12 @@ module _ (classes : List Class) (c : Class) (features : ClassFeatures) (changes 
   stub = at_name rule.StubLeft (left_stub c.kind (staying_features (is_immutable c.kind) brought c.features))
 
   abbrev Due : Option Refusal → Type 0
-  Due clauses = changes ≡ None → conflict ≡ None → IsClauseRefusal classes c (do_brought_clash (is_immutable c.kind) brought c.features brought) clauses
+  Due clauses = changes ≡ None → conflict ≡ None → IsClauseRefusal classes c brought places clauses
 
   verdict : (found clauses : Option Refusal) → Due clauses → found ≡ first_refusal c brought changes clauses → IsVerdict classes c found
   verdict found clauses due is = record {
     brought = brought;
+    places = places;
     no_includes = has.no_includes;
     changes = changes;
     of_change = of_change;
@@ -109,9 +112,6 @@ module _ (classes : List Class) (c : Class) (features : ClassFeatures) (changes 
 
   stub_is : left_stub c.kind (staying_features features.immutable brought features.written.now) ≡ left_stub c.kind (staying_features (is_immutable c.kind) brought c.features)
   stub_is = ap (λ b. left_stub c.kind (staying_features b brought features.written.now)) has.immutable ∙ ap (λ fs. left_stub c.kind (staying_features (is_immutable c.kind) brought fs)) has.written
-
-  clash_is : do_brought_clash features.immutable brought features.written.now brought ≡ do_brought_clash (is_immutable c.kind) brought c.features brought
-  clash_is = ap (λ b. do_brought_clash b brought features.written.now brought) has.immutable ∙ ap (λ fs. do_brought_clash (is_immutable c.kind) brought fs brought) has.written
 
   module _ {A : Type 0} where
     is_none : (o : Option A) → is_some o ≡ false → o ≡ None
@@ -147,9 +147,9 @@ module _ (classes : List Class) (c : Class) (features : ClassFeatures) (changes 
         behind written None (λ h none. absurd (not_none written some (written_is ∙ ap (at_name rule.FeaturesConflict) none)))
         (sym (or_some written (option_or None stub) some))
 
-    module _ (unwritten : is_some written ≡ false) (clause : Option Refusal) (is_clause : IsClauseRefusal classes c (do_brought_clash features.immutable brought features.written.now brought) clause) where
+    module _ (unwritten : is_some written ≡ false) (clause : Option Refusal) (is_clause : IsClauseRefusal classes c brought places clause) where
       due : Due clause
-      due h g = subst (λ b. IsClauseRefusal classes c b clause) clash_is is_clause
+      due h g = is_clause
 
       pub by_clause : is_some clause ≡ true → IsVerdict classes c clause
       by_clause some =
@@ -181,9 +181,6 @@ pub ruleset verdicts_at = (verdict_at, has_features)
 -- ---- refusals of changes and of clauses
 
 -- what a list has at a place is in it
-there : {A : Type 0} (xs : List A) (i : ℕ) (x : A) → slice_get xs i ≡ Some x → Contains xs x
-there xs i x at = subst (Contains xs) (get_or_from_slice_get xs i x x at) (Contains-get_or xs i x (slice_get_within xs i x at))
-
 item_there : {A : Type 0} (xs : List A) (i : ℕ) (x : A) → i < length xs → x ≡ get_or xs i x → Contains xs x
 item_there xs i x lt is = subst (Contains xs) (sym is) (Contains-get_or xs i x lt)
 
@@ -194,13 +191,6 @@ pub of_this_clause : (clauses : List Include) (i : ℕ) (clause : Include) (earl
 of_this_clause clauses i clause (Some refusal) wrong lt at before here = before
 of_this_clause clauses i clause None None lt at before here = tt
 of_this_clause clauses i clause None (Some refusal) lt at before here = record { clause = clause; has = item_there clauses i clause lt at; change = here }
-
-pub of_this_type : (clauses : List Include) (i : ℕ) (clause : Include) (pos : Pos) (refusal : Refusal) → slice_get clauses i ≡ Some clause → pos ≡ type_pos clause.ty → refusal ≡ record { rule = rule.IncludedFeaturesConflict; pos = pos } → IsOfType clauses refusal
-of_this_type clauses i clause pos refusal at is_pos is = record {
-  clause = clause;
-  has = there clauses i clause at;
-  is = is ∙ ap (λ p. record { rule = rule.IncludedFeaturesConflict; pos = p }) is_pos;
-}
 
 -- ---- what is gathered of the clauses up to a place
 
@@ -250,22 +240,42 @@ pub ruleset positions = (pos-Named, pos-Same, pos-Rout, pos-Iter)
 
 -- ---- the refusal of a clause
 
-module _ (classes : List Class) (c : Class) (conflict second : Option ℕ) (clash : Bool) (is_second : MatchOption second (HasOneArray classes c.includes) (IsSecondArray classes c.includes)) (is_clash : is_some conflict ≡ clash) where
-  pub no_clause : (clause : Option ℕ) → is_some clause ≡ (is_some conflict || is_some second) → clause ≡ None → IsClauseRefusal classes c clash None
-  no_clause clause is none = record {
+pub one_clause : (places : List ℕ) (place clause : ℕ) → slice_get places place ≡ Some clause → Some clause ≡ earlier (slice_get places place) None
+one_clause places place clause at = sym (ap (λ found. earlier found None) at)
+
+pub both_clauses : (places : List ℕ) (place clause second : ℕ) → slice_get places place ≡ Some clause → Some (min clause second) ≡ earlier (slice_get places place) (Some second)
+both_clauses places place clause second at = sym (ap (λ found. earlier found (Some second)) at)
+
+pub ruleset earlier_clauses = (one_clause, both_clauses)
+
+module _ (classes : List Class) (c : Class) (features : ClassFeatures) (places : List ℕ) (has : HasFeatures c features) (conflict second clause : Option ℕ) (is_conflict : MatchOption conflict (do_brought_clash features.immutable features.brought.now features.written.now features.brought.now ≡ false) (IsFirstClash (do_brought_clash features.immutable features.brought.now features.written.now) features.brought.now)) (is_second : MatchOption second (HasOneArray classes c.includes) (IsSecondArray classes c.includes)) (is_due : is_some clause ≡ (is_some conflict || is_some second)) (is_clause : clause ≡ earlier (option_and_then (slice_get places) conflict) second) where
+  abbrev among : List Feature
+  among = features.brought.now
+
+  abbrev Conflict : Bool → List Feature → Type 0
+  Conflict immutable written = MatchOption conflict (do_brought_clash immutable among written among ≡ false) (IsFirstClash (do_brought_clash immutable among written) among)
+
+  of_class : Conflict (is_immutable c.kind) c.features
+  of_class = subst (λ fs. Conflict (is_immutable c.kind) fs) has.written (subst (λ i. Conflict i features.written.now) has.immutable is_conflict)
+
+  refusal_of : (refusal : Option Refusal) → is_some refusal ≡ is_some clause → refusal ≡ at_type c.includes clause → IsClauseRefusal classes c among places refusal
+  refusal_of refusal same is = record {
+    conflict = conflict;
+    is_conflict = of_class;
     second = second;
     is_second = is_second;
-    due = sym (ap is_some none) ∙ is ∙ ap (λ b. b || is_some second) is_clash;
-    of_type = tt;
+    due = same ∙ is_due;
+    is = is ∙ ap (at_type c.includes) is_clause;
   }
 
-  pub a_clause : (clause : Option ℕ) (place : ℕ) (refusal : Refusal) → is_some clause ≡ (is_some conflict || is_some second) → clause ≡ Some place → IsOfType c.includes refusal → IsClauseRefusal classes c clash (Some refusal)
-  a_clause clause place refusal is some of_type = record {
-    second = second;
-    is_second = is_second;
-    due = sym (ap is_some some) ∙ is ∙ ap (λ b. b || is_some second) is_clash;
-    of_type = of_type;
-  }
+  pub no_clause : clause ≡ None → IsClauseRefusal classes c among places None
+  no_clause none = refusal_of None (sym (ap is_some none)) (sym (ap (at_type c.includes) none))
+
+  pub a_clause : (place : ℕ) (include : Include) (pos : Pos) (refusal : Refusal) → clause ≡ Some place → slice_get c.includes place ≡ Some include → pos ≡ type_pos include.ty → refusal ≡ record { rule = rule.IncludedFeaturesConflict; pos = pos } → IsClauseRefusal classes c among places (Some refusal)
+  a_clause place include pos refusal some at is_pos is =
+      refusal_of (Some refusal) (sym (ap is_some some))
+      (ap Some (is ∙ ap (λ p. record { rule = rule.IncludedFeaturesConflict; pos = p }) is_pos)
+      ∙ sym (ap (at_type c.includes) some ∙ ap (option_map (λ (i : Include). record { rule = rule.IncludedFeaturesConflict; pos = type_pos i.ty })) at))
 
 -- ---- the second clause with an array part
 
@@ -287,4 +297,4 @@ second_array program includes second knows found = by second found
       second = subst (λ number. IsSecond (brings_array number program.includes.now.arrays.items) includes place) same is;
     }
 
-pub ruleset clauses_refused = (brought_conflict, no_clause, a_clause, second_array, of_this_type)
+pub ruleset clauses_refused = (brought_conflict, no_clause, a_clause, second_array)

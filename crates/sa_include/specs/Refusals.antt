@@ -1,6 +1,7 @@
 -- What the classes of a program are refused by for their includes.
-use Rattle.std.specs.Prelude.{◌≡◌, ◌⊎◌, ◌||◌, ◌<◌, Bool, ℕ, List, [], Option, None, Some, Contains, IfSome, MatchOption, is_some, slice_get}
-use Rattle.std.specs.Option.{option_map, option_or}
+use Rattle.std.specs.Prelude.{◌≡◌, ◌⊎◌, ◌+◌, ◌<◌, Bool, true, false, ℕ, List, [], Option, None, Some, Contains, IfSome, MatchOption}
+use Rattle.std.specs.Prelude.{◌||◌, is_some, min, slice_get, take}
+use Rattle.std.specs.Option.{option_and_then, option_map, option_or}
 use Rattle.sa_tree.specs.declared.class.Change.{Change}
 use Rattle.sa_tree.specs.declared.class.Class.{Class}
 use Rattle.sa_tree.specs.declared.class.Feature.{Feature}
@@ -48,11 +49,11 @@ pub record IsOfClause (clauses : List Include) (refusal : Refusal) : Type 0 wher
   pub has : Contains clauses clause
   pub change : IsOfChange clause.changes refusal
 
--- E17, at the type of one of these clauses
-pub record IsOfType (clauses : List Include) (refusal : Refusal) : Type 0 where
-  pub clause : Include
-  pub has : Contains clauses clause
-  pub is : refusal ≡ record { rule = rule.IncludedFeaturesConflict; pos = type_pos clause.ty }
+-- E17, at the type of the clause at a place
+abbrev pub at_type : List Include → Option ℕ → Option Refusal
+at_type clauses place =
+    option_map (λ clause. record { rule = rule.IncludedFeaturesConflict; pos = type_pos clause.ty })
+    (option_and_then (slice_get clauses) place)
 
 -- these are the features of a class, of which its includes bring none where it has no includes
 pub record HasFeatures (c : Class) (features : ClassFeatures) : Type 0 where
@@ -74,23 +75,42 @@ first_refusal c brought changes clauses =
     (option_or clauses
     (at_name rule.StubLeft (left_stub c.kind (staying_features (is_immutable c.kind) brought c.features)))))
 
--- E17 comes exactly where two of the brought features conflict, as is told, or two clauses bring an array part
-pub record IsClauseRefusal (classes : List Class) (c : Class) (conflict : Bool) (refusal : Option Refusal) : Type 0 where
+-- the first of these features that conflicts with an earlier one, where it is told of the first ones whether two of them do
+pub record IsFirstClash (do_clash : List Feature → Bool) (features : List Feature) (place : ℕ) : Type 0 where
+  pub clash : do_clash (take (place + 1) features) ≡ true
+  pub first : do_clash (take place features) ≡ false
+
+-- the lesser of two places
+abbrev pub earlier : Option ℕ → Option ℕ → Option ℕ
+earlier None other = other
+earlier (Some place) None = Some place
+earlier (Some place) (Some other) = Some (min place other)
+
+-- E17 comes exactly where two of the brought features conflict, or two clauses bring an array part. It is at the clause that brings the
+-- first feature that conflicts with an earlier one, or at the second with an array part, whichever is earlier. For each brought feature
+-- the place of its clause is given.
+pub record IsClauseRefusal (classes : List Class) (c : Class) (brought : List Feature) (places : List ℕ) (refusal : Option Refusal)
+    : Type 0 where
+  pub conflict : Option ℕ
+  pub is_conflict : MatchOption conflict
+      (do_brought_clash (is_immutable c.kind) brought c.features brought ≡ false)
+      (IsFirstClash (do_brought_clash (is_immutable c.kind) brought c.features) brought)
   pub second : Option ℕ
   pub is_second : MatchOption second (HasOneArray classes c.includes) (IsSecondArray classes c.includes)
-  pub due : is_some refusal ≡ (conflict || is_some second)
-  pub of_type : IfSome refusal (IsOfType c.includes)
+  pub due : is_some refusal ≡ (is_some conflict || is_some second)
+  pub is : refusal ≡ at_type c.includes (earlier (option_and_then (slice_get places) conflict) second)
 
 -- this is the first refusal of a class of these, or it has none
 pub record IsVerdict (classes : List Class) (c : Class) (found : Option Refusal) : Type 0 where
-  -- its includes bring these features
+  -- its includes bring these features, each by the clause at this place
   pub brought : List Feature
+  pub places : List ℕ
   pub no_includes : c.includes ≡ [] → brought ≡ []
   pub changes : Option Refusal
   pub of_change : IfSome changes (IsOfClause c.includes)
   pub clauses : Option Refusal
   pub of_clause : changes ≡ None → written_conflict (is_immutable c.kind) brought c.features ≡ None
-      → IsClauseRefusal classes c (do_brought_clash (is_immutable c.kind) brought c.features brought) clauses
+      → IsClauseRefusal classes c brought places clauses
   pub is : found ≡ first_refusal c brought changes clauses
 
 -- ---- all classes

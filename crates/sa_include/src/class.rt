@@ -1,8 +1,9 @@
 //! The features of one class, from those of the classes that it includes and its own, and its first refusal: two features
 //! that it writes conflict (E11), two that its includes bring do or both have an array part (E17), or a stub is left.
 
-ghost use Rattle.std.specs.Prelude.{◌≡◌, ◌||◌, IfOk, IfSome, is_some};
-ghost use Rattle.sa_include.specs.Firsts.{do_brought_clash, left_stub, staying_features, written_conflict};
+ghost use Rattle.std.specs.Option.{option_and_then};
+ghost use Rattle.std.specs.Prelude.{◌≡◌, ◌||◌, IfOk, IfSome, is_some, slice_get};
+ghost use Rattle.sa_include.specs.Firsts.{left_stub, staying_features, written_conflict};
 ghost use Rattle.sa_include_conflicts.specs.Sharing.{AreGrouped};
 ghost use Rattle.sa_include_conflicts.specs.Staying.{all_stay};
 ghost use Rattle.sa_tree.specs.declared.rule.Rule.TheVariants as rule;
@@ -14,6 +15,7 @@ ghost use Rattle.sa_include.specs.Refusals.{
   IsVerdict,
   IsVerdictAt,
   at_name,
+  earlier,
   type_pos,
 };
 ghost use Rattle.sa_include.specs.Resolved.{KnowsIncludes};
@@ -146,10 +148,10 @@ fn clause_refused(
     stays: &[bool],
 ) -> Result<Option<Refusal>, NoMemory>
     requires includes { KnowsIncludes program.now }
+    requires features { HasFeatures class.now features.now }
     requires grouped { AreGrouped features.now conflicts.now }
     requires stays { stays.now ≡ all_stay features.now }
-    ensures { IfOk result (IsClauseRefusal program.now.classes.now class.now
-        (do_brought_clash features.now.immutable features.now.brought.now features.now.written.now features.now.brought.now)) }
+    ensures { IfOk result (IsClauseRefusal program.now.classes.now class.now features.now.brought.now gathered.now.clauses.items) }
 {
     let last = features.brought.len();
     let conflict = first_conflict(alloc, conflicts, stays, 0, last)?;
@@ -165,12 +167,14 @@ fn clause_refused(
 
 /// The first include clause that is refused: the one that brings the first brought feature that conflicts with an earlier
 /// one, or the second one with an array part. `clauses` has the clause of each brought feature.
+#[tactic(auto, using(crate::proofs::Refusing::earlier_clauses))]
 fn refused_clause(
     clauses: &[usize],
     conflict: Option<usize>,
     arrays: Option<usize>,
 ) -> Result<Option<usize>, NoMemory>
-    ensures { IfOk result (λ clause. is_some clause ≡ (is_some conflict || is_some arrays)) }
+    ensures due { IfOk result (λ clause. is_some clause ≡ (is_some conflict || is_some arrays)) }
+    ensures place { IfOk result (λ clause. clause ≡ earlier (option_and_then (slice_get clauses.now) conflict) arrays) }
 {
     let Some(place) = conflict else {
         return Ok(arrays);
