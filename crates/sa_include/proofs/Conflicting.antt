@@ -8,6 +8,7 @@ use Rattle.sa_tree.specs.declared.class.Feature.{Feature}
 use Rattle.sa_tree.specs.declared.class.Kind.{Kind}
 use Rattle.sa_tree.specs.declared.pos.Pos.{Pos}
 use Rattle.sa_include.specs.Firsts.{do_any_clash, do_brought_clash, first_with, left_stub, staying_features, written_conflict}
+use Rattle.sa_include.specs.Refusals.{IsFirstClash}
 use Rattle.sa_include_conflicts.specs.Sharing.{AreGrouped, IsFirstConflict, IsInConflict, NoConflict, all_features, groups_at, is_set}
 use Rattle.sa_include_conflicts.specs.Staying.{all_stay, stays_brought, stays_written}
 use Rattle.sa_include_conflicts.specs.Stub.{IsFirstStub, IsStubLeft, NoStubLeft, is_partial, is_stub_part}
@@ -273,13 +274,17 @@ module _ (features : ClassFeatures) (conflicts : Conflicts) (stays : List Bool) 
             (subst (IsFirstConflict conflicts stays (length features.brought.now) to) (sym behind.1) (subst (λ n. IsFirstConflict conflicts stays n to place) is_first found))
             (ap (slice_get features.written.now) (own_place behind.0 behind.1) ∙ second_part_back features.brought.now features.written.now place f le at)
 
-    -- whether two brought features that stay conflict
-    pub no_brought_conflict : (to : ℕ) → to ≡ length features.brought.now → NoConflict conflicts stays 0 to → do_brought_clash features.immutable features.brought.now features.written.now features.brought.now ≡ false
+    -- ---- whether two brought features that stay conflict
+
+    abbrev clash : List Feature → Bool
+    clash = do_brought_clash features.immutable features.brought.now features.written.now
+
+    pub no_brought_conflict : (to : ℕ) → to ≡ length features.brought.now → NoConflict conflicts stays 0 to → clash features.brought.now ≡ false
     no_brought_conflict to is_to none =
-        subst (λ xs. do_brought_clash features.immutable features.brought.now features.written.now xs ≡ false) (take_all (length features.brought.now) features.brought.now (omega arith))
+        subst (λ xs. clash xs ≡ false) (take_all (length features.brought.now) features.brought.now (omega arith))
         (none_up_to 0 features.brought.now (keep_brought features stays known) (brought_part features stays known) (length features.brought.now) to none (omega (arith, is_to)))
 
-    pub a_brought_conflict : (to place : ℕ) → to ≡ length features.brought.now → IsFirstConflict conflicts stays 0 to place → do_brought_clash features.immutable features.brought.now features.written.now features.brought.now ≡ true
+    pub a_brought_conflict : (to place : ℕ) → to ≡ length features.brought.now → IsFirstConflict conflicts stays 0 to place → IsFirstClash clash features.brought.now place
     a_brought_conflict to place is_to found = by (there_is features.brought.now place lt)
       where
         lt : place < length features.brought.now
@@ -288,7 +293,11 @@ module _ (features : ClassFeatures) (conflicts : Conflicts) (stays : List Bool) 
         zero_plus : place ≡ 0 + place
         zero_plus = omega arith
 
-        by : (g : Feature) × (slice_get features.brought.now place ≡ Some g) → do_brought_clash features.immutable features.brought.now features.written.now features.brought.now ≡ true
-        by at =
-            subst (λ xs. do_brought_clash features.immutable features.brought.now features.written.now xs ≡ true) (take_all (length features.brought.now) features.brought.now (omega arith))
-            (one_up_to 0 features.brought.now (keep_brought features stays known) (brought_part features stays known) (length features.brought.now) place at.0 (subst (IsInConflict conflicts stays 0) zero_plus found.conflict) at.1 lt)
+        by : (g : Feature) × (slice_get features.brought.now place ≡ Some g) → IsFirstClash clash features.brought.now place
+        by at = record {
+          clash =
+              one_up_to 0 features.brought.now (keep_brought features stays known) (brought_part features stays known) (place + 1) place at.0
+              (subst (IsInConflict conflicts stays 0) zero_plus found.conflict) at.1 (omega arith);
+          first =
+              none_up_to 0 features.brought.now (keep_brought features stays known) (brought_part features stays known) place place found.first (omega arith);
+        }

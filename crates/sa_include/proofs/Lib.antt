@@ -1,8 +1,11 @@
 pub mod WrittenLemmas
 pub mod Nothing
+pub mod Marks
 pub mod Firsts
 pub mod Conflicting
 pub mod Refusing
+pub mod Gathering
 pub mod Resolving
+pub mod Wholes
 pub mod Renamings
 pub mod Bringing

@@ -1,9 +1,8 @@
 -- What a program is refused by for its includes.
-use Rattle.std.proofs.Common.{◌≡◌, ℕ, ◌||◌, ◌+◌, ◌<◌, ◌≤◌, true, false, Bool, List, [], Option, None, Some, length, get_or, slice_get, refl, sym, ap, subst, ◌∙◌, inl, inr, arith}
+use Rattle.std.proofs.Common.{◌≡◌, ℕ, ◌+◌, ◌<◌, ◌≤◌, ◌++◌, true, false, Bool, List, [], ◌∷◌, Option, None, Some, drop, length, map, get_or, slice_get, refl, sym, ap, subst, ◌∙◌, inl, inr}
 use Rattle.std.proofs.lemmas.List.Elements.{Contains-get_or}
-use Rattle.std.proofs.lemmas.Option.{get_or_from_slice_get, slice_get_within}
 use Rattle.std.specs.List.{Contains}
-use Rattle.std.specs.Option.{option_or}
+use Rattle.std.specs.Option.{option_and_then, option_map, option_or}
 use Rattle.std.proofs.Math.Path.{fun_ext}
 use Rattle.std.specs.Prelude.{IfSome, MatchOption, count_by, is_some}
 use Rattle.sa_tree.specs.declared.class.Change.{Change}
@@ -21,7 +20,7 @@ use Rattle.sa_tree.specs.declared.ty.Ty.TheVariants as ty
 use Rattle.sa_tree.specs.declared.ty.Ty.TheViews.{out-Ty, out-roll-Ty}
 use Rattle.sa_include.specs.Firsts.{do_brought_clash, left_stub, staying_features, written_conflict}
 use Rattle.sa_include_conflicts.specs.Sharing.{AreGrouped, IsFirstConflict, NoConflict, all_features}
-use Rattle.sa_include_conflicts.specs.Staying.{all_stay}
+use Rattle.sa_include_conflicts.specs.Staying.{all_stay, stays_brought, stays_written}
 use Rattle.sa_include_conflicts.specs.Stub.{IsFirstStub, NoStubLeft}
 use Rattle.sa_include_conflicts.specs.declared.conflicts.Conflicts.{Conflicts}
 use Rattle.sa_include_conflicts.specs.declared.features.ClassFeatures.{ClassFeatures}
@@ -33,8 +32,11 @@ use Rattle.sa_include_names.specs.Tables.{number_in}
 use Rattle.sa_include.specs.Flattened.{is_immutable}
 use Rattle.sa_include.specs.declared.clause.Gathered.{Gathered}
 use Rattle.sa_include.specs.declared.resolved.Program.{Program}
-use Rattle.sa_include.specs.Resolved.{KnowsIncludes}
-use Rattle.sa_include.specs.Refusals.{HasFeatures, IsClauseRefusal, IsFirstRefusal, IsGathered, IsOfChange, IsOfClause, IsOfType, IsVerdict, RefusesIncludes, at_name, first_refusal, pos_level, type_pos}
+use Rattle.sa_include.specs.declared.resolved.Flattened.{Flattened}
+use Rattle.sa_include.specs.Gathering.{IsGathered, is_kept, kept_by, stay_in}
+use Rattle.sa_include.specs.Resolved.{IsResolved, IsResolvedAt, KnowsIncludes}
+use Rattle.sa_include.specs.Refusals.{HasFeatures, IsClauseRefusal, IsFirstClash, IsFirstRefusal, IsOfChange, IsOfClause, IsVerdictOf, RefusesIncludes, at_name, at_type, earlier, first_refusal, pos_level, type_pos}
+use Rattle.sa_include.proofs.Marks.{kept_first}
 
 -- ---- a program
 
@@ -59,9 +61,12 @@ module _ (features : ClassFeatures) (conflicts : Conflicts) (stays : List Bool) 
 
   -- ---- the features that includes bring
 
-  pub brought_conflict : (last : ℕ) (conflict : Option ℕ) → last ≡ length features.brought.now → MatchOption conflict (NoConflict conflicts stays 0 last) (IsFirstConflict conflicts stays 0 last) → is_some conflict ≡ do_brought_clash features.immutable features.brought.now features.written.now features.brought.now
-  brought_conflict last None is none = sym (no_brought_conflict features conflicts stays grouped known last is none)
-  brought_conflict last (Some place) is first = sym (a_brought_conflict features conflicts stays grouped known last place is first)
+  abbrev clash : List Feature → Bool
+  clash = do_brought_clash features.immutable features.brought.now features.written.now
+
+  pub brought_conflict : (last : ℕ) (conflict : Option ℕ) → last ≡ length features.brought.now → MatchOption conflict (NoConflict conflicts stays 0 last) (IsFirstConflict conflicts stays 0 last) → MatchOption conflict (clash features.brought.now ≡ false) (IsFirstClash clash features.brought.now)
+  brought_conflict last None is none = no_brought_conflict features conflicts stays grouped known last is none
+  brought_conflict last (Some place) is first = a_brought_conflict features conflicts stays grouped known last place is first
 
 pub ruleset written_conflicts = (no_written, a_written)
 
@@ -80,7 +85,7 @@ pub ruleset stubs_left = (no_stub, a_stub)
 
 -- ---- the first refusal of a class
 
-module _ (classes : List Class) (c : Class) (features : ClassFeatures) (changes : Option Refusal) (has : HasFeatures c features) (of_change : IfSome changes (IsOfClause c.includes)) where
+module _ (classes : List Class) (c : Class) (features : ClassFeatures) (among : List Feature) (places : List ℕ) (changes : Option Refusal) (has : HasFeatures c among features) (of_change : IfSome changes (IsOfClause c.includes)) where
   abbrev brought : List Feature
   brought = features.brought.now
 
@@ -91,27 +96,22 @@ module _ (classes : List Class) (c : Class) (features : ClassFeatures) (changes 
   stub = at_name rule.StubLeft (left_stub c.kind (staying_features (is_immutable c.kind) brought c.features))
 
   abbrev Due : Option Refusal → Type 0
-  Due clauses = changes ≡ None → conflict ≡ None → IsClauseRefusal classes c (do_brought_clash (is_immutable c.kind) brought c.features brought) clauses
+  Due clauses = changes ≡ None → conflict ≡ None → IsClauseRefusal classes c brought places clauses
 
-  verdict : (found clauses : Option Refusal) → Due clauses → found ≡ first_refusal c brought changes clauses → IsVerdict classes c found
-  verdict found clauses due is = record {
-    brought = brought;
-    no_includes = has.no_includes;
+  verdict : (found clauses : Option Refusal) → Due clauses → found ≡ first_refusal c brought changes clauses → IsVerdictOf classes c among places found
+  verdict found clauses due is = subst (λ fs. IsVerdictOf classes c fs places found) has.brought (record {
     changes = changes;
     of_change = of_change;
     clauses = clauses;
     of_clause = due;
     is = is;
-  }
+  })
 
   conflict_is : written_conflict features.immutable brought features.written.now ≡ conflict
   conflict_is = ap (λ b. written_conflict b brought features.written.now) has.immutable ∙ ap (λ fs. written_conflict (is_immutable c.kind) brought fs) has.written
 
   stub_is : left_stub c.kind (staying_features features.immutable brought features.written.now) ≡ left_stub c.kind (staying_features (is_immutable c.kind) brought c.features)
   stub_is = ap (λ b. left_stub c.kind (staying_features b brought features.written.now)) has.immutable ∙ ap (λ fs. left_stub c.kind (staying_features (is_immutable c.kind) brought fs)) has.written
-
-  clash_is : do_brought_clash features.immutable brought features.written.now brought ≡ do_brought_clash (is_immutable c.kind) brought c.features brought
-  clash_is = ap (λ b. do_brought_clash b brought features.written.now brought) has.immutable ∙ ap (λ fs. do_brought_clash (is_immutable c.kind) brought fs brought) has.written
 
   module _ {A : Type 0} where
     is_none : (o : Option A) → is_some o ≡ false → o ≡ None
@@ -126,7 +126,7 @@ module _ (classes : List Class) (c : Class) (features : ClassFeatures) (changes 
     or_some None p h = cc
     or_some (Some x) p h = refl
 
-  pub by_changes : is_some changes ≡ true → IsVerdict classes c changes
+  pub by_changes : is_some changes ≡ true → IsVerdictOf classes c among places changes
   by_changes some =
       verdict changes None (λ none. absurd (not_none changes some none))
       (sym (or_some changes (option_or (at_name rule.FeaturesConflict conflict) (option_or None stub)) some))
@@ -136,13 +136,13 @@ module _ (classes : List Class) (c : Class) (features : ClassFeatures) (changes 
     written_is = is_written ∙ ap (at_name rule.FeaturesConflict) conflict_is
 
     -- where no change is refused
-    behind : (found clauses : Option Refusal) → Due clauses → found ≡ option_or written (option_or clauses stub) → IsVerdict classes c found
+    behind : (found clauses : Option Refusal) → Due clauses → found ≡ option_or written (option_or clauses stub) → IsVerdictOf classes c among places found
     behind found clauses due is =
         verdict found clauses due
         (is ∙ ap (λ o. option_or o (option_or clauses stub)) written_is
         ∙ sym (ap (λ o. option_or o (option_or (at_name rule.FeaturesConflict conflict) (option_or clauses stub))) (is_none changes unchanged)))
 
-    pub by_written : is_some written ≡ true → IsVerdict classes c written
+    pub by_written : is_some written ≡ true → IsVerdictOf classes c among places written
     by_written some =
         behind written None (λ h none. absurd (not_none written some (written_is ∙ ap (at_name rule.FeaturesConflict) none)))
         (sym (or_some written (option_or None stub) some))
@@ -151,12 +151,12 @@ module _ (classes : List Class) (c : Class) (features : ClassFeatures) (changes 
       due : Due clause
       due h g = subst (λ b. IsClauseRefusal classes c b clause) clash_is is_clause
 
-      pub by_clause : is_some clause ≡ true → IsVerdict classes c clause
+      pub by_clause : is_some clause ≡ true → IsVerdictOf classes c among places clause
       by_clause some =
           behind clause clause due
           (sym (or_some clause stub some) ∙ sym (ap (λ o. option_or o (option_or clause stub)) (is_none written unwritten)))
 
-      pub by_stub : (found : Option Refusal) → is_some clause ≡ false → found ≡ at_name rule.StubLeft (left_stub c.kind (staying_features features.immutable brought features.written.now)) → IsVerdict classes c found
+      pub by_stub : (found : Option Refusal) → is_some clause ≡ false → found ≡ at_name rule.StubLeft (left_stub c.kind (staying_features features.immutable brought features.written.now)) → IsVerdictOf classes c among places found
       by_stub found unclaused is =
           behind found clause due
           (is ∙ ap (at_name rule.StubLeft) stub_is ∙ sym (ap (λ o. option_or o stub) (is_none clause unclaused))
@@ -166,24 +166,50 @@ pub ruleset verdicts = (by_changes, by_written, by_clause, by_stub)
 
 -- ---- the class with a number
 
-pub verdict_at : (classes : List Class) (number : ℕ) (class : Class) (judged found : Option Refusal) → slice_get classes number ≡ Some class → IsVerdict classes class judged → found ≡ judged → (c : Class) → slice_get classes number ≡ Some c → IsVerdict classes c found
-verdict_at classes number class judged found at verdict same c at_c =
-    subst (λ (d : Class). IsVerdict classes d found) (one (sym at ∙ at_c)) (subst (IsVerdict classes class) (sym same) verdict)
+pub resolved_at : (classes : List Class) (number : ℕ) (class : Class) (gathered : Gathered) (stays : List Bool) (judged : Option Refusal) (f : Flattened) → slice_get classes number ≡ Some class → IsGathered classes class gathered → stays ≡ stay_in class gathered.features.items → IsVerdictOf classes class gathered.features.items gathered.clauses.items judged → f.refusal ≡ judged → f.brought ≡ kept_by is_kept stays gathered.features.items → f.stays.items ≡ drop (length gathered.features.items) stays → f.done ≡ true → IsResolvedAt classes number f
+resolved_at classes number class gathered stays judged f at has is_stays verdict refused brought written done c at_c =
+    subst (λ (d : Class). IsResolved classes d f) (one (sym at ∙ at_c)) (record {
+      done = done;
+      brought = among;
+      places = gathered.clauses.items;
+      brings = has.brings;
+      kept = brought ∙ ap (λ ms. kept_by is_kept ms among) is_stays ∙ kept_first is_kept keep_brought (λ g. refl) among (map keep_written class.features);
+      stays = written ∙ ap (drop (length among)) is_stays ∙ behind among;
+      verdict = subst (IsVerdictOf classes class among gathered.clauses.items) (sym refused) verdict;
+    })
   where
     one : {x y : Class} → Some x ≡ Some y → x ≡ y
     one q = cc
 
-pub has_features : (c : Class) (features : ClassFeatures) (among : List Feature) → features.immutable ≡ is_immutable c.kind → features.written.now ≡ c.features → features.brought.now ≡ among → (c.includes ≡ [] → among ≡ []) → HasFeatures c features
-has_features c features among immutable written is none = record { immutable = immutable; written = written; no_includes = λ h. is ∙ none h }
+    among : List Feature
+    among = gathered.features.items
 
-pub ruleset verdicts_at = (verdict_at, has_features)
+    keep_brought : Feature → Bool
+    keep_brought = stays_brought (is_immutable class.kind) among class.features
+
+    keep_written : Feature → Bool
+    keep_written = stays_written (is_immutable class.kind) among class.features
+
+    behind : (fs : List Feature) → drop (length fs) (map keep_brought fs ++ map keep_written class.features) ≡ map keep_written class.features
+    behind [] = refl
+    behind (g ∷ fs) = behind fs
+
+-- of what is known of the features together
+pub all_marked : (c : Class) (features : ClassFeatures) (among : List Feature) (stays : List Bool) → HasFeatures c among features → stays ≡ all_stay features → stays ≡ stay_in c among
+all_marked c features among stays has is =
+    is
+    ∙ ap (λ i. map (stays_brought i features.brought.now features.written.now) features.brought.now ++ map (stays_written i features.brought.now features.written.now) features.written.now) has.immutable
+    ∙ ap (λ fs. map (stays_brought (is_immutable c.kind) fs features.written.now) fs ++ map (stays_written (is_immutable c.kind) fs features.written.now) features.written.now) has.brought
+    ∙ ap (λ fs. map (stays_brought (is_immutable c.kind) among fs) among ++ map (stays_written (is_immutable c.kind) among fs) fs) has.written
+
+pub has_features : (c : Class) (features : ClassFeatures) (among : List Feature) → features.immutable ≡ is_immutable c.kind → features.written.now ≡ c.features → features.brought.now ≡ among → HasFeatures c among features
+has_features c features among immutable written is = record { immutable = immutable; written = written; brought = is }
+
+pub ruleset verdicts_at = (resolved_at, all_marked, has_features)
 
 -- ---- refusals of changes and of clauses
 
 -- what a list has at a place is in it
-there : {A : Type 0} (xs : List A) (i : ℕ) (x : A) → slice_get xs i ≡ Some x → Contains xs x
-there xs i x at = subst (Contains xs) (get_or_from_slice_get xs i x x at) (Contains-get_or xs i x (slice_get_within xs i x at))
-
 item_there : {A : Type 0} (xs : List A) (i : ℕ) (x : A) → i < length xs → x ≡ get_or xs i x → Contains xs x
 item_there xs i x lt is = subst (Contains xs) (sym is) (Contains-get_or xs i x lt)
 
@@ -194,39 +220,6 @@ pub of_this_clause : (clauses : List Include) (i : ℕ) (clause : Include) (earl
 of_this_clause clauses i clause (Some refusal) wrong lt at before here = before
 of_this_clause clauses i clause None None lt at before here = tt
 of_this_clause clauses i clause None (Some refusal) lt at before here = record { clause = clause; has = item_there clauses i clause lt at; change = here }
-
-pub of_this_type : (clauses : List Include) (i : ℕ) (clause : Include) (pos : Pos) (refusal : Refusal) → slice_get clauses i ≡ Some clause → pos ≡ type_pos clause.ty → refusal ≡ record { rule = rule.IncludedFeaturesConflict; pos = pos } → IsOfType clauses refusal
-of_this_type clauses i clause pos refusal at is_pos is = record {
-  clause = clause;
-  has = there clauses i clause at;
-  is = is ∙ ap (λ p. record { rule = rule.IncludedFeaturesConflict; pos = p }) is_pos;
-}
-
--- ---- what is gathered of the clauses up to a place
-
-pub record IsGatheredUpTo (clauses : List Include) (place : ℕ) (features : List Feature) (refusal : Option Refusal) : Type 0 where
-  pub none : place ≡ 0 → features ≡ []
-  pub of_change : IfSome refusal (IsOfClause clauses)
-
-pub none_gathered : (clauses : List Include) (features : List Feature) → features ≡ [] → IsGatheredUpTo clauses 0 features None
-none_gathered clauses features is = record { none = λ h. is; of_change = tt }
-
-pub more_gathered : (clauses items : List Include) (place : ℕ) (clause : Include) (old new : List Feature) (earlier wrong refusal : Option Refusal) → items ≡ clauses → IsGatheredUpTo clauses place old earlier → place < length items → clause ≡ get_or items place clause → IfSome wrong (IsOfChange clause.changes) → refusal ≡ option_or earlier wrong → IsGatheredUpTo clauses (place + 1) new refusal
-more_gathered clauses items place clause old new earlier wrong refusal same so_far lt at here is = record {
-  none = λ h. absurd (omega (arith, h));
-  of_change =
-      subst (λ o. IfSome o (IsOfClause clauses)) (sym is)
-      (of_this_clause clauses place clause earlier wrong (subst (λ (cs : List Include). place < length cs) same lt)
-      (subst (λ (cs : List Include). clause ≡ get_or cs place clause) same at) so_far.of_change here);
-}
-
-pub all_gathered : (c : Class) (clauses : List Include) (place : ℕ) (gathered : Gathered) → clauses ≡ c.includes → IsGatheredUpTo clauses place gathered.features.items gathered.refusal → place ≤ length clauses → IsGathered c gathered
-all_gathered c clauses place gathered is so_far le = record {
-  no_includes = λ none. let count : length clauses ≡ 0 = ap length (is ∙ none) in so_far.none (omega (arith, le, count));
-  of_change = subst (λ is. IfSome gathered.refusal (IsOfClause is)) is so_far.of_change;
-}
-
-pub ruleset gathering = (none_gathered, more_gathered, all_gathered)
 
 -- ---- the position of a type
 
@@ -250,22 +243,33 @@ pub ruleset positions = (pos-Named, pos-Same, pos-Rout, pos-Iter)
 
 -- ---- the refusal of a clause
 
-module _ (classes : List Class) (c : Class) (conflict second : Option ℕ) (clash : Bool) (is_second : MatchOption second (HasOneArray classes c.includes) (IsSecondArray classes c.includes)) (is_clash : is_some conflict ≡ clash) where
-  pub no_clause : (clause : Option ℕ) → is_some clause ≡ (is_some conflict || is_some second) → clause ≡ None → IsClauseRefusal classes c clash None
-  no_clause clause is none = record {
+module _ (classes : List Class) (c : Class) (features : ClassFeatures) (among : List Feature) (places : List ℕ) (has : HasFeatures c among features) (conflict second clause : Option ℕ) (is_conflict : MatchOption conflict (do_brought_clash features.immutable features.brought.now features.written.now features.brought.now ≡ false) (IsFirstClash (do_brought_clash features.immutable features.brought.now features.written.now) features.brought.now)) (is_second : MatchOption second (HasOneArray classes c.includes) (IsSecondArray classes c.includes)) (is_clause : clause ≡ earlier (option_and_then (slice_get places) conflict) second) where
+  abbrev Conflict : Bool → List Feature → List Feature → Type 0
+  Conflict immutable fs written = MatchOption conflict (do_brought_clash immutable fs written fs ≡ false) (IsFirstClash (do_brought_clash immutable fs written) fs)
+
+  of_class : Conflict (is_immutable c.kind) among c.features
+  of_class =
+      subst (λ fs. Conflict (is_immutable c.kind) among fs) has.written
+      (subst (λ fs. Conflict (is_immutable c.kind) fs features.written.now) has.brought
+      (subst (λ i. Conflict i features.brought.now features.written.now) has.immutable is_conflict))
+
+  refusal_of : (refusal : Option Refusal) → refusal ≡ at_type c.includes clause → IsClauseRefusal classes c among places refusal
+  refusal_of refusal is = record {
+    conflict = conflict;
+    is_conflict = of_class;
     second = second;
     is_second = is_second;
-    due = sym (ap is_some none) ∙ is ∙ ap (λ b. b || is_some second) is_clash;
-    of_type = tt;
+    is = is ∙ ap (at_type c.includes) is_clause;
   }
 
-  pub a_clause : (clause : Option ℕ) (place : ℕ) (refusal : Refusal) → is_some clause ≡ (is_some conflict || is_some second) → clause ≡ Some place → IsOfType c.includes refusal → IsClauseRefusal classes c clash (Some refusal)
-  a_clause clause place refusal is some of_type = record {
-    second = second;
-    is_second = is_second;
-    due = sym (ap is_some some) ∙ is ∙ ap (λ b. b || is_some second) is_clash;
-    of_type = of_type;
-  }
+  pub no_clause : clause ≡ None → IsClauseRefusal classes c among places None
+  no_clause none = refusal_of None (sym (ap (at_type c.includes) none))
+
+  pub a_clause : (place : ℕ) (include : Include) (pos : Pos) (refusal : Refusal) → clause ≡ Some place → slice_get c.includes place ≡ Some include → pos ≡ type_pos include.ty → refusal ≡ record { rule = rule.IncludedFeaturesConflict; pos = pos } → IsClauseRefusal classes c among places (Some refusal)
+  a_clause place include pos refusal some at is_pos is =
+      refusal_of (Some refusal)
+      (ap Some (is ∙ ap (λ p. record { rule = rule.IncludedFeaturesConflict; pos = p }) is_pos)
+      ∙ sym (ap (at_type c.includes) some ∙ ap (option_map (λ (i : Include). record { rule = rule.IncludedFeaturesConflict; pos = type_pos i.ty })) at))
 
 -- ---- the second clause with an array part
 
@@ -287,4 +291,4 @@ second_array program includes second knows found = by second found
       second = subst (λ number. IsSecond (brings_array number program.includes.now.arrays.items) includes place) same is;
     }
 
-pub ruleset clauses_refused = (brought_conflict, no_clause, a_clause, second_array, of_this_type)
+pub ruleset clauses_refused = (brought_conflict, no_clause, a_clause, second_array)

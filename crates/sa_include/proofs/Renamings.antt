@@ -124,4 +124,12 @@ module _ (changes : List Change) (renaming : Renaming) (name : List ℕ) (found 
   pub changed : (place : ℕ) (change : Change) (to : Option (List ℕ)) → found ≡ Some place → slice_get changes place ≡ Some change → change.to ≡ to → to ≡ name_brought changes name
   changed place change to some at is_to = sym is_to ∙ sym (ap (name_after name) (change_is (Some place) some ∙ at))
 
+  pub no_change_of : found ≡ None → None ≡ change_of changes name
+  no_change_of none = sym (change_is None none)
+
+  pub its_change : (place : ℕ) (got : Option Change) → found ≡ Some place → got ≡ slice_get changes place → got ≡ change_of changes name
+  its_change place got some is_got = is_got ∙ sym (change_is (Some place) some)
+
 pub ruleset names = (no_change, no_change_there, changed)
+
+pub ruleset changes = (no_change_of, its_change)

@@ -1,10 +1,11 @@
 -- The classes are gone through, each behind those that it includes, until the first in text order is refused.
 use Rattle.std.proofs.Common.{◌≡◌, ℕ, zero, suc, ◌+◌, ◌<◌, ◌≤◌, true, false, List, [], ◌∷◌, ◌++◌, None, Some, length, set, slice_get, refl, sym, ap, subst, ◌∙◌, ◌⊎◌, inl, inr, arith}
 use Rattle.std.proofs.lemmas.Bool.{cases_eq, false≢true}
+use Rattle.std.proofs.lemmas.Option.{slice_get_within}
 use Rattle.sa_tree.specs.declared.class.Class.{Class}
 use Rattle.sa_tree.specs.declared.refusal.Refusal.{Refusal}
 use Rattle.sa_include.specs.Refusals.{AreAccepted, IsFirstRefusal, IsVerdict}
-use Rattle.sa_include.specs.Resolved.{AreDone, AreResolved, AreUndone, IsDone, IsGoneThrough, IsRefusedFrom, KnowsIncludes}
+use Rattle.sa_include.specs.Resolved.{AreAllResolved, AreDone, AreResolved, AreUndone, IsDone, IsGoneThrough, IsRefusedFrom, IsResolved, IsResolvedAt, IsUndone, KnowsIncludes}
 use Rattle.sa_include.specs.declared.resolved.Flattened.{Flattened}
 use Rattle.sa_include.specs.declared.resolved.Program.{Program}
 use Rattle.sa_include_names.specs.Includes.{AreArrays}
@@ -44,13 +45,13 @@ none_undone resolved is = record { each = λ place f at. absurd (nothing place f
     nothing : (place : ℕ) (f : Flattened) → slice_get [] place ≡ Some f → ⊥
     nothing place f q = cc
 
-pub undone_too : (old new : List Flattened) (f : Flattened) → AreUndone old → f.done ≡ false → new ≡ old ++ f ∷ [] → AreUndone new
+pub undone_too : (old new : List Flattened) (f : Flattened) → AreUndone old → IsUndone f → new ≡ old ++ f ∷ [] → AreUndone new
 undone_too old new f before undone pushed = record {
   each = λ place g at. by old before.each place g (ap (λ rs. slice_get rs place) (sym pushed) ∙ at);
 }
   where
-    by : (fs : List Flattened) → ((place : ℕ) (g : Flattened) → slice_get fs place ≡ Some g → g.done ≡ false) → (place : ℕ) (g : Flattened) → slice_get (fs ++ f ∷ []) place ≡ Some g → g.done ≡ false
-    by [] each zero g at = ap (λ (h : Flattened). h.done) (sym (one_of at)) ∙ undone
+    by : (fs : List Flattened) → ((place : ℕ) (g : Flattened) → slice_get fs place ≡ Some g → IsUndone g) → (place : ℕ) (g : Flattened) → slice_get (fs ++ f ∷ []) place ≡ Some g → IsUndone g
+    by [] each zero g at = subst IsUndone (one_of at) undone
     by [] each (suc place) g at = cc
     by (h ∷ fs) each zero g at = each 0 g at
     by (h ∷ fs) each (suc place) g at = by fs (λ p k at_k. each (suc p) k at_k) place g at
@@ -86,48 +87,78 @@ pub ruleset accepting = (none_done, done_too, all_done, refused_here)
 module _ (classes : List Class) where
   pub nothing_yet : (resolved : List Flattened) → AreUndone resolved → IsGoneThrough classes resolved 0
   nothing_yet resolved undone = record {
-    resolved = record { each = λ place c f at_c at done. absurd (false≢true (sym (undone.each place f at) ∙ done)) };
+    resolved = record { each = λ place c f at_c at. inl (undone.each place f at) };
+    through = λ place c f lt. absurd (omega (arith, lt));
     accepted = record { each = λ place c lt. absurd (omega (arith, lt)) };
   }
 
-  module _ (old new : List Flattened) (accepted number : ℕ) (f : Flattened) (so_far : IsGoneThrough classes old accepted) (verdict : (c : Class) → slice_get classes number ≡ Some c → IsVerdict classes c f.refusal) (kept : new ≡ set old number f) where
+  verdict_of : (c : Class) (f : Flattened) → IsResolved classes c f → IsVerdict classes c f.refusal
+  verdict_of c f r = record { brought = r.brought; places = r.places; brings = r.brings; verdict = r.verdict }
+
+  resolved_of : (c : Class) (f : Flattened) → f.done ≡ true → IsUndone f ⊎ IsResolved classes c f → IsResolved classes c f
+  resolved_of c f done (inl undone) = absurd (false≢true (sym undone.undone ∙ done))
+  resolved_of c f done (inr r) = r
+
+  module _ (old new : List Flattened) (accepted number : ℕ) (f : Flattened) (so_far : IsGoneThrough classes old accepted) (is_resolved : IsResolvedAt classes number f) (kept : new ≡ set old number f) where
+    -- the class with the number, and another
+    at_number : (place : ℕ) (c : Class) (g : Flattened) → slice_get classes place ≡ Some c → slice_get new place ≡ Some g → place ≡ number → IsResolved classes c g
+    at_number place c g at_c at e =
+        subst (IsResolved classes c) (set_here old number f g (ap (slice_get (set old number f)) (sym e) ∙ ap (λ rs. slice_get rs place) (sym kept) ∙ at))
+        (is_resolved c (ap (slice_get classes) (sym e) ∙ at_c))
+
+    at_other : (place : ℕ) (g : Flattened) → slice_get new place ≡ Some g → (place ≡ number → ⊥) → slice_get old place ≡ Some g
+    at_other place g at differ = sym (set_elsewhere old number place f differ) ∙ ap (λ rs. slice_get rs place) (sym kept) ∙ at
+
     resolved_too : AreResolved classes new
-    resolved_too = record {
-      each = λ place c g at_c at done. by place c g at_c (ap (λ rs. slice_get rs place) (sym kept) ∙ at) done (cases_eq place number);
-    }
+    resolved_too = record { each = λ place c g at_c at. by place c g at_c at (cases_eq place number) }
       where
-        by : (place : ℕ) (c : Class) (g : Flattened) → slice_get classes place ≡ Some c → slice_get (set old number f) place ≡ Some g → g.done ≡ true → (place ≡ number) ⊎ (place ≡ number → ⊥) → IsVerdict classes c g.refusal
-        by place c g at_c at done (inl e) =
-            subst (λ (h : Flattened). IsVerdict classes c h.refusal) (set_here old number f g (ap (slice_get (set old number f)) (sym e) ∙ at)) (verdict c (ap (slice_get classes) (sym e) ∙ at_c))
-        by place c g at_c at done (inr differ) = so_far.resolved.each place c g at_c (sym (set_elsewhere old number place f differ) ∙ at) done
+        by : (place : ℕ) (c : Class) (g : Flattened) → slice_get classes place ≡ Some c → slice_get new place ≡ Some g → (place ≡ number) ⊎ (place ≡ number → ⊥) → IsUndone g ⊎ IsResolved classes c g
+        by place c g at_c at (inl e) = inr (at_number place c g at_c at e)
+        by place c g at_c at (inr differ) = so_far.resolved.each place c g at_c (at_other place g at differ)
+
+    near_accepted : (place : ℕ) → (place < accepted) ⊎ (accepted ≤ place)
+    near_accepted place = grind arith
+
+    through_too : (next : ℕ) → AreDone new accepted next → (place : ℕ) (c : Class) (g : Flattened) → place < next → slice_get classes place ≡ Some c → slice_get new place ≡ Some g → IsResolved classes c g
+    through_too next done place c g lt at_c at = by (near_accepted place) (cases_eq place number)
+      where
+        by : (place < accepted) ⊎ (accepted ≤ place) → (place ≡ number) ⊎ (place ≡ number → ⊥) → IsResolved classes c g
+        by near (inl e) = at_number place c g at_c at e
+        by (inl before) (inr differ) = so_far.through place c g before at_c (at_other place g at differ)
+        by (inr after) (inr differ) =
+            let one = done.each place after lt in
+            resolved_of c g (ap (λ (h : Flattened). h.done) (one_of (sym at ∙ one.at)) ∙ one.done) (resolved_too.each place c g at_c at)
 
     accepted_too : (next : ℕ) → AreDone new accepted next → AreAccepted classes next
-    accepted_too next done = record { each = λ place c lt at. by place c at lt (near place) }
+    accepted_too next done = record { each = λ place c lt at. by place c at lt (near_accepted place) }
       where
-        near : (place : ℕ) → (place < accepted) ⊎ (accepted ≤ place)
-        near place = grind arith
-
         by : (place : ℕ) (c : Class) → slice_get classes place ≡ Some c → place < next → (place < accepted) ⊎ (accepted ≤ place) → IsVerdict classes c None
         by place c at lt (inl before) = so_far.accepted.each place c before at
         by place c at lt (inr after) =
             let one = done.each place after lt in
-            subst (IsVerdict classes c) one.none (resolved_too.each place c one.flattened at one.at one.done)
+            subst (IsVerdict classes c) one.none (verdict_of c one.flattened (resolved_of c one.flattened one.done (resolved_too.each place c one.flattened at one.at)))
 
     pub one_more : (next : ℕ) → AreDone new accepted next → IsGoneThrough classes new next
-    one_more next done = record { resolved = resolved_too; accepted = accepted_too next done }
+    one_more next done = record { resolved = resolved_too; through = through_too next done; accepted = accepted_too next done }
 
     pub one_refused : (refusal : Refusal) → IsRefusedFrom new accepted (length classes) refusal → IsFirstRefusal classes refusal
     one_refused refusal refused =
         let class = there_is classes refused.place refused.within in
+        let f = refused.flattened in
         record {
           place = refused.place;
           class = class.0;
           at = class.1;
-          refused = subst (IsVerdict classes class.0) refused.refused (resolved_too.each refused.place class.0 refused.flattened class.1 refused.at refused.done);
+          refused = subst (IsVerdict classes class.0) refused.refused (verdict_of class.0 f (resolved_of class.0 f refused.done (resolved_too.each refused.place class.0 f class.1 refused.at)));
           first = accepted_too refused.place refused.before;
         }
 
   pub all_accepted : (resolved : List Flattened) (accepted : ℕ) → IsGoneThrough classes resolved accepted → length classes ≤ accepted → AreAccepted classes (length classes)
   all_accepted resolved accepted so_far le = record { each = λ place c lt. so_far.accepted.each place c (omega (arith, lt, le)) }
 
-pub ruleset resolving = (nothing_yet, one_more, one_refused, all_accepted)
+  pub all_resolved : (resolved : List Flattened) (accepted : ℕ) → IsGoneThrough classes resolved accepted → length classes ≤ accepted → AreAllResolved classes resolved
+  all_resolved resolved accepted so_far le = record {
+    each = λ place c f at_c at. let lt = slice_get_within classes place c at_c in so_far.through place c f (omega (arith, lt, le)) at_c at;
+  }
+
+pub ruleset resolving = (nothing_yet, one_more, one_refused, all_accepted, all_resolved)

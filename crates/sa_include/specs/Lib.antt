@@ -3,5 +3,7 @@ pub mod Flattened
 pub mod Included
 pub mod Changes
 pub mod Firsts
+pub mod Brought
+pub mod Gathering
 pub mod Refusals
 pub mod Resolved

@@ -1,6 +1,7 @@
 -- What the classes of a program are refused by for their includes.
-use Rattle.std.specs.Prelude.{◌≡◌, ◌⊎◌, ◌||◌, ◌<◌, Bool, ℕ, List, [], Option, None, Some, Contains, IfSome, MatchOption, is_some, slice_get}
-use Rattle.std.specs.Option.{option_map, option_or}
+use Rattle.std.specs.Prelude.{◌≡◌, ◌⊎◌, ◌+◌, ◌<◌, Bool, true, false, ℕ, List, Option, None, Some, Contains, IfSome, MatchOption}
+use Rattle.std.specs.Prelude.{min, slice_get, take}
+use Rattle.std.specs.Option.{option_and_then, option_map, option_or}
 use Rattle.sa_tree.specs.declared.class.Change.{Change}
 use Rattle.sa_tree.specs.declared.class.Class.{Class}
 use Rattle.sa_tree.specs.declared.class.Feature.{Feature}
@@ -13,12 +14,12 @@ use Rattle.sa_tree.specs.declared.ty.ModeTy.{ModeTy}
 use Rattle.sa_tree.specs.declared.ty.Ty.{Ty}
 use Rattle.sa_tree.specs.declared.ty.Ty.TheOpen.{Ty-F}
 use Rattle.sa_tree.specs.declared.ty.Ty.TheViews.{out-Ty}
+use Rattle.sa_include.specs.Brought.{Brings}
 use Rattle.sa_include.specs.Firsts.{do_brought_clash, left_stub, staying_features, written_conflict}
 use Rattle.sa_include_conflicts.specs.declared.features.ClassFeatures.{ClassFeatures}
 use Rattle.sa_include_names.specs.Includes.{HasOneArray, IsSecondArray}
 use Rattle.sa_include_names.specs.Refusals.{AreIncludesRight, RefusesNames}
 use Rattle.sa_include.specs.Flattened.{is_immutable}
-use Rattle.sa_include.specs.declared.clause.Gathered.{Gathered}
 
 -- ---- one class
 
@@ -48,22 +49,17 @@ pub record IsOfClause (clauses : List Include) (refusal : Refusal) : Type 0 wher
   pub has : Contains clauses clause
   pub change : IsOfChange clause.changes refusal
 
--- E17, at the type of one of these clauses
-pub record IsOfType (clauses : List Include) (refusal : Refusal) : Type 0 where
-  pub clause : Include
-  pub has : Contains clauses clause
-  pub is : refusal ≡ record { rule = rule.IncludedFeaturesConflict; pos = type_pos clause.ty }
+-- E17, at the type of the clause at a place
+abbrev pub at_type : List Include → Option ℕ → Option Refusal
+at_type clauses place =
+    option_map (λ clause. record { rule = rule.IncludedFeaturesConflict; pos = type_pos clause.ty })
+    (option_and_then (slice_get clauses) place)
 
--- these are the features of a class, of which its includes bring none where it has no includes
-pub record HasFeatures (c : Class) (features : ClassFeatures) : Type 0 where
-  pub no_includes : c.includes ≡ [] → features.brought.now ≡ []
+-- these are the features of a class to which its clauses bring the first ones
+pub record HasFeatures (c : Class) (among : List Feature) (features : ClassFeatures) : Type 0 where
   pub immutable : features.immutable ≡ is_immutable c.kind
+  pub brought : features.brought.now ≡ among
   pub written : features.written.now ≡ c.features
-
--- what the includes of a class bring, and the refusal of one of their changes
-pub record IsGathered (c : Class) (gathered : Gathered) : Type 0 where
-  pub no_includes : c.includes ≡ [] → gathered.features.items ≡ []
-  pub of_change : IfSome gathered.refusal (IsOfClause c.includes)
 
 -- the first refusal of a class whose includes bring these features: that of a change (E16); else E11; else that of a clause (E17);
 -- else E22
@@ -74,30 +70,45 @@ first_refusal c brought changes clauses =
     (option_or clauses
     (at_name rule.StubLeft (left_stub c.kind (staying_features (is_immutable c.kind) brought c.features)))))
 
--- E17 comes exactly where two of the brought features conflict, as is told, or two clauses bring an array part
-pub record IsClauseRefusal (classes : List Class) (c : Class) (conflict : Bool) (refusal : Option Refusal) : Type 0 where
+-- the first of these features that conflicts with an earlier one, where it is told of the first ones whether two of them do
+pub record IsFirstClash (do_clash : List Feature → Bool) (features : List Feature) (place : ℕ) : Type 0 where
+  pub clash : do_clash (take (place + 1) features) ≡ true
+  pub first : do_clash (take place features) ≡ false
+
+-- the lesser of two places
+abbrev pub earlier : Option ℕ → Option ℕ → Option ℕ
+earlier None other = other
+earlier (Some place) None = Some place
+earlier (Some place) (Some other) = Some (min place other)
+
+-- E17 comes at the clause that brings the first feature that conflicts with an earlier one, or at the second with an array part, whichever
+-- is earlier. For each brought feature the place of its clause is given.
+pub record IsClauseRefusal (classes : List Class) (c : Class) (brought : List Feature) (places : List ℕ) (refusal : Option Refusal) : Type 0 where
+  pub conflict : Option ℕ
+  pub is_conflict : MatchOption conflict
+      (do_brought_clash (is_immutable c.kind) brought c.features brought ≡ false)
+      (IsFirstClash (do_brought_clash (is_immutable c.kind) brought c.features) brought)
   pub second : Option ℕ
   pub is_second : MatchOption second (HasOneArray classes c.includes) (IsSecondArray classes c.includes)
-  pub due : is_some refusal ≡ (conflict || is_some second)
-  pub of_type : IfSome refusal (IsOfType c.includes)
+  pub is : refusal ≡ at_type c.includes (earlier (option_and_then (slice_get places) conflict) second)
 
--- this is the first refusal of a class of these, or it has none
-pub record IsVerdict (classes : List Class) (c : Class) (found : Option Refusal) : Type 0 where
-  -- its includes bring these features
-  pub brought : List Feature
-  pub no_includes : c.includes ≡ [] → brought ≡ []
+-- this is the first refusal of a class to which its clauses bring these features, or it has none
+pub record IsVerdictOf (classes : List Class) (c : Class) (brought : List Feature) (places : List ℕ) (found : Option Refusal) : Type 0 where
   pub changes : Option Refusal
   pub of_change : IfSome changes (IsOfClause c.includes)
   pub clauses : Option Refusal
   pub of_clause : changes ≡ None → written_conflict (is_immutable c.kind) brought c.features ≡ None
-      → IsClauseRefusal classes c (do_brought_clash (is_immutable c.kind) brought c.features brought) clauses
+      → IsClauseRefusal classes c brought places clauses
   pub is : found ≡ first_refusal c brought changes clauses
 
--- ---- all classes
+-- so it is of a class to which its clauses bring what they make of the features of the classes that they name
+pub record IsVerdict (classes : List Class) (c : Class) (found : Option Refusal) : Type 0 where
+  pub brought : List Feature
+  pub places : List ℕ
+  pub brings : Brings classes c c.includes brought places
+  pub verdict : IsVerdictOf classes c brought places found
 
--- so it is of the class with this number
-abbrev pub IsVerdictAt : List Class → ℕ → Option Refusal → Type 0
-IsVerdictAt classes number found = (c : Class) → slice_get classes number ≡ Some c → IsVerdict classes c found
+-- ---- all classes
 
 -- none of the first classes is refused
 pub record AreAccepted (classes : List Class) (count : ℕ) : Type 0 where

@@ -1,22 +1,23 @@
 //! The features of one class, from those of the classes that it includes and its own, and its first refusal: two features
 //! that it writes conflict (E11), two that its includes bring do or both have an array part (E17), or a stub is left.
 
-ghost use Rattle.std.specs.Prelude.{◌≡◌, ◌||◌, IfOk, IfSome, is_some};
-ghost use Rattle.sa_include.specs.Firsts.{do_brought_clash, left_stub, staying_features, written_conflict};
+ghost use Rattle.std.specs.Option.{option_and_then};
+ghost use Rattle.std.specs.Prelude.{◌≡◌, IfOk, IfSome, drop, length, slice_get, true};
+ghost use Rattle.sa_include.specs.Firsts.{left_stub, staying_features, written_conflict};
+ghost use Rattle.sa_include.specs.Gathering.{IsGathered, is_kept, kept_by, stay_in};
 ghost use Rattle.sa_include_conflicts.specs.Sharing.{AreGrouped};
 ghost use Rattle.sa_include_conflicts.specs.Staying.{all_stay};
 ghost use Rattle.sa_tree.specs.declared.rule.Rule.TheVariants as rule;
 ghost use Rattle.sa_include.specs.Refusals.{
   HasFeatures,
   IsClauseRefusal,
-  IsGathered,
   IsOfClause,
-  IsVerdict,
-  IsVerdictAt,
+  IsVerdictOf,
   at_name,
+  earlier,
   type_pos,
 };
-ghost use Rattle.sa_include.specs.Resolved.{KnowsIncludes};
+ghost use Rattle.sa_include.specs.Resolved.{AreResolved, IsResolvedAt, KnowsIncludes};
 
 use crate::clause::{Gathered, gather};
 use crate::resolved::{Flattened, Program};
@@ -39,8 +40,9 @@ pub(crate) fn flatten_class(
     maker: &mut Maker<'_>,
     number: u32,
 ) -> Result<Flattened, NoMemory>
-    requires { KnowsIncludes program.now }
-    ensures { IfOk result (λ flattened. IsVerdictAt program.now.classes.now number flattened.refusal) }
+    requires includes { KnowsIncludes program.now }
+    requires resolved { AreResolved program.now.classes.now resolved.now }
+    ensures { IfOk result (IsResolvedAt program.now.classes.now number) }
 {
     let class = item(program.classes, number as usize)?;
     let gathered = gather(alloc, program, resolved, maker, class)?;
@@ -64,8 +66,10 @@ fn judge(
     gathered: &Gathered,
 ) -> Result<Judged, NoMemory>
     requires includes { KnowsIncludes program.now }
-    requires gathered { IsGathered class.now gathered.now }
-    ensures { IfOk result (λ judged. IsVerdict program.now.classes.now class.now judged.refusal) }
+    requires gathered { IsGathered program.now.classes.now class.now gathered.now }
+    ensures stays { IfOk result (λ judged. judged.stays.items ≡ stay_in class.now gathered.now.features.items) }
+    ensures verdict { IfOk result (λ judged. IsVerdictOf program.now.classes.now class.now gathered.now.features.items
+        gathered.now.clauses.items judged.refusal) }
 {
     let features = ClassFeatures {
         brought: gathered.features.as_slice(),
@@ -93,10 +97,10 @@ fn first_refusal(
 ) -> Result<Option<Refusal>, NoMemory>
     requires includes { KnowsIncludes program.now }
     requires changes { IfSome gathered.now.refusal (IsOfClause class.now.includes) }
-    requires features { HasFeatures class.now features.now }
+    requires features { HasFeatures class.now gathered.now.features.items features.now }
     requires grouped { AreGrouped features.now conflicts.now }
     requires stays { stays.now ≡ all_stay features.now }
-    ensures { IfOk result (IsVerdict program.now.classes.now class.now) }
+    ensures { IfOk result (IsVerdictOf program.now.classes.now class.now gathered.now.features.items gathered.now.clauses.items) }
 {
     if gathered.refusal.is_some() {
         return Ok(gathered.refusal);
@@ -146,10 +150,10 @@ fn clause_refused(
     stays: &[bool],
 ) -> Result<Option<Refusal>, NoMemory>
     requires includes { KnowsIncludes program.now }
+    requires features { HasFeatures class.now gathered.now.features.items features.now }
     requires grouped { AreGrouped features.now conflicts.now }
     requires stays { stays.now ≡ all_stay features.now }
-    ensures { IfOk result (IsClauseRefusal program.now.classes.now class.now
-        (do_brought_clash features.now.immutable features.now.brought.now features.now.written.now features.now.brought.now)) }
+    ensures { IfOk result (IsClauseRefusal program.now.classes.now class.now gathered.now.features.items gathered.now.clauses.items) }
 {
     let last = features.brought.len();
     let conflict = first_conflict(alloc, conflicts, stays, 0, last)?;
@@ -170,7 +174,7 @@ fn refused_clause(
     conflict: Option<usize>,
     arrays: Option<usize>,
 ) -> Result<Option<usize>, NoMemory>
-    ensures { IfOk result (λ clause. is_some clause ≡ (is_some conflict || is_some arrays)) }
+    ensures { IfOk result (λ clause. clause ≡ earlier (option_and_then (slice_get clauses.now) conflict) arrays) }
 {
     let Some(place) = conflict else {
         return Ok(arrays);
@@ -213,7 +217,10 @@ fn pos_of(ty: &Ty) -> Pos
 
 /// What stays of the features of a class.
 fn kept(alloc: Global, gathered: Gathered, judged: Judged) -> Result<Flattened, NoMemory>
-    ensures { IfOk result (λ flattened. flattened.refusal ≡ judged.refusal) }
+    ensures brought { IfOk result (λ flattened. flattened.brought ≡ kept_by is_kept judged.stays.items gathered.features.items) }
+    ensures stays { IfOk result (λ flattened. flattened.stays.items ≡ drop (length gathered.features.items) judged.stays.items) }
+    ensures refusal { IfOk result (λ flattened. flattened.refusal ≡ judged.refusal) }
+    ensures done { IfOk result (λ flattened. flattened.done ≡ true) }
 {
     let Gathered { features, open, .. } = gathered;
     let Judged { stays, refusal } = judged;
@@ -229,11 +236,15 @@ fn kept(alloc: Global, gathered: Gathered, judged: Judged) -> Result<Flattened, 
     })
 }
 
+/// Those of these features that stay.
+#[tactic(auto, using(crate::proofs::Marks::staying))]
 fn features_that_stay(
     alloc: Global,
     features: Vec<Feature>,
     stays: &[bool],
-) -> Result<Items<Feature>, AllocError> {
+) -> Result<Items<Feature>, AllocError>
+    ensures { IfOk result (λ kept. kept ≡ kept_by is_kept stays.now features.items) }
+{
     let mut rest = features;
     let mut last_first = Vec::new(alloc);
     for _ in 0..rest.len() {
@@ -264,7 +275,10 @@ fn marks_of_staying(
 }
 
 /// The marks from a place on.
-fn marks_from(alloc: Global, marks: &[bool], from: usize) -> Result<Vec<bool>, AllocError> {
+#[tactic(auto, using(crate::proofs::Marks::staying))]
+fn marks_from(alloc: Global, marks: &[bool], from: usize) -> Result<Vec<bool>, AllocError>
+    ensures { IfOk result (λ rest. rest.items ≡ drop from marks.now) }
+{
     let mut rest = Vec::new(alloc);
     for place in from..marks.len() {
         rest.push(is_set(marks, place))?;

@@ -1,8 +1,22 @@
 //! The features that the include clauses of a class bring.
 
-ghost use Rattle.std.specs.Prelude.{◌≡◌, IfOk, IfSome};
+ghost use Rattle.std.specs.Prelude.{◌≡◌, ◌++◌, IfOk, IfSome, OnOk, Some, [], ◌∷◌, slice_get};
+ghost use Rattle.sa_include.specs.Changes.{HasChanges};
+ghost use Rattle.sa_include.specs.Gathering.{
+  AddsBrought,
+  AddsIncluded,
+  IsClauseOf,
+  IsGathered,
+  KeepsClause,
+  features_in,
+  made_by,
+  put_of,
+  renamed_by,
+  written_in,
+};
 ghost use Rattle.sa_include.specs.Included.{given_in};
-ghost use Rattle.sa_include.specs.Refusals.{IsGathered, IsOfChange};
+ghost use Rattle.sa_include.specs.Refusals.{IsOfChange};
+ghost use Rattle.sa_include.specs.Resolved.{AreResolved};
 
 use crate::renamed::{Renaming, access_after, name_after};
 use crate::resolved::{Flattened, Program};
@@ -32,7 +46,7 @@ struct Brought {
 }
 
 /// What the include clauses of a class bring.
-#[tactic(auto, using(crate::proofs::Refusing::gathering))]
+#[tactic(auto, using(crate::proofs::Gathering::gathering))]
 pub(crate) fn gather<'a>(
     alloc: Global,
     program: &Program<'a>,
@@ -40,7 +54,8 @@ pub(crate) fn gather<'a>(
     maker: &mut Maker<'_>,
     class: &Class,
 ) -> Result<Gathered, NoMemory>
-    ensures { IfOk result (IsGathered class.now) }
+    requires { AreResolved program.now.classes.now resolved.now }
+    ensures { IfOk result (IsGathered program.now.classes.now class.now) }
 {
     let mut brought = Brought {
         features: Vec::new(alloc),
@@ -70,6 +85,7 @@ pub(crate) fn gather<'a>(
 
 /// Brings what an include clause brings of its class, and gives the refusal of its changes. `same` is the type of the
 /// including class.
+#[tactic(auto, using(crate::proofs::Gathering::one_clause))]
 fn bring_clause(
     alloc: Global,
     source: &Source<'_>,
@@ -79,7 +95,8 @@ fn bring_clause(
     maker: &mut Maker<'_>,
     brought: &mut Brought,
 ) -> Result<Option<Refusal>, NoMemory>
-    ensures { IfOk result (λ refusal. IfSome refusal (IsOfChange include.now.changes)) }
+    ensures refusal { IfOk result (λ refusal. IfSome refusal (IsOfChange include.now.changes)) }
+    ensures brought { OnOk result (AddsIncluded include.now place same.now source.now brought.old brought.new) }
 {
     let mut clause = Clause::new(alloc, source.class, include, place, same)?;
     clause.bring(alloc, source, maker, brought)?;
@@ -88,7 +105,10 @@ fn bring_clause(
 
 impl Brought {
     /// Puts a feature that a clause brings behind the others.
-    fn add(&mut self, included: Included, clause: usize) -> Result<(), NoMemory> {
+    fn add(&mut self, included: Included, clause: usize) -> Result<(), NoMemory>
+        ensures features { OnOk result (self.new.features.items ≡ self.old.features.items ++ included.feature ∷ []) }
+        ensures clauses { OnOk result (self.new.clauses.items ≡ self.old.clauses.items ++ clause ∷ []) }
+    {
         let Included { feature, open } = included;
         self.features.push(feature)?;
         self.open.push(open)?;
@@ -110,7 +130,10 @@ fn source_of<'a>(
     program: &Program<'a>,
     resolved: &'a [Flattened],
     number: u32,
-) -> Result<Source<'a>, NoMemory> {
+) -> Result<Source<'a>, NoMemory>
+    ensures class { IfOk result (λ source. slice_get program.now.classes.now number ≡ Some source.class.now) }
+    ensures flattened { IfOk result (λ source. slice_get resolved.now number ≡ Some source.flattened.now) }
+{
     let place = number as usize;
     Ok(Source {
         class: item(program.classes, place)?,
@@ -135,7 +158,9 @@ impl<'a> Clause<'a> {
         include: &'a Include,
         place: usize,
         same: &'a Ty,
-    ) -> Result<Clause<'a>, NoMemory> {
+    ) -> Result<Clause<'a>, NoMemory>
+        ensures { IfOk result (IsClauseOf class.now include.now place same.now) }
+    {
         let given = given_in(&include.ty);
         let renaming = Renaming::new(alloc, include.changes.as_slice())?;
         let arguments = TypeArguments::new(alloc, class.params.as_slice(), given, same)?;
@@ -148,13 +173,18 @@ impl<'a> Clause<'a> {
     }
 
     /// Brings the features of the included class: those that its own includes bring, then those that it writes.
+    #[tactic(auto, using(crate::proofs::Gathering::bringing))]
     fn bring(
         &mut self,
         alloc: Global,
         source: &Source<'_>,
         maker: &mut Maker<'_>,
         brought: &mut Brought,
-    ) -> Result<(), NoMemory> {
+    ) -> Result<(), NoMemory>
+        requires { HasChanges self.old.include.now.changes self.old.renaming }
+        ensures brought { OnOk result (AddsBrought self.old.place (put_of self.old) (made_by self.old (features_in source.now)) brought.old brought.new) }
+        ensures kept { OnOk result (KeepsClause self.old self.new) }
+    {
         let flattened = source.flattened;
         for (place, feature) in flattened.brought.as_slice().iter().enumerate() {
             let open = is_set(&flattened.open, place);
@@ -163,13 +193,18 @@ impl<'a> Clause<'a> {
         self.bring_written(alloc, source, maker, brought)
     }
 
+    #[tactic(auto, using(crate::proofs::Gathering::bringing))]
     fn bring_written(
         &mut self,
         alloc: Global,
         source: &Source<'_>,
         maker: &mut Maker<'_>,
         brought: &mut Brought,
-    ) -> Result<(), NoMemory> {
+    ) -> Result<(), NoMemory>
+        requires { HasChanges self.old.include.now.changes self.old.renaming }
+        ensures brought { OnOk result (AddsBrought self.old.place (put_of self.old) (made_by self.old (written_in source.now)) brought.old brought.new) }
+        ensures kept { OnOk result (KeepsClause self.old self.new) }
+    {
         for (place, feature) in source.class.features.as_slice().iter().enumerate() {
             if is_set(&source.flattened.stays, place) {
                 let open = is_set(source.open, place);
@@ -180,6 +215,7 @@ impl<'a> Clause<'a> {
     }
 
     /// Brings a feature, unless a change leaves it out.
+    #[tactic(auto, using(crate::proofs::Gathering::one_feature))]
     fn bring_feature(
         &mut self,
         alloc: Global,
@@ -187,7 +223,11 @@ impl<'a> Clause<'a> {
         open: bool,
         maker: &mut Maker<'_>,
         brought: &mut Brought,
-    ) -> Result<(), NoMemory> {
+    ) -> Result<(), NoMemory>
+        requires { HasChanges self.old.include.now.changes self.old.renaming }
+        ensures brought { OnOk result (AddsBrought self.old.place (put_of self.old) (made_by self.old (feature.now ∷ [])) brought.old brought.new) }
+        ensures kept { OnOk result (KeepsClause self.old self.new) }
+    {
         let Some(renamed) = self.renamed(alloc, feature)? else {
             return Ok(());
         };
@@ -196,7 +236,12 @@ impl<'a> Clause<'a> {
     }
 
     /// What a feature is called in the including class and who sees it there, or None where a change leaves it out.
-    fn renamed(&mut self, alloc: Global, feature: &Feature) -> Result<Option<Renamed>, NoMemory> {
+    #[tactic(auto, using(crate::proofs::Gathering::renaming))]
+    fn renamed(&mut self, alloc: Global, feature: &Feature) -> Result<Option<Renamed>, NoMemory>
+        requires { HasChanges self.old.include.now.changes self.old.renaming }
+        ensures renamed { IfOk result (λ renamed. renamed ≡ renamed_by self.old.include.now feature.now) }
+        ensures kept { OnOk result (KeepsClause self.old self.new) }
+    {
         let changes = self.include.changes.as_slice();
         let change = self.renaming.change_of(&feature.name.name, changes)?;
         let Some(name) = name_after(alloc, change, &feature.name.name)? else {

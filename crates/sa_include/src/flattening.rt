@@ -4,10 +4,11 @@ ghost use Rattle.std.specs.Prelude.{◌≡◌, Err, IfOk, OnOk, length, slice_se
 ghost use Rattle.std.specs.List.{All};
 ghost use Rattle.sa_tree.specs.declared.refusal.FrontFault.TheVariants.{Refused};
 ghost use Rattle.sa_tree.specs.declared.refusal.Refusal.{Refusal};
+ghost use Rattle.sa_include.specs.Brought.{HaveFeatures};
 ghost use Rattle.sa_include.specs.Flattened.{AreFlattened, IsApart};
 ghost use Rattle.sa_include.specs.Included.{AreIncluded};
 ghost use Rattle.sa_include.specs.Refusals.{AreAccepted, IsFirstRefusal, RefusesIncludes};
-ghost use Rattle.sa_include.specs.Resolved.{AreDone, AreUndone, IsRefusedFrom, KnowsIncludes};
+ghost use Rattle.sa_include.specs.Resolved.{AreAllResolved, AreDone, AreUndone, IsRefusedFrom, KnowsIncludes};
 ghost use Rattle.sa_include_names.specs.Includes.{AreArrays};
 ghost use Rattle.sa_include_names.specs.Refusals.{AreIncludesRight};
 ghost use Rattle.sa_include_names.specs.Tables.{HasNumbers};
@@ -40,6 +41,7 @@ pub fn flatten(alloc: Global, classes: &[Class]) -> Result<Flat, FrontFault>
     ensures flattened { IfOk result (λ flat. AreFlattened classes.now flat.classes) }
     ensures apart { IfOk result (λ flat. All IsApart flat.classes) }
     ensures included { IfOk result (λ flat. AreIncluded classes.now flat.classes) }
+    ensures features { IfOk result (λ flat. HaveFeatures classes.now flat.classes) }
     ensures right { OnOk result (AreIncludesRight classes.now) }
     ensures accepted { OnOk result (AreAccepted classes.now (length classes.now)) }
     ensures refused { (refusal : Refusal) → result ≡ Err (Refused refusal) → RefusesIncludes classes.now refusal }
@@ -64,6 +66,7 @@ fn resolved(
 ) -> Result<Vec<Flattened>, FrontFault>
     requires numbers { HasNumbers classes.now includes.now.numbers }
     requires arrays { AreArrays classes.now includes.now.arrays.items }
+    ensures resolved { IfOk result (λ list. AreAllResolved classes.now list.items) }
     ensures accepted { OnOk result (AreAccepted classes.now (length classes.now)) }
     ensures refused { (refusal : Refusal) → result ≡ Err (Refused refusal) → IsFirstRefusal classes.now refusal }
 {
@@ -94,6 +97,7 @@ fn resolve(
     maker: &mut Maker<'_>,
 ) -> Result<Vec<Flattened>, FrontFault>
     requires { KnowsIncludes program.now }
+    ensures resolved { IfOk result (λ list. AreAllResolved program.now.classes.now list.items) }
     ensures accepted { OnOk result (AreAccepted program.now.classes.now (length program.now.classes.now)) }
     ensures refused { (refusal : Refusal) → result ≡ Err (Refused refusal) → IsFirstRefusal program.now.classes.now refusal }
 {
@@ -183,13 +187,15 @@ fn accepted_up_to(resolved: &[Flattened], from: usize, classes: usize) -> Result
 }
 
 /// The classes without includes, each with the features that its includes bring and those of its own that stay.
-#[tactic(auto, using(crate::proofs::Nothing::puts_nothing))]
+#[tactic(auto, using(crate::proofs::Nothing::puts_nothing, crate::proofs::Wholes::wholes))]
 fn whole_classes(
     alloc: Global,
     classes: &[Class],
     resolved: Vec<Flattened>,
 ) -> Result<Items<Class>, NoMemory>
-    ensures { IfOk result (λ whole. AreFlattened classes.now whole) }
+    requires { AreAllResolved classes.now resolved.items }
+    ensures flattened { IfOk result (λ whole. AreFlattened classes.now whole) }
+    ensures features { IfOk result (λ whole. HaveFeatures classes.now whole) }
 {
     let mut last_first = resolved;
     last_first.reverse();

@@ -4,7 +4,8 @@
 ghost use Rattle.std.specs.Prelude.{◌≡◌, IfOk, IfSome, OnOk};
 ghost use Rattle.std.specs.Option.{option_copied};
 ghost use Rattle.sa_include.specs.Changes.{AddsChange, HasChanges};
-ghost use Rattle.sa_include.specs.Included.{name_brought};
+ghost use Rattle.sa_include.specs.Brought.{access_after};
+ghost use Rattle.sa_include.specs.Included.{change_of, name_after, name_brought};
 ghost use Rattle.sa_include.specs.Refusals.{IsOfChange};
 
 use indexmap::IndexMap;
@@ -70,11 +71,16 @@ impl Renaming {
     }
 
     /// The change of the features of this name that the clause brings.
+    #[tactic(auto, using(crate::proofs::Renamings::changes))]
     pub(crate) fn change_of<'a>(
         &mut self,
         name: &Name,
         changes: &'a [Change],
-    ) -> Result<Option<&'a Change>, NoMemory> {
+    ) -> Result<Option<&'a Change>, NoMemory>
+        requires { HasChanges changes.now self.old }
+        ensures change { IfOk result (λ change. option_copied change ≡ change_of changes.now name.now) }
+        ensures kept { OnOk result (self.new.first ≡ self.old.first) }
+    {
         let Some(place) = self.first.get(name).copied() else {
             return Ok(None);
         };
@@ -117,7 +123,9 @@ fn is_iter(name: &Name) -> bool {
 
 /// Who sees an included feature. A change that names no access leaves it as it was, and a private clause makes private what
 /// no change of its own names.
-pub(crate) fn access_after(include: &Include, change: Option<&Change>, access: Access) -> Access {
+pub(crate) fn access_after(include: &Include, change: Option<&Change>, access: Access) -> Access
+    ensures { result ≡ access_after include.now.private (option_copied change.entry) access }
+{
     match change {
         Some(change) => {
             if change.access == Access::Public {
@@ -141,7 +149,9 @@ pub(crate) fn name_after(
     alloc: Global,
     change: Option<&Change>,
     name: &Name,
-) -> Result<Option<Name>, AllocError> {
+) -> Result<Option<Name>, AllocError>
+    ensures { IfOk result (λ new. new ≡ name_after name.now (option_copied change.entry)) }
+{
     match change {
         None => Ok(Some(name.copy(alloc)?)),
         Some(change) => match &change.to {

@@ -1,6 +1,6 @@
 //! The classes of a program while their includes are gone through.
 
-ghost use Rattle.std.specs.Prelude.{◌≡◌, false};
+ghost use Rattle.sa_include.specs.Resolved.{IsUndone};
 
 use sa_include_names::Includes;
 use sa_tree::{Class, Feature, Refusal};
@@ -25,7 +25,7 @@ pub(crate) struct Flattened {
 impl Flattened {
     /// What stands for a class until it is gone through.
     pub(crate) fn none(alloc: Global) -> Flattened
-        ensures { result.done ≡ false }
+        ensures { IsUndone result }
     {
         Flattened {
             brought: Items::new(alloc),

@@ -1,11 +1,13 @@
 //! What an included feature is in the including class: types with the given ones in place of the included class's parameters,
 //! and statements that are shared where nothing in them changes.
 
-ghost use Rattle.std.specs.Prelude.{◌≡◌, IfOk};
+ghost use Rattle.std.specs.Prelude.{◌≡◌, IfOk, map};
 ghost use Rattle.std.specs.Option.{option_map};
-ghost use Rattle.sa_types.specs.Table.{put_in};
+ghost use Rattle.sa_tree.specs.declared.class.Part.TheVariants.{Routine};
+ghost use Rattle.sa_types.specs.Table.{IsTableFor, put_in};
 ghost use Rattle.sa_instance.specs.Trees.{expr_with};
-ghost use Rattle.sa_include.specs.Parts.{part_with};
+ghost use Rattle.sa_include.specs.Brought.{IsCopyOf};
+ghost use Rattle.sa_include.specs.Parts.{IsPartOf, feature_with, formal_with, part_with};
 
 use crate::budget::{Budget, FEATURE_FORMS};
 use crate::size::{
@@ -37,7 +39,9 @@ impl<'a> TypeArguments<'a> {
         params: &[Param],
         given: &'a [Ty],
         same: &'a Ty,
-    ) -> Result<TypeArguments<'a>, NoMemory> {
+    ) -> Result<TypeArguments<'a>, NoMemory>
+        ensures { IfOk result (λ arguments. IsTableFor params.now given.now same.now arguments.by) }
+    {
         let weights = weights_of(alloc, params, given)?;
         let by = Substitution::make(alloc, params, given, same)?;
         Ok(TypeArguments {
@@ -141,7 +145,10 @@ impl<'a> Maker<'a> {
         open: bool,
         renamed: Renamed,
         arguments: &TypeArguments<'_>,
-    ) -> Result<Included, NoMemory> {
+    ) -> Result<Included, NoMemory>
+        ensures { IfOk result (λ included. IsCopyOf (put_in arguments.now.by)
+            (feature_with (put_in arguments.now.by) renamed.name renamed.access feature.now) included.feature) }
+    {
         self.budget
             .take(forms_of_head(feature, &renamed.name, &arguments.weights))?;
         let IncludedPart { part, open } = self.part(alloc, &feature.part, open, arguments)?;
@@ -157,7 +164,9 @@ impl<'a> Maker<'a> {
         part: &Part,
         open: bool,
         arguments: &TypeArguments<'_>,
-    ) -> Result<IncludedPart, NoMemory> {
+    ) -> Result<IncludedPart, NoMemory>
+        ensures { IfOk result (λ included. IsPartOf (put_in arguments.now.by) part.now included.part) }
+    {
         if open && arguments.changes {
             if let Part::Routine(body) = part {
                 return self.routine(alloc, body, arguments);
@@ -173,7 +182,9 @@ impl<'a> Maker<'a> {
         alloc: Global,
         body: &Body,
         arguments: &TypeArguments<'_>,
-    ) -> Result<IncludedPart, NoMemory> {
+    ) -> Result<IncludedPart, NoMemory>
+        ensures { IfOk result (λ included. IsPartOf (put_in arguments.now.by) (Routine body.now) included.part) }
+    {
         let list = body.get().as_slice();
         let size = size_of_stmts(list, &arguments.weights);
         if !size.has_params {
@@ -195,7 +206,11 @@ fn with_part(
     renamed: Renamed,
     part: Part,
     by: &Substitution<'_>,
-) -> Result<Feature, NoMemory> {
+) -> Result<Feature, NoMemory>
+    ensures { IfOk result (λ made. made ≡ record { name = record { name = renamed.name; pos = feature.now.name.pos };
+        access = renamed.access; formals = map (formal_with (put_in by.now)) feature.now.formals;
+        result = option_map (put_in by.now) feature.now.result; part = part }) }
+{
     let formals = subst_formals(alloc, feature.formals.as_slice(), by)?;
     let result = subst_optional_type(alloc, &feature.result, by)?;
     let Renamed { name, access } = renamed;
@@ -251,7 +266,9 @@ fn subst_formals(
     alloc: Global,
     formals: &[Formal],
     by: &Substitution<'_>,
-) -> Result<Items<Formal>, NoMemory> {
+) -> Result<Items<Formal>, NoMemory>
+    ensures { IfOk result (λ copies. copies ≡ map (formal_with (put_in by.now)) formals.now) }
+{
     let mut copies = Items::new(alloc);
     for formal in formals {
         copies.push(subst_formal(alloc, formal, by)?)?;
@@ -259,7 +276,9 @@ fn subst_formals(
     Ok(copies)
 }
 
-fn subst_formal(alloc: Global, formal: &Formal, by: &Substitution<'_>) -> Result<Formal, NoMemory> {
+fn subst_formal(alloc: Global, formal: &Formal, by: &Substitution<'_>) -> Result<Formal, NoMemory>
+    ensures { IfOk result (λ copy. copy ≡ formal_with (put_in by.now) formal.now) }
+{
     let name = formal.local.name.copy(alloc)?;
     let ty = subst_with(alloc, &formal.ty, by)?;
     Ok(Formal {
@@ -277,7 +296,9 @@ fn subst_optional_type(
     alloc: Global,
     ty: &Option<Ty>,
     by: &Substitution<'_>,
-) -> Result<Option<Ty>, NoMemory> {
+) -> Result<Option<Ty>, NoMemory>
+    ensures { IfOk result (λ copy. copy ≡ option_map (put_in by.now) ty.now) }
+{
     match ty {
         None => Ok(None),
         Some(ty) => Ok(Some(subst_with(alloc, ty, by)?)),

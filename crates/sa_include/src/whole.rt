@@ -1,10 +1,11 @@
 //! A class without its includes: its header, the features that its includes bring, and those that it writes itself, but for
 //! its stubs that are replaced.
 
-ghost use Rattle.std.specs.Prelude.{◌≡◌, IfOk, IsTrue, OnOk, false};
+ghost use Rattle.std.specs.Prelude.{◌≡◌, ◌++◌, IfOk, IsTrue, OnOk, false, not};
 ghost use Rattle.std.specs.List.{All};
 ghost use Rattle.sa_include_conflicts.specs.Stub.{is_stub_part, keeps_stub};
 ghost use Rattle.sa_include.specs.Flattened.{IsFlattened, Wins, is_immutable};
+ghost use Rattle.sa_include.specs.Gathering.{is_left, kept_by};
 ghost use Rattle.sa_include.specs.Parts.{PutsNothing};
 
 use crate::resolved::Flattened;
@@ -23,7 +24,9 @@ pub(crate) fn whole_class(
     nothing: &Substitution<'_>,
 ) -> Result<Class, NoMemory>
     requires { PutsNothing nothing.now }
-    ensures { IfOk result (λ flat. IsFlattened class.now flat) }
+    ensures flattened { IfOk result (λ flat. IsFlattened class.now flat) }
+    ensures features { IfOk result (λ flat. flat.features ≡
+        flattened.brought ++ kept_by is_left flattened.stays.items class.now.features) }
 {
     let Flattened { brought, stays, .. } = flattened;
     let written = class.features.as_slice();
@@ -62,6 +65,7 @@ pub(crate) fn is_immutable(kind: Kind) -> bool
 }
 
 /// The features that the includes of a class bring, and behind them those that it writes, but for its stubs that don't stay.
+#[tactic(auto, using(crate::proofs::Marks::writing))]
 fn with_written(
     alloc: Global,
     brought: Items<Feature>,
@@ -70,7 +74,8 @@ fn with_written(
     nothing: &Substitution<'_>,
 ) -> Result<Items<Feature>, NoMemory>
     requires { PutsNothing nothing.now }
-    ensures { IfOk result (λ features. All (Wins features) written.now) }
+    ensures wins { IfOk result (λ features. All (Wins features) written.now) }
+    ensures are { IfOk result (λ features. features ≡ brought ++ kept_by is_left stays.now written.now) }
 {
     let mut features = brought;
     for (place, feature) in written.iter().enumerate() {
@@ -84,7 +89,8 @@ fn with_written(
 
 /// Whether a feature that a class writes is a stub that doesn't stay.
 fn is_replaced_stub(feature: &Feature, stays: bool) -> bool
-    ensures { IsTrue result → IsTrue (is_stub_part feature.now.part) }
+    ensures stub { IsTrue result → IsTrue (is_stub_part feature.now.part) }
+    ensures left { is_left feature.now stays ≡ not result }
 {
     is_stub(feature) && !stays
 }

@@ -1,5 +1,5 @@
-use Rattle.std.proofs.Common.{◌≡◌, rules, Err, List, length, subst}
-use Rattle.sa_include.specs.Resolved.{AreDone, IsRefusedFrom}
+use Rattle.std.proofs.Common.{◌≡◌, rules, Err, List, length, subst, sym}
+use Rattle.sa_include.specs.Resolved.{AreDone, AreResolved, IsRefusedFrom}
 use Rattle.sa_include.specs.declared.resolved.Flattened.{Flattened}
 use Rattle.sa_include.proofs.Resolving.{one_more, one_refused}
 use Rattle.sa_include.proofs.flattening.resolve.Goals as goal
@@ -22,3 +22,7 @@ loop-number-preserved c =
     one_more c.args.program.now.classes.now c.loop-number.resolved.items c.keep.new.resolved.items accepted _ c.in_ok-flattened.flattened
     c.loop-number.invariant c.in_ok-flattened.ensures c.in_ok-keep.ensures next
     (subst (λ (list : List Flattened). AreDone list accepted next) c.as_slice-in-loop-number.ensures.value c.in_ok-accepted.ensures.done)
+
+pub flatten_class-requires-clause-resolved : goal.flatten_class-requires-clause-resolved
+flatten_class-requires-clause-resolved c =
+    subst (AreResolved c.args.program.now.classes.now) (sym c.as_slice.ensures.value) c.loop-number.invariant.resolved
