@@ -1,1 +1,2 @@
+mod ExactStatements
 pub mod SpelledStatements
