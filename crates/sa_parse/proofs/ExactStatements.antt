@@ -1,6 +1,6 @@
 -- Names and statements that hold no others, as their forms read them: a lemma for each alternative that a reader decides by the token
 -- that stands there.
-use Rattle.std.proofs.Common.{◌≡◌, ◌≢◌, ℕ, ◌+◌, Bool, true, false, ◌||◌, List, [], ◌∷◌, ◌++◌, Option, Some, None, ◌⊎◌, inl, inr, refl, sym, ap, ◌∙◌}
+use Rattle.std.proofs.Common.{◌≡◌, ◌≢◌, ℕ, ◌+◌, Bool, true, false, ◌||◌, List, [], ◌∷◌, ◌++◌, Option, Some, None, Result, Ok, Err, ◌⊎◌, inl, inr, refl, sym, ap, ◌∙◌}
 use Rattle.std.proofs.lemmas.Bool.{false_from_ne_true}
 use Rattle.sa_lex.specs.declared.token.TokenKind.{TokenKind}
 use Rattle.sa_lex.specs.declared.token.TokenKind.TheVariants as token
@@ -9,6 +9,7 @@ use Rattle.sa_lex.specs.declared.sign.Sign.TheVariants as sign
 use Rattle.sa_lex.specs.declared.word.Word.{Word}
 use Rattle.sa_lex.specs.declared.word.Word.TheVariants as word
 use Rattle.sa_tree.specs.declared.pos.Pos.{Pos}
+use Rattle.sa_tree.specs.declared.refusal.FrontFault.{FrontFault}
 use Rattle.sa_tree.specs.declared.ty.Ty.{Ty}
 use Rattle.sa_tree.specs.declared.expr.Expr.{Expr}
 use Rattle.sa_tree.specs.declared.stmt.Local.{Local}
@@ -17,7 +18,7 @@ use Rattle.sa_tree.specs.declared.stmt.Stmt.TheVariants as tree
 use Rattle.sa_parse_expr.specs.declared.grammar.Scope.TheVariants.{Plain}
 use Rattle.sa_parse_expr.specs.declared.tokens.Tokens.{Tokens}
 use Rattle.sa_parse_expr.specs.Arounds.{outside}
-use Rattle.sa_parse_expr.specs.Exactly.{lexemes_from, Takes}
+use Rattle.sa_parse_expr.specs.Exactly.{lexemes_from, Takes, ReadsAs}
 use Rattle.sa_parse_expr.specs.ExpressionForms.{first_form, items_or, result_or, class_call_form, placed_post_form, post_form, power_form, unary_form, named_form}
 use Rattle.sa_parse_expr.specs.ExpressionForms.{operation_form, product_form, sum_form, comparison_form, expr_form}
 use Rattle.sa_parse_expr.specs.Forms.{Form, refuse, shift, follow, make, nest, type, expr, opens, Reader, behind, with_read, run, Nested, Tree}
@@ -31,7 +32,7 @@ use Rattle.sa_parse_expr.specs.StatementForms.{assign_form, behind_name_form, si
 use Rattle.sa_parse_expr.specs.Tests.{is_sign, is_lower, is_feature, is_class_name, is_abstract_name}
 use Rattle.sa_parse_expr.specs.TypeForms.{type_form}
 use Rattle.sa_parse_expr.proofs.Openings.{runs, same_nest, shut_lower}
-use Rattle.sa_parse_expr.proofs.Runs.{level, at_level, Runs, taken, takes, gives, refused, met, not_met, another, follows, makes, nested, first_one, second_one, meets_by, shut_by, shut_sign, shut_word}
+use Rattle.sa_parse_expr.proofs.Runs.{at_level, Runs, taken, takes, handed_on, gives, refused, met, not_met, another, follows, stops, makes, nested, first_one, second_one, meets_by, shut_by, shut_sign, shut_word}
 use Rattle.sa_parse_expr.proofs.Runs.{Lists, first_listed, all_listed, parts_behind}
 use Rattle.sa_parse_expr.proofs.Shifts.{Shut, shifted_met}
 use Rattle.sa_parse_expr.proofs.Stretches.{pos_at, stands}
@@ -41,7 +42,7 @@ use Rattle.sa_parse.specs.Names.{name_at}
 -- ---- what opens the form of expressions
 
 -- a lexeme of this kind
-abbrev lexeme : TokenKind → Lexeme
+abbrev pub lexeme : TokenKind → Lexeme
 lexeme kind = record { kind = kind; bytes = []; pos = record { file = 0; at = 0 } }
 
 word_opens : (w : Word) → opens (expr_form Plain outside) (lexeme (token.Word w)) ≡ begins_expression (Some (token.Word w))
@@ -69,18 +70,28 @@ expr_opens l = kind_opens l.kind
 abbrev with_kind : TokenKind → Lexeme → Lexeme
 with_kind kind l = record { kind = kind; bytes = l.bytes; pos = l.pos }
 
-kind_behind : (level : ℕ) (nested : (n : Nested) → Reader (Tree n)) (l : Lexeme) (ls : List Lexeme)
-    → run level nested (expr_form Plain outside) (with_kind token.Lower l ∷ ls) ≡ run level nested (behind_name_form l) ls
+kind_behind : (deep : ℕ) (inside : (n : Nested) → Reader (Tree n)) (l : Lexeme) (ls : List Lexeme)
+    → run deep inside (expr_form Plain outside) (with_kind token.Lower l ∷ ls) ≡ run deep inside (behind_name_form l) ls
 unfolding expr_form comparison_form sum_form product_form operation_form unary_form power_form post_form placed_post_form first_form named_form behind_name_form
-kind_behind level nested l ls = refl
+kind_behind deep inside l ls = refl
 
 behind-with : {A B C : Type 0} (go : B → Reader C) (f : A → B) (v : Reading A) → behind go (with_read f v) ≡ behind (λ a. go (f a)) v
 behind-with go f (Read a rest) = refl
 behind-with go f (Refused rest) = refl
 
+some_begins : (found : Option TokenKind) → begins_expression found ≡ true → (kind : TokenKind) × (found ≡ Some kind)
+some_begins None begins = absurd (cc)
+some_begins (Some kind) begins = (kind, refl)
+
 module _ (t : Tokens) where
   pub same_tree : {A : Type 0} {form : Form A} {at next : ℕ} {a b : A} → Takes form t at a next → b ≡ a → Takes form t at b next
   same_tree h same = rw same h
+
+  -- what is read as one form is read as another one, if what runs as it does
+  pub instead : {A : Type 0} {form other : Form A} {at from : ℕ} → ((v : Reading A) → Runs t form at v → Runs t other from v)
+      → (r : Result (A × ℕ) FrontFault) → ReadsAs form t at r → ReadsAs other t from r
+  instead step (Ok read) h = takes t (step _ (taken t h))
+  instead {form = form} {at = at} step (Err e) h = handed_on t form at e refl h (λ rest r. step (Refused rest) r)
 
   -- ---- names
 
@@ -142,6 +153,10 @@ module _ (t : Tokens) where
   expr_there at kind there begins r onward =
       first_one t (meets_by t (opens (expr_form Plain outside)) at kind there (expr_opens (lexeme_at t at kind) ∙ ap begins_expression (sym there) ∙ begins)) (onward (as_form r))
 
+  -- where something begins a token stands
+  pub begun : (at : ℕ) → begins_expression (kind_at t.list.now at) ≡ true → (kind : TokenKind) × (kind_at t.list.now at ≡ Some kind)
+  begun at begins = some_begins (kind_at t.list.now at) begins
+
   pub no_expr : (at : ℕ) → begins_expression (kind_at t.list.now at) ≡ false → Takes optional_value_form t at None at
   unfolding optional_value_form
   no_expr at none =
@@ -164,10 +179,24 @@ module _ (t : Tokens) where
       → Runs t (shift (is_sign sign.Colon) (λ _. typed_form names) refuse) at (Refused (lexemes_from t at))
   no_colon at names other = not_met t (shut_sign t sign.Colon at other) (refused t)
 
+  pub no_names : (from : ℕ) {rest : List Lexeme} → Runs t names_form from (Refused rest) → Runs t declare_form from (Refused rest)
+  unfolding declare_form
+  no_names from r = stops t r
+
+  pub declared : (from mid third next : ℕ) (names all : List Local) (one : Ty) (value : Option Expr)
+      → Takes names_form t from names mid → kind_at t.list.now mid ≡ Some (token.Sign sign.Colon) → Takes (nest type) t (mid + 1) one third
+      → Takes assigned_form t third value next → all ≡ names → Takes declare_form t from (tree.Declare all (Some one) value) next
+  declared from mid third next names all one value first colon second last same =
+      rw same (takes t (behind_names from mid names first (behind_colon mid names colon (follows t (taken t second) (makes t next (taken t last))))))
+
   pub behind_first : (from mid : ℕ) (name : Local) → Takes name_form t from name mid → {v : Reading Stmt}
       → Runs t (by_value_form name) mid v → Runs t declare_by_value_form from v
   unfolding declare_by_value_form
   behind_first from mid name first r = follows t (taken t first) r
+
+  pub no_first : (from : ℕ) {rest : List Lexeme} → Runs t name_form from (Refused rest) → Runs t declare_by_value_form from (Refused rest)
+  unfolding declare_by_value_form
+  no_first from r = stops t r
 
   pub behind_declare : (at : ℕ) (name : Local) → kind_at t.list.now at ≡ Some (token.Sign sign.Declare) → {v : Reading Stmt}
       → Runs t (make (λ e. tree.Declare (name ∷ []) None (Some e)) value_form) (at + 1) v → Runs t (by_value_form name) at v
@@ -175,6 +204,12 @@ module _ (t : Tokens) where
 
   pub no_declare : (at : ℕ) (name : Local) → kind_at t.list.now at ≢ Some (token.Sign sign.Declare) → Runs t (by_value_form name) at (Refused (lexemes_from t at))
   no_declare at name other = not_met t (shut_sign t sign.Declare at other) (refused t)
+
+  pub by_value : (from mid next : ℕ) (one : Local) (all : List Local) (e : Expr)
+      → Takes name_form t from one mid → kind_at t.list.now mid ≡ Some (token.Sign sign.Declare) → Takes value_form t (mid + 1) e next
+      → all ≡ one ∷ [] → Takes declare_by_value_form t from (tree.Declare all None (Some e)) next
+  by_value from mid next one all e first gets second same =
+      rw same (takes t (behind_first from mid one first (behind_declare mid one gets (makes t next (taken t second)))))
 
   -- ---- assignments
 
@@ -186,6 +221,11 @@ module _ (t : Tokens) where
       → Runs t (make (λ b. tree.Assign a b (pos_at t at)) value_form) (at + 1) v → Runs t (assign_form a) at v
   unfolding assign_form
   behind_target at a gets r = met t (token.Sign sign.Assign) gets (sign_is sign.Assign) r
+
+  pub assigned : (from mid next : ℕ) (a b : Expr) (pos : Pos) → Takes value_form t from a mid → kind_at t.list.now mid ≡ Some (token.Sign sign.Assign)
+      → Takes value_form t (mid + 1) b next → pos ≡ pos_at t mid → Takes (follow value_form assign_form) t from (tree.Assign a b pos) next
+  assigned from mid next a b pos first gets second stands =
+      rw stands (takes t (follows t (taken t first) (behind_target mid a gets (makes t next (taken t second)))))
 
   -- ---- what a statement is that begins with no word
 
@@ -218,7 +258,7 @@ module _ (t : Tokens) where
       let kind = token.Sign sign.Colon in
       let other : kind_at t.list.now (at + 1) ≢ Some (token.Sign sign.Comma) = λ e. cc in
       let names = follows t {next = λ names. shift (is_sign sign.Colon) (λ _. typed_form names) refuse} (all_listed t (one_listed at there) other)
-          (met t kind colon (sign_is sign.Colon) (runs t (typed_form (first_name at ∷ [])) (at + 1 + 1))) in
+      (met t kind colon (sign_is sign.Colon) (runs t (typed_form (first_name at ∷ [])) (at + 1 + 1))) in
       met t token.Lower there refl (another t kind colon refl (met t kind colon (sign_is sign.Colon) (record { is = sym names.is ∙ r.is })))
 
   pub declared_by_value : (at : ℕ) → kind_at t.list.now at ≡ Some token.Lower → kind_at t.list.now (at + 1) ≡ Some (token.Sign sign.Declare) → {v : Reading Stmt}
@@ -227,7 +267,7 @@ module _ (t : Tokens) where
   declared_by_value at there gets r =
       let kind = token.Sign sign.Declare in
       let value = follows t {next = by_value_form} (taken t (lower at (first_name at) there refl))
-          (met t kind gets (sign_is sign.Declare) (runs t (make (λ e. tree.Declare (first_name at ∷ []) None (Some e)) value_form) (at + 1 + 1))) in
+      (met t kind gets (sign_is sign.Declare) (runs t (make (λ e. tree.Declare (first_name at ∷ []) None (Some e)) value_form) (at + 1 + 1))) in
       met t token.Lower there refl (another t kind gets refl (another t kind gets refl (met t kind gets (sign_is sign.Declare) (record { is = sym value.is ∙ r.is }))))
 
   same_value : (at : ℕ) → at_level t value_form (lexemes_from t at) ≡ at_level t (expr_form Plain outside) (lexemes_from t at)
@@ -281,6 +321,26 @@ module _ (t : Tokens) where
       let kind = token.Word word.Assert in
       another t kind there refl (another t kind there refl (another t kind there refl (another t kind there refl (met t kind there (word_is word.Assert) r))))
 
+  pub returns : (from next : ℕ) (value : Option Expr) (pos : Pos) → kind_at t.list.now from ≡ Some (token.Word word.Return)
+      → Takes optional_value_form t (from + 1) value next → pos ≡ pos_at t from → Takes (leave_or refuse) t from (tree.Return value pos) next
+  returns from next value pos there inside stands = rw stands (takes t (behind_return refuse from there (makes t next (taken t inside))))
+
+  pub yields : (from next : ℕ) (value : Option Expr) (pos : Pos) → kind_at t.list.now from ≡ Some (token.Word word.Yield)
+      → Takes optional_value_form t (from + 1) value next → pos ≡ pos_at t from → Takes (leave_or refuse) t from (tree.Yield value pos) next
+  yields from next value pos there inside stands = rw stands (takes t (behind_yield refuse from there (makes t next (taken t inside))))
+
+  pub quit : (from : ℕ) (pos : Pos) → kind_at t.list.now from ≡ Some (token.Word word.Quit) → pos ≡ pos_at t from
+      → Takes (leave_or refuse) t from (tree.Quit pos) (from + 1)
+  quit from pos there stands = rw stands (takes t (quits refuse from there))
+
+  pub raises : (from next : ℕ) (e : Expr) (pos : Pos) → kind_at t.list.now from ≡ Some (token.Word word.Raise)
+      → Takes value_form t (from + 1) e next → pos ≡ pos_at t from → Takes (leave_or refuse) t from (tree.Raise e pos) next
+  raises from next e pos there inside stands = rw stands (takes t (behind_raise refuse from there (makes t next (taken t inside))))
+
+  pub asserts : (from next : ℕ) (e : Expr) (pos : Pos) → kind_at t.list.now from ≡ Some (token.Word word.Assert)
+      → Takes value_form t (from + 1) e next → pos ≡ pos_at t from → Takes (leave_or refuse) t from (tree.Assert e pos) next
+  asserts from next e pos there inside stands = rw stands (takes t (behind_assert refuse from there (makes t next (taken t inside))))
+
   -- no word of these stands there
   pub stays : (other : Form Stmt) (at : ℕ) → kind_at t.list.now at ≢ Some (token.Word word.Return) → kind_at t.list.now at ≢ Some (token.Word word.Yield)
       → kind_at t.list.now at ≢ Some (token.Word word.Quit) → kind_at t.list.now at ≢ Some (token.Word word.Raise) → kind_at t.list.now at ≢ Some (token.Word word.Assert)
@@ -288,3 +348,8 @@ module _ (t : Tokens) where
   stays other at no_return no_yield no_quit no_raise no_assert r =
       not_met t (shut_word t word.Return at no_return) (not_met t (shut_word t word.Yield at no_yield) (not_met t (shut_word t word.Quit at no_quit)
       (not_met t (shut_word t word.Raise at no_raise) (not_met t (shut_word t word.Assert at no_assert) r))))
+
+  pub none_leaves : (at : ℕ) → kind_at t.list.now at ≢ Some (token.Word word.Return) → kind_at t.list.now at ≢ Some (token.Word word.Yield)
+      → kind_at t.list.now at ≢ Some (token.Word word.Quit) → kind_at t.list.now at ≢ Some (token.Word word.Raise) → kind_at t.list.now at ≢ Some (token.Word word.Assert)
+      → Runs t (leave_or refuse) at (Refused (lexemes_from t at))
+  none_leaves at no_return no_yield no_quit no_raise no_assert = stays refuse at no_return no_yield no_quit no_raise no_assert (refused t)

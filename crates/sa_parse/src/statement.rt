@@ -14,8 +14,12 @@
 ghost use Rattle.std.specs.Prelude.{◌≡◌, ◌<◌, ◌≤◌, ◌++◌, IfErr, IfOk, OnOk, length, option_to_list};
 ghost use Rattle.sa_parse.specs.Bodies.{NestsBodies};
 ghost use Rattle.sa_parse.specs.Statements.{IsAssigned, IsLeave, IsOptionalExpr, IsOptionalStmt, IsSimple, IsStmt, IsStmts};
+ghost use Rattle.sa_parse_expr.specs.Exactly.{ReadsAs};
+ghost use Rattle.sa_parse_expr.specs.Forms.{follow, refuse};
 ghost use Rattle.sa_parse_expr.specs.Lexemes.{between};
 ghost use Rattle.sa_parse_expr.specs.Places.{IsBehind, IsFrom, IsUnexpected};
+ghost use Rattle.sa_parse_expr.specs.StatementForms.{assign_form, assigned_form, declare_by_value_form, declare_form, leave_or};
+ghost use Rattle.sa_parse_expr.specs.StatementForms.{optional_value_form, value_form};
 
 use crate::body::Stmts;
 use crate::names::{lower_name, lower_names};
@@ -122,6 +126,7 @@ fn declare(alloc: Global, tokens: &Tokens<'_>, from: u32) -> Result<(Stmt, u32),
     ensures next { IfOk result (λ read. IsBehind tokens.now.list.now from read.1) }
     ensures spelled { IfOk result (λ read. IsSimple (between tokens.now from read.1) read.0) }
     ensures refused { IfErr result (IsUnexpected tokens.now.file) }
+    ensures exact { ReadsAs declare_form tokens.now from result }
 {
     let (names, next) = lower_names(alloc, tokens, from)?;
     let next = tokens.after_sign(next, Sign::Colon)?;
@@ -141,6 +146,7 @@ pub(crate) fn assigned(
     ensures next { IfOk result (λ read. IsFrom tokens.now.list.now from read.1) }
     ensures spelled { IfOk result (λ read. IsAssigned (between tokens.now from read.1) read.0) }
     ensures refused { IfErr result (IsUnexpected tokens.now.file) }
+    ensures exact { ReadsAs assigned_form tokens.now from result }
 {
     if !tokens.is_sign(from, Sign::Assign) {
         return Ok((None, from));
@@ -158,6 +164,7 @@ fn declare_by_value(
     ensures next { IfOk result (λ read. IsBehind tokens.now.list.now from read.1) }
     ensures spelled { IfOk result (λ read. IsSimple (between tokens.now from read.1) read.0) }
     ensures refused { IfErr result (IsUnexpected tokens.now.file) }
+    ensures exact { ReadsAs declare_by_value_form tokens.now from result }
 {
     let (name, next) = lower_name(alloc, tokens, from)?;
     let next = tokens.after_sign(next, Sign::Declare)?;
@@ -172,6 +179,7 @@ fn assign(alloc: Global, tokens: &Tokens<'_>, from: u32) -> Result<(Stmt, u32), 
     ensures next { IfOk result (λ read. IsBehind tokens.now.list.now from read.1) }
     ensures spelled { IfOk result (λ read. IsSimple (between tokens.now from read.1) read.0) }
     ensures refused { IfErr result (IsUnexpected tokens.now.file) }
+    ensures exact { ReadsAs (follow value_form assign_form) tokens.now from result }
 {
     let (target, next) = read_expr(alloc, tokens, from)?;
     if !tokens.is_sign(next, Sign::Assign) {
@@ -186,6 +194,7 @@ fn leave(alloc: Global, tokens: &Tokens<'_>, from: u32) -> Result<(Stmt, u32), F
     ensures next { IfOk result (λ read. IsBehind tokens.now.list.now from read.1) }
     ensures spelled { IfOk result (λ read. IsLeave (between tokens.now from read.1) read.0) }
     ensures refused { IfErr result (IsUnexpected tokens.now.file) }
+    ensures exact { ReadsAs (leave_or refuse) tokens.now from result }
 {
     let pos = tokens.pos(from);
     match tokens.kind(from) {
@@ -220,6 +229,7 @@ fn optional_expr(
     ensures next { IfOk result (λ read. IsFrom tokens.now.list.now from read.1) }
     ensures spelled { IfOk result (λ read. IsOptionalExpr (between tokens.now from read.1) read.0) }
     ensures refused { IfErr result (IsUnexpected tokens.now.file) }
+    ensures exact { ReadsAs optional_value_form tokens.now from result }
 {
     if !begins_expression(tokens.kind(from)) {
         return Ok((None, from));
