@@ -261,6 +261,11 @@ module _ (t : Tokens) where
       (met t kind colon (sign_is sign.Colon) (runs t (typed_form (first_name at ∷ [])) (at + 1 + 1))) in
       met t token.Lower there refl (another t kind colon refl (met t kind colon (sign_is sign.Colon) (record { is = sym names.is ∙ r.is })))
 
+  pub declared_first : (at : ℕ) (s : Sign) → kind_at t.list.now at ≡ Some token.Lower → kind_at t.list.now (at + 1) ≡ Some (token.Sign s)
+      → (s ≡ sign.Comma) ⊎ (s ≡ sign.Colon) → {v : Reading Stmt} → Runs t declare_form at v → Runs t simple_form at v
+  declared_first at s there next (inl is) r = declared_comma at there (next ∙ ap (λ of. Some (token.Sign of)) is) r
+  declared_first at s there next (inr is) r = declared_colon at there (next ∙ ap (λ of. Some (token.Sign of)) is) r
+
   pub declared_by_value : (at : ℕ) → kind_at t.list.now at ≡ Some token.Lower → kind_at t.list.now (at + 1) ≡ Some (token.Sign sign.Declare) → {v : Reading Stmt}
       → Runs t declare_by_value_form at v → Runs t simple_form at v
   unfolding simple_form declare_by_value_form

@@ -1,2 +1,4 @@
+mod ExactBlocks
+mod ExactBodies
 mod ExactStatements
 pub mod SpelledStatements
