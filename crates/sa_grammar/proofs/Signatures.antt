@@ -16,14 +16,14 @@ use Rattle.sa_parse_expr.specs.Types.{IsMode, IsType}
 use Rattle.sa_parse_expr.specs.Readings.{Read}
 use Rattle.sa_parse_expr.specs.Tests.{is_sign, is_sign_kind}
 use Rattle.sa_parse_expr.specs.Forms.{Reader, Nested, Tree, type}
-use Rattle.sa_parse_expr.specs.StatementForms.{name_form, joined}
+use Rattle.sa_parse_expr.specs.StatementForms.{name_form, joined, names_form}
 use Rattle.sa_parse_expr.proofs.Tested.{sign_stands, feature_stands, sign_met, feature_met, other_sign, lexeme, a_sign, a_word}
 use Rattle.sa_parse_expr.proofs.Shifts.{Shut}
 use Rattle.sa_parse.specs.Names as names
 use Rattle.sa_parse.specs.Names.{IsLower, IsName, IsNames}
 use Rattle.sa_parse.specs.Signatures as sigs
 use Rattle.sa_parse.specs.Signatures.{IsFormal, IsFormals, IsArguments, IsWrittenResult, IsSig, callable_of, formal_of}
-use Rattle.sa_parse.specs.SignatureForms.{names_form, formal_form, formals_form, arguments_form, written_result_form, sig_form}
+use Rattle.sa_parse.specs.SignatureForms.{formal_form, formals_form, arguments_form, written_result_form, sig_form}
 use Rattle.sa_grammar.proofs.Parts.{Signature}
 use Rattle.sa_grammar.proofs.Sound.{Sound, Listed, last, more}
 use Rattle.sa_grammar.proofs.Sound.{IsSound, sound-give, sound-refuse, sound-shift, sound-follow, sound-list, sound-make, sound-until}

@@ -1,1 +1,6 @@
+mod ExactBlocks
+mod ExactBodies
+mod ExactConditions
+mod ExactSignatures
+mod ExactStatements
 pub mod SpelledStatements

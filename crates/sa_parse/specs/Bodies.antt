@@ -6,8 +6,10 @@ use Rattle.sa_lex.specs.declared.word.Word.{Word}
 use Rattle.sa_tree.specs.declared.stmt.Stmt.{Stmt}
 use Rattle.sa_tree.specs.declared.refusal.FrontFault.{FrontFault}
 use Rattle.sa_parse_expr.specs.declared.tokens.Tokens.{Tokens}
+use Rattle.sa_parse_expr.specs.Exactly.{ReadsAs}
 use Rattle.sa_parse_expr.specs.Lexemes.{between}
 use Rattle.sa_parse_expr.specs.Places.{IsBehind, IsUnexpected}
+use Rattle.sa_parse_expr.specs.StatementForms.{body_form}
 use Rattle.sa_parse.specs.Statements.{IsBody}
 
 -- it may be called at each place behind this one, and reads at least one token there, which spell the body, or refuses one
@@ -23,3 +25,6 @@ pub record NestsBodies (from : ℕ) (pre : Global → Bor Tokens → Word → �
   pub refused : (alloc : Global) (tokens : Bor Tokens) (word : Word) (at : ℕ) (r : Result (List Stmt × ℕ) FrontFault)
       → post alloc tokens word at r
       → IfErr r (IsUnexpected tokens.now.file)
+  pub exact : (alloc : Global) (tokens : Bor Tokens) (word : Word) (at : ℕ) (r : Result (List Stmt × ℕ) FrontFault)
+      → post alloc tokens word at r
+      → ReadsAs (body_form word) tokens.now at r

@@ -15,7 +15,7 @@ use Rattle.sa_tree.specs.declared.class.Change.{Change}
 use Rattle.sa_parse_expr.specs.Lexemes.{Lexeme, name_of}
 use Rattle.sa_parse_expr.specs.Tests.{is_sign, is_word, is_lower, is_feature}
 use Rattle.sa_parse_expr.specs.Forms.{Form, give, refuse, shift, either, follow, list, nest, type, stmts, make, until_word}
-use Rattle.sa_parse_expr.specs.StatementForms.{assigned_form, value_form}
+use Rattle.sa_parse_expr.specs.StatementForms.{names_form, assigned_form, value_form}
 use Rattle.sa_parse.specs.declared.file.FileKind.{FileKind}
 use Rattle.sa_parse.specs.declared.file.FileKind.TheVariants.{Prelude, Program}
 use Rattle.sa_parse.specs.Conditions.{no_clauses}
@@ -23,7 +23,7 @@ use Rattle.sa_parse.specs.Features.{Enclosing, variable_of, counted_from, featur
 use Rattle.sa_parse.specs.declared.declared.SharedParts.{SharedParts}
 use Rattle.sa_parse.specs.declared.member.Declaration.{Declaration}
 use Rattle.sa_parse.specs.declared.member.Declaration.TheVariants as member
-use Rattle.sa_parse.specs.SignatureForms.{names_form, sig_form}
+use Rattle.sa_parse.specs.SignatureForms.{sig_form}
 use Rattle.sa_parse.specs.ConditionForms.{clauses_form, holding_form}
 
 -- ---- includes

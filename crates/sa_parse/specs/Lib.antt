@@ -1,3 +1,4 @@
+pub mod BlockForms
 pub mod Bodies
 pub mod ClassForms
 pub mod Classes

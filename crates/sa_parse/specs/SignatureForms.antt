@@ -9,13 +9,9 @@ use Rattle.sa_parse_expr.specs.Lexemes.{name_of}
 use Rattle.sa_parse_expr.specs.Tests.{is_sign, is_feature}
 use Rattle.sa_parse_expr.specs.Forms.{Form, give, refuse, shift, follow, list, nest, type, make, until}
 use Rattle.sa_parse_expr.specs.TypeForms.{mode_form}
-use Rattle.sa_parse_expr.specs.StatementForms.{name_form, joined}
+use Rattle.sa_parse_expr.specs.StatementForms.{names_form, joined}
 use Rattle.sa_parse.specs.declared.signature.Signature.{Signature}
 use Rattle.sa_parse.specs.Signatures.{callable_of, formal_of}
-
--- LNAME {"," LNAME}
-abbrev pub names_form : Form (List Local)
-names_form = list name_form
 
 -- formal = [mode] LNAME {"," LNAME} ":" type
 unfoldable pub formal_form : CallableKind → Form (List Formal)

@@ -22,12 +22,19 @@
 //! Each of the statements stands at its word.
 
 ghost use Rattle.std.specs.Prelude.{◌≡◌, ◌<◌, ◌≤◌, IfErr, IfOk, length};
+ghost use Rattle.sa_lex.specs.declared.word.Word.TheVariants as word;
 ghost use Rattle.sa_tree.specs.declared.stmt.Stmt.TheVariants as tree;
+ghost use Rattle.sa_parse.specs.BlockForms.{case_choice_form, type_choice_form};
 ghost use Rattle.sa_parse.specs.Bodies.{NestsBodies};
 ghost use Rattle.sa_parse.specs.Statements.{IsArm, IsArms, IsBranch, IsBranches, IsCaseArm, IsCaseArms, IsCaseChoice};
 ghost use Rattle.sa_parse.specs.Statements.{IsElse, IsEnding, IsStmt, IsTypeChoice, IsValues};
+ghost use Rattle.sa_parse_expr.specs.Exactly.{ReadsAs};
+ghost use Rattle.sa_parse_expr.specs.Forms.{list, refuse, shift};
 ghost use Rattle.sa_parse_expr.specs.Lexemes.{between};
 ghost use Rattle.sa_parse_expr.specs.Places.{IsBehind, IsFrom, IsUnexpected};
+ghost use Rattle.sa_parse_expr.specs.StatementForms.{arm_form, arms_form, branch_form, branches_form, case_arm_form, case_arms_form};
+ghost use Rattle.sa_parse_expr.specs.StatementForms.{case_form, else_form, ending_form, if_form, loop_form, protect_form, typecase_form, value_form};
+ghost use Rattle.sa_parse_expr.specs.Tests.{is_word};
 
 use crate::body::Stmts;
 use crate::names::lower_name;
@@ -77,6 +84,7 @@ impl<F: Fn(Global, &Tokens<'_>, Word, u32) -> Result<(Items<Stmt>, u32), FrontFa
         ensures next { IfOk result (λ read. IsBehind self.now.tokens.list.now from read.1) }
         ensures spelled { IfOk result (λ read. IsStmt (between self.now.tokens from read.1) read.0) }
         ensures refused { IfErr result (IsUnexpected self.now.tokens.file) }
+        ensures exact { ReadsAs (shift (is_word word.If) if_form refuse) self.now.tokens from result }
     {
         let next = self.tokens.after_word(from, Word::If)?;
         let (arms, next) = self.arms(next)?;
@@ -92,6 +100,7 @@ impl<F: Fn(Global, &Tokens<'_>, Word, u32) -> Result<(Items<Stmt>, u32), FrontFa
         ensures next { IfOk result (λ read. IsBehind self.now.tokens.list.now from read.1) }
         ensures spelled { IfOk result (λ read. IsArms (between self.now.tokens from read.1) read.0) }
         ensures refused { IfErr result (IsUnexpected self.now.tokens.file) }
+        ensures exact { ReadsAs arms_form self.now.tokens from result }
     {
         let (first, mut next) = self.arm(from)?;
         let mut arms = Vec::new(self.alloc);
@@ -112,6 +121,7 @@ impl<F: Fn(Global, &Tokens<'_>, Word, u32) -> Result<(Items<Stmt>, u32), FrontFa
         ensures next { IfOk result (λ read. IsBehind self.now.tokens.list.now from read.1) }
         ensures spelled { IfOk result (λ read. IsArm (between self.now.tokens from read.1) read.0) }
         ensures refused { IfErr result (IsUnexpected self.now.tokens.file) }
+        ensures exact { ReadsAs arm_form self.now.tokens from result }
     {
         let (test, next) = read_expr(self.alloc, &self.tokens, from)?;
         let (body, next) = self.body(Word::Then, next)?;
@@ -126,6 +136,7 @@ impl<F: Fn(Global, &Tokens<'_>, Word, u32) -> Result<(Items<Stmt>, u32), FrontFa
         ensures next { IfOk result (λ read. IsBehind self.now.tokens.list.now from read.1) }
         ensures spelled { IfOk result (λ read. IsEnding (between self.now.tokens from read.1) read.0) }
         ensures refused { IfErr result (IsUnexpected self.now.tokens.file) }
+        ensures exact { ReadsAs ending_form self.now.tokens from result }
     {
         let (rest, next) = self.else_part(from)?;
         Ok((rest, self.tokens.after_word(next, Word::End)?))
@@ -139,6 +150,7 @@ impl<F: Fn(Global, &Tokens<'_>, Word, u32) -> Result<(Items<Stmt>, u32), FrontFa
         ensures next { IfOk result (λ read. IsFrom self.now.tokens.list.now from read.1) }
         ensures spelled { IfOk result (λ read. IsElse (between self.now.tokens from read.1) read.0) }
         ensures refused { IfErr result (IsUnexpected self.now.tokens.file) }
+        ensures exact { ReadsAs else_form self.now.tokens from result }
     {
         if !self.tokens.is_word(from, Word::Else) {
             return Ok((None, from));
@@ -154,6 +166,7 @@ impl<F: Fn(Global, &Tokens<'_>, Word, u32) -> Result<(Items<Stmt>, u32), FrontFa
         ensures next { IfOk result (λ read. IsBehind self.now.tokens.list.now from read.1) }
         ensures spelled { IfOk result (λ read. IsStmt (between self.now.tokens from read.1) read.0) }
         ensures refused { IfErr result (IsUnexpected self.now.tokens.file) }
+        ensures exact { ReadsAs (shift (is_word word.Loop) loop_form refuse) self.now.tokens from result }
     {
         let (body, next) = self.body(Word::Loop, from)?;
         let next = self.tokens.after_word(next, Word::End)?;
@@ -167,6 +180,7 @@ impl<F: Fn(Global, &Tokens<'_>, Word, u32) -> Result<(Items<Stmt>, u32), FrontFa
         ensures next { IfOk result (λ read. IsBehind self.now.tokens.list.now from read.1) }
         ensures spelled { IfOk result (λ read. IsStmt (between self.now.tokens from read.1) read.0) }
         ensures refused { IfErr result (IsUnexpected self.now.tokens.file) }
+        ensures exact { ReadsAs (shift (is_word word.Case) case_form refuse) self.now.tokens from result }
     {
         let next = self.tokens.after_word(from, Word::Case)?;
         let (tested, next) = read_expr(self.alloc, &self.tokens, next)?;
@@ -182,6 +196,7 @@ impl<F: Fn(Global, &Tokens<'_>, Word, u32) -> Result<(Items<Stmt>, u32), FrontFa
         ensures next { IfOk result (λ read. IsBehind self.now.tokens.list.now from read.1) }
         ensures spelled { IfOk result (λ read. IsCaseChoice (between self.now.tokens from read.1) read.0) }
         ensures refused { IfErr result (IsUnexpected self.now.tokens.file) }
+        ensures exact { ReadsAs case_choice_form self.now.tokens from result }
     {
         let (arms, next) = self.case_arms(from)?;
         let (rest, next) = self.ending(next)?;
@@ -196,6 +211,7 @@ impl<F: Fn(Global, &Tokens<'_>, Word, u32) -> Result<(Items<Stmt>, u32), FrontFa
         ensures next { IfOk result (λ read. IsFrom self.now.tokens.list.now from read.1) }
         ensures spelled { IfOk result (λ read. IsCaseArms (between self.now.tokens from read.1) read.0) }
         ensures refused { IfErr result (IsUnexpected self.now.tokens.file) }
+        ensures exact { ReadsAs case_arms_form self.now.tokens from result }
     {
         let mut arms = Items::new(self.alloc);
         let mut next = from;
@@ -214,6 +230,7 @@ impl<F: Fn(Global, &Tokens<'_>, Word, u32) -> Result<(Items<Stmt>, u32), FrontFa
         ensures next { IfOk result (λ read. IsBehind self.now.tokens.list.now from read.1) }
         ensures spelled { IfOk result (λ read. IsCaseArm (between self.now.tokens from read.1) read.0) }
         ensures refused { IfErr result (IsUnexpected self.now.tokens.file) }
+        ensures exact { ReadsAs case_arm_form self.now.tokens from result }
     {
         let (values, next) = values(self.alloc, &self.tokens, from)?;
         let (body, next) = self.body(Word::Then, next)?;
@@ -227,6 +244,7 @@ impl<F: Fn(Global, &Tokens<'_>, Word, u32) -> Result<(Items<Stmt>, u32), FrontFa
         ensures next { IfOk result (λ read. IsBehind self.now.tokens.list.now from read.1) }
         ensures spelled { IfOk result (λ read. IsStmt (between self.now.tokens from read.1) read.0) }
         ensures refused { IfErr result (IsUnexpected self.now.tokens.file) }
+        ensures exact { ReadsAs (shift (is_word word.Typecase) typecase_form refuse) self.now.tokens from result }
     {
         let next = self.tokens.after_word(from, Word::Typecase)?;
         let (tested, next) = lower_name(self.alloc, &self.tokens, next)?;
@@ -241,6 +259,7 @@ impl<F: Fn(Global, &Tokens<'_>, Word, u32) -> Result<(Items<Stmt>, u32), FrontFa
         ensures next { IfOk result (λ read. IsBehind self.now.tokens.list.now from read.1) }
         ensures spelled { IfOk result (λ read. IsStmt (between self.now.tokens from read.1) read.0) }
         ensures refused { IfErr result (IsUnexpected self.now.tokens.file) }
+        ensures exact { ReadsAs (shift (is_word word.Protect) protect_form refuse) self.now.tokens from result }
     {
         let (body, next) = self.body(Word::Protect, from)?;
         let (choice, next) = self.type_choice(next)?;
@@ -255,6 +274,7 @@ impl<F: Fn(Global, &Tokens<'_>, Word, u32) -> Result<(Items<Stmt>, u32), FrontFa
         ensures next { IfOk result (λ read. IsBehind self.now.tokens.list.now from read.1) }
         ensures spelled { IfOk result (λ read. IsTypeChoice (between self.now.tokens from read.1) read.0) }
         ensures refused { IfErr result (IsUnexpected self.now.tokens.file) }
+        ensures exact { ReadsAs type_choice_form self.now.tokens from result }
     {
         let (branches, next) = self.branches(from)?;
         let (rest, next) = self.ending(next)?;
@@ -269,6 +289,7 @@ impl<F: Fn(Global, &Tokens<'_>, Word, u32) -> Result<(Items<Stmt>, u32), FrontFa
         ensures next { IfOk result (λ read. IsFrom self.now.tokens.list.now from read.1) }
         ensures spelled { IfOk result (λ read. IsBranches (between self.now.tokens from read.1) read.0) }
         ensures refused { IfErr result (IsUnexpected self.now.tokens.file) }
+        ensures exact { ReadsAs branches_form self.now.tokens from result }
     {
         let mut branches = Items::new(self.alloc);
         let mut next = from;
@@ -287,6 +308,7 @@ impl<F: Fn(Global, &Tokens<'_>, Word, u32) -> Result<(Items<Stmt>, u32), FrontFa
         ensures next { IfOk result (λ read. IsBehind self.now.tokens.list.now from read.1) }
         ensures spelled { IfOk result (λ read. IsBranch (between self.now.tokens from read.1) read.0) }
         ensures refused { IfErr result (IsUnexpected self.now.tokens.file) }
+        ensures exact { ReadsAs branch_form self.now.tokens from result }
     {
         let (ty, next) = read_type(self.alloc, &self.tokens, from)?;
         let (body, next) = self.body(Word::Then, next)?;
@@ -299,6 +321,7 @@ fn values(alloc: Global, tokens: &Tokens<'_>, from: u32) -> Result<(Items<Expr>,
     ensures next { IfOk result (λ read. IsBehind tokens.now.list.now from read.1) }
     ensures spelled { IfOk result (λ read. IsValues (between tokens.now from read.1) read.0) }
     ensures refused { IfErr result (IsUnexpected tokens.now.file) }
+    ensures exact { ReadsAs (list value_form) tokens.now from result }
 {
     let (first, mut next) = read_expr(alloc, tokens, from)?;
     let mut values = Items::new(alloc);

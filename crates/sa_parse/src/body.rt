@@ -8,8 +8,10 @@
 ghost use Rattle.std.specs.Prelude.{◌<◌, IfErr, IfOk};
 ghost use Rattle.sa_parse.specs.Bodies.{NestsBodies};
 ghost use Rattle.sa_parse.specs.Statements.{IsBody};
+ghost use Rattle.sa_parse_expr.specs.Exactly.{ReadsAs};
 ghost use Rattle.sa_parse_expr.specs.Lexemes.{between};
 ghost use Rattle.sa_parse_expr.specs.Places.{IsBehind, IsUnexpected};
+ghost use Rattle.sa_parse_expr.specs.StatementForms.{body_form};
 
 use sa_lex::Word;
 use sa_parse_expr::Tokens;
@@ -35,6 +37,7 @@ impl<F: Fn(Global, &Tokens<'_>, Word, u32) -> Result<(Items<Stmt>, u32), FrontFa
         ensures next { IfOk result (λ read. IsBehind self.now.tokens.list.now from read.1) }
         ensures spelled { IfOk result (λ read. IsBody word (between self.now.tokens from read.1) read.0) }
         ensures refused { IfErr result (IsUnexpected self.now.tokens.file) }
+        ensures exact { ReadsAs (body_form word) self.now.tokens from result }
     {
         (self.nested)(self.alloc, &self.tokens, word, from)
     }
@@ -50,6 +53,7 @@ pub(crate) fn read_body(
     ensures next { IfOk result (λ read. IsBehind tokens.now.list.now from read.1) }
     ensures spelled { IfOk result (λ read. IsBody word (between tokens.now from read.1) read.0) }
     ensures refused { IfErr result (IsUnexpected tokens.now.file) }
+    ensures exact { ReadsAs (body_form word) tokens.now from result }
 {
     let next = tokens.after_word(from, word)?;
     let statements = Stmts {

@@ -2,10 +2,14 @@
 
 ghost use Rattle.std.specs.Prelude.{◌≡◌, ◌+◌, ◌≤◌, IfErr, IfOk, vec_len};
 ghost use Rattle.sa_parse.specs.Classes.{IsAbstractName, IsClassName};
+ghost use Rattle.sa_parse.specs.ConditionForms.{is_bool, with_tree};
 ghost use Rattle.sa_parse.specs.Conditions.{IsBool};
 ghost use Rattle.sa_parse.specs.Names.{IsLower, IsName, IsNames, name_at};
+ghost use Rattle.sa_parse_expr.specs.Exactly.{ReadsAs, given_as};
 ghost use Rattle.sa_parse_expr.specs.Lexemes.{IsFeature, Stands, between};
 ghost use Rattle.sa_parse_expr.specs.Places.{IsBehind, IsUnexpected};
+ghost use Rattle.sa_parse_expr.specs.StatementForms.{name_as, name_form, names_form};
+ghost use Rattle.sa_parse_expr.specs.Tests.{is_abstract_name, is_class_name, is_feature};
 
 use sa_lex::{Sign, TokenKind};
 use sa_parse_expr::Tokens;
@@ -32,6 +36,7 @@ pub(crate) fn lower_name(
     ensures alone { IfOk result (λ read. read.1 ≡ from + 1) }
     ensures spelled { IfOk result (λ read. IsName IsLower (between tokens.now from read.1) read.0) }
     ensures refused { IfErr result (IsUnexpected tokens.now.file) }
+    ensures exact { ReadsAs name_form tokens.now from result }
 {
     if !tokens.is_lower(from) {
         return Err(tokens.unexpected(from));
@@ -49,6 +54,7 @@ pub(crate) fn feature_name(
     ensures alone { IfOk result (λ read. read.1 ≡ from + 1) }
     ensures spelled { IfOk result (λ read. IsName IsFeature (between tokens.now from read.1) read.0) }
     ensures refused { IfErr result (IsUnexpected tokens.now.file) }
+    ensures exact { ReadsAs (name_as is_feature) tokens.now from result }
 {
     if !tokens.is_feature_name(from) {
         return Err(tokens.unexpected(from));
@@ -66,6 +72,7 @@ pub(crate) fn class_name(
     ensures alone { IfOk result (λ read. read.1 ≡ from + 1) }
     ensures spelled { IfOk result (λ read. IsName IsClassName (between tokens.now from read.1) read.0) }
     ensures refused { IfErr result (IsUnexpected tokens.now.file) }
+    ensures exact { ReadsAs (name_as is_class_name) tokens.now from result }
 {
     let Some(TokenKind::ClassName) = tokens.kind(from) else {
         return Err(tokens.unexpected(from));
@@ -83,6 +90,7 @@ pub(crate) fn abstract_name(
     ensures alone { IfOk result (λ read. read.1 ≡ from + 1) }
     ensures spelled { IfOk result (λ read. IsName IsAbstractName (between tokens.now from read.1) read.0) }
     ensures refused { IfErr result (IsUnexpected tokens.now.file) }
+    ensures exact { ReadsAs (name_as is_abstract_name) tokens.now from result }
 {
     let Some(TokenKind::AbstractName) = tokens.kind(from) else {
         return Err(tokens.unexpected(from));
@@ -96,6 +104,7 @@ pub(crate) fn after_bool(tokens: &Tokens<'_>, from: u32) -> Result<u32, FrontFau
     ensures alone { IfOk result (λ next. next ≡ from + 1) }
     ensures spelled { IfOk result (λ _. Stands IsBool tokens.now from) }
     ensures refused { IfErr result (IsUnexpected tokens.now.file) }
+    ensures exact { ReadsAs (name_as is_bool) tokens.now from (with_tree (name_at tokens.now from) result) }
 {
     match tokens.kind(from) {
         Some(TokenKind::ClassName) if tokens.bytes(from) == b"BOOL".as_slice() => Ok(from + 1),
@@ -113,6 +122,7 @@ pub(crate) fn lower_names(
     ensures next { IfOk result (λ read. IsBehind tokens.now.list.now from read.1) }
     ensures spelled { IfOk result (λ read. IsNames (between tokens.now from read.1) read.0.items) }
     ensures refused { IfErr result (IsUnexpected tokens.now.file) }
+    ensures exact { ReadsAs names_form tokens.now from (given_as (λ names. names.items) result) }
 {
     let (first, mut next) = lower_name(alloc, tokens, from)?;
     let mut names = Vec::new(alloc);

@@ -14,8 +14,12 @@
 ghost use Rattle.std.specs.Prelude.{◌≡◌, ◌<◌, ◌≤◌, ◌++◌, IfErr, IfOk, OnOk, length, option_to_list};
 ghost use Rattle.sa_parse.specs.Bodies.{NestsBodies};
 ghost use Rattle.sa_parse.specs.Statements.{IsAssigned, IsLeave, IsOptionalExpr, IsOptionalStmt, IsSimple, IsStmt, IsStmts};
+ghost use Rattle.sa_parse_expr.specs.Exactly.{ReadsAs, given_as};
+ghost use Rattle.sa_parse_expr.specs.Forms.{follow, nest, refuse, stmts};
 ghost use Rattle.sa_parse_expr.specs.Lexemes.{between};
 ghost use Rattle.sa_parse_expr.specs.Places.{IsBehind, IsFrom, IsUnexpected};
+ghost use Rattle.sa_parse_expr.specs.StatementForms.{assign_form, assigned_form, declare_by_value_form, declare_form, leave_or};
+ghost use Rattle.sa_parse_expr.specs.StatementForms.{optional_stmt_form, optional_value_form, simple_form, stmt_form, value_form};
 
 use crate::body::Stmts;
 use crate::names::{lower_name, lower_names};
@@ -35,6 +39,7 @@ impl<F: Fn(Global, &Tokens<'_>, Word, u32) -> Result<(Items<Stmt>, u32), FrontFa
         ensures next { IfOk result (λ read. IsFrom self.now.tokens.list.now from read.1) }
         ensures spelled { IfOk result (λ read. IsStmts (between self.now.tokens from read.1) read.0) }
         ensures refused { IfErr result (IsUnexpected self.now.tokens.file) }
+        ensures exact { ReadsAs (nest stmts) self.now.tokens from result }
     {
         let (first, mut next) = self.optional_stmt(from)?;
         let mut list = Vec::new(self.alloc);
@@ -56,6 +61,7 @@ impl<F: Fn(Global, &Tokens<'_>, Word, u32) -> Result<(Items<Stmt>, u32), FrontFa
         ensures next { IfOk result (λ read. IsFrom self.now.tokens.list.now from read.1) }
         ensures spelled { IfOk result (λ read. IsOptionalStmt (between self.now.tokens from read.1) (option_to_list read.0)) }
         ensures refused { IfErr result (IsUnexpected self.now.tokens.file) }
+        ensures exact { ReadsAs optional_stmt_form self.now.tokens from (given_as option_to_list result) }
     {
         if !begins_statement(self.tokens.kind(from)) {
             return Ok((None, from));
@@ -71,6 +77,7 @@ impl<F: Fn(Global, &Tokens<'_>, Word, u32) -> Result<(Items<Stmt>, u32), FrontFa
         ensures next { IfOk result (λ read. IsBehind self.now.tokens.list.now from read.1) }
         ensures spelled { IfOk result (λ read. IsStmt (between self.now.tokens from read.1) read.0) }
         ensures refused { IfErr result (IsUnexpected self.now.tokens.file) }
+        ensures exact { ReadsAs stmt_form self.now.tokens from result }
     {
         match self.tokens.kind(from) {
             Some(TokenKind::Word(Word::If)) => self.if_block(from),
@@ -106,6 +113,7 @@ fn simple(alloc: Global, tokens: &Tokens<'_>, from: u32) -> Result<(Stmt, u32), 
     ensures next { IfOk result (λ read. IsBehind tokens.now.list.now from read.1) }
     ensures spelled { IfOk result (λ read. IsSimple (between tokens.now from read.1) read.0) }
     ensures refused { IfErr result (IsUnexpected tokens.now.file) }
+    ensures exact { ReadsAs simple_form tokens.now from result }
 {
     if !tokens.is_lower(from) {
         return assign(alloc, tokens, from);
@@ -122,6 +130,7 @@ fn declare(alloc: Global, tokens: &Tokens<'_>, from: u32) -> Result<(Stmt, u32),
     ensures next { IfOk result (λ read. IsBehind tokens.now.list.now from read.1) }
     ensures spelled { IfOk result (λ read. IsSimple (between tokens.now from read.1) read.0) }
     ensures refused { IfErr result (IsUnexpected tokens.now.file) }
+    ensures exact { ReadsAs declare_form tokens.now from result }
 {
     let (names, next) = lower_names(alloc, tokens, from)?;
     let next = tokens.after_sign(next, Sign::Colon)?;
@@ -141,6 +150,7 @@ pub(crate) fn assigned(
     ensures next { IfOk result (λ read. IsFrom tokens.now.list.now from read.1) }
     ensures spelled { IfOk result (λ read. IsAssigned (between tokens.now from read.1) read.0) }
     ensures refused { IfErr result (IsUnexpected tokens.now.file) }
+    ensures exact { ReadsAs assigned_form tokens.now from result }
 {
     if !tokens.is_sign(from, Sign::Assign) {
         return Ok((None, from));
@@ -158,6 +168,7 @@ fn declare_by_value(
     ensures next { IfOk result (λ read. IsBehind tokens.now.list.now from read.1) }
     ensures spelled { IfOk result (λ read. IsSimple (between tokens.now from read.1) read.0) }
     ensures refused { IfErr result (IsUnexpected tokens.now.file) }
+    ensures exact { ReadsAs declare_by_value_form tokens.now from result }
 {
     let (name, next) = lower_name(alloc, tokens, from)?;
     let next = tokens.after_sign(next, Sign::Declare)?;
@@ -172,6 +183,7 @@ fn assign(alloc: Global, tokens: &Tokens<'_>, from: u32) -> Result<(Stmt, u32), 
     ensures next { IfOk result (λ read. IsBehind tokens.now.list.now from read.1) }
     ensures spelled { IfOk result (λ read. IsSimple (between tokens.now from read.1) read.0) }
     ensures refused { IfErr result (IsUnexpected tokens.now.file) }
+    ensures exact { ReadsAs (follow value_form assign_form) tokens.now from result }
 {
     let (target, next) = read_expr(alloc, tokens, from)?;
     if !tokens.is_sign(next, Sign::Assign) {
@@ -186,6 +198,7 @@ fn leave(alloc: Global, tokens: &Tokens<'_>, from: u32) -> Result<(Stmt, u32), F
     ensures next { IfOk result (λ read. IsBehind tokens.now.list.now from read.1) }
     ensures spelled { IfOk result (λ read. IsLeave (between tokens.now from read.1) read.0) }
     ensures refused { IfErr result (IsUnexpected tokens.now.file) }
+    ensures exact { ReadsAs (leave_or refuse) tokens.now from result }
 {
     let pos = tokens.pos(from);
     match tokens.kind(from) {
@@ -220,6 +233,7 @@ fn optional_expr(
     ensures next { IfOk result (λ read. IsFrom tokens.now.list.now from read.1) }
     ensures spelled { IfOk result (λ read. IsOptionalExpr (between tokens.now from read.1) read.0) }
     ensures refused { IfErr result (IsUnexpected tokens.now.file) }
+    ensures exact { ReadsAs optional_value_form tokens.now from result }
 {
     if !begins_expression(tokens.kind(from)) {
         return Ok((None, from));

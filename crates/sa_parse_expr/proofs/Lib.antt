@@ -1,5 +1,6 @@
 mod ExactTypes
 mod Innermost
+pub mod Openings
 mod Precedences
 pub mod Runs
 pub mod SameLevels

@@ -58,10 +58,10 @@ listed_on-one test item short n a (l ∷ ls) h =
 
 module _ (t : Tokens) where
   -- a level above the number of lexemes from any place on
-  abbrev level : ℕ
+  abbrev pub level : ℕ
   level = suc (length t.list.now)
 
-  abbrev at_level : {A : Type 0} → Form A → Reader A
+  abbrev pub at_level : {A : Type 0} → Form A → Reader A
   at_level form = run level (nested_to level) form
 
   -- what a form reads of the lexemes from a place on
@@ -220,7 +220,7 @@ module _ (t : Tokens) where
     }
 
     -- behind a lexeme between two
-    parts_behind : {from mid : ℕ} {all : List A} → Parts from all mid → (kind : TokenKind) → kind_at t.list.now mid ≡ Some kind → test (lexeme_at t mid kind) ≡ true
+    pub parts_behind : {from mid : ℕ} {all : List A} → Parts from all mid → (kind : TokenKind) → kind_at t.list.now mid ≡ Some kind → test (lexeme_at t mid kind) ≡ true
         → at_level (separated test item) (lexemes_from t from) ≡ with_read (λ more. all ++ more) (at_level (separated test item) (lexemes_from t (mid + 1)))
     parts_behind {mid = mid} {all = all} l kind there h =
         l.is ∙ ap (listed_on test all (at_level (separated test item))) (stands t mid kind there)

@@ -8,8 +8,8 @@ use Rattle.sa_lex.specs.declared.word.Word.{Word}
 use Rattle.sa_lex.specs.contracts.sign.Sign.{the_type as signs}
 use Rattle.sa_lex.specs.contracts.word.Word.{the_type as words}
 use Rattle.sa_parse_expr.specs.Lexemes.{Lexeme, IsWord, IsSign, IsClass, class_name, abstract_name, IsFeature, lower_name, iter_name}
-use Rattle.sa_parse_expr.specs.Tests.{is_sign_kind, is_word_kind, is_class_kind, is_class_name_kind, is_abstract_name_kind, is_feature_kind, is_number_kind, is_character_kind, is_text_kind}
-use Rattle.sa_parse_expr.specs.Tests.{is_sign, is_word, is_class, is_class_name, is_abstract_name, is_feature, is_number, is_character, is_text, value_of_kind, text_of_kind, value_of, text_of}
+use Rattle.sa_parse_expr.specs.Tests.{is_sign_kind, is_word_kind, is_class_kind, is_class_name_kind, is_abstract_name_kind, is_lower_kind, is_feature_kind, is_number_kind, is_character_kind, is_text_kind}
+use Rattle.sa_parse_expr.specs.Tests.{is_sign, is_word, is_class, is_class_name, is_abstract_name, is_lower, is_feature, is_number, is_character, is_text, value_of_kind, text_of_kind, value_of, text_of}
 
 sign_kind : (sign : Sign) (kind : TokenKind) → is_sign_kind sign kind ≡ true → kind ≡ token.Sign sign
 sign_kind sign (token.Sign other) h = ap token.Sign (sym (same_true signs tt sign other h))
@@ -31,6 +31,10 @@ class_name_kind _ h = cc
 abstract_name_kind : (kind : TokenKind) → is_abstract_name_kind kind ≡ true → kind ≡ token.AbstractName
 abstract_name_kind token.AbstractName h = refl
 abstract_name_kind _ h = cc
+
+lower_kind : (kind : TokenKind) → is_lower_kind kind ≡ true → kind ≡ token.Lower
+lower_kind token.Lower h = refl
+lower_kind _ h = cc
 
 feature_kind : (l : Lexeme) (kind : TokenKind) → l.kind ≡ kind → is_feature_kind kind ≡ true → IsFeature l
 feature_kind l token.Lower e h = lower_name e
@@ -63,6 +67,9 @@ class_name_stands l h = class_name_kind l.kind h
 
 pub abstract_name_stands : (l : Lexeme) → is_abstract_name l ≡ true → l.kind ≡ token.AbstractName
 abstract_name_stands l h = abstract_name_kind l.kind h
+
+pub lower_stands : (l : Lexeme) → is_lower l ≡ true → l.kind ≡ token.Lower
+lower_stands l h = lower_kind l.kind h
 
 pub feature_stands : (l : Lexeme) → is_feature l ≡ true → IsFeature l
 feature_stands l h = feature_kind l l.kind refl h

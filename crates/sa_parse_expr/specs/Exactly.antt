@@ -23,6 +23,11 @@ pub record Refuses {A : Type 0} (form : Form A) (t : Tokens) (from : ℕ) (refus
   pub is : read_as form (lexemes_from t from) ≡ Refused (lexemes_from t at)
   pub fault : refusal ≡ unexpected_at t.file t.src.now t.list.now at
 
+-- the same with another tree
+abbrev pub given_as : {A B : Type 0} → (A → B) → Result (A × ℕ) FrontFault → Result (B × ℕ) FrontFault
+given_as f (Ok read) = Ok (f read.0, read.1)
+given_as f (Err refusal) = Err refusal
+
 -- a tree with the next place, or a refusal, is what the form reads from a place on. Where memory ran out nothing is said
 abbrev pub ReadsAs : {A : Type 0} → Form A → Tokens → ℕ → Result (A × ℕ) FrontFault → Type 0
 ReadsAs form t from (Ok read) = Takes form t from read.0 read.1

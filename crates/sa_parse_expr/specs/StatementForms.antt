@@ -1,5 +1,5 @@
 -- The forms of statements, production by production.
-use Rattle.std.specs.Prelude.{List, [], ◌∷◌, ◌++◌, Option, Some, None, unwrap_or}
+use Rattle.std.specs.Prelude.{Bool, List, [], ◌∷◌, ◌++◌, Option, Some, None, unwrap_or}
 use Rattle.sa_lex.specs.declared.sign.Sign.TheVariants as sign
 use Rattle.sa_lex.specs.declared.word.Word.{Word}
 use Rattle.sa_lex.specs.declared.word.Word.TheVariants as word
@@ -39,13 +39,33 @@ assigned_form = shift (is_sign sign.Assign) (λ _. make Some value_form) (give N
 unfoldable pub optional_value_form : Form (Option Expr)
 optional_value_form = either (make Some (expr_form Plain outside)) (give None)
 
+-- a lexeme that meets the test, as a name
+abbrev pub name_as : (Lexeme → Bool) → Form Local
+name_as test = shift test (λ l. give (name_of l)) refuse
+
 -- LNAME
 unfoldable pub name_form : Form Local
-name_form = shift is_lower (λ l. give (name_of l)) refuse
+name_form = name_as is_lower
+
+-- LNAME {"," LNAME}
+abbrev pub names_form : Form (List Local)
+names_form = list name_form
 
 -- type [":=" expr], behind the names of a declaration and the ":"
 unfoldable pub typed_form : List Local → Form Stmt
 typed_form names = follow (nest type) (λ t. make (λ value. tree.Declare names (Some t) value) assigned_form)
+
+-- LNAME {"," LNAME} ":" type [":=" expr]
+unfoldable pub declare_form : Form Stmt
+declare_form = follow names_form (λ names. shift (is_sign sign.Colon) (λ _. typed_form names) refuse)
+
+-- "::=" expr, behind the name of a declaration
+abbrev pub by_value_form : Local → Form Stmt
+by_value_form name = shift (is_sign sign.Declare) (λ _. make (λ e. tree.Declare (name ∷ []) None (Some e)) value_form) refuse
+
+-- LNAME "::=" expr
+unfoldable pub declare_by_value_form : Form Stmt
+declare_by_value_form = follow name_form by_value_form
 
 -- [":=" expr] behind an expression
 unfoldable pub assign_form : Expr → Form Stmt
@@ -79,7 +99,7 @@ simple_form =
     shift is_lower
     (λ l.
     shift (is_sign sign.Comma)
-    (λ _. follow (list name_form) (λ others. shift (is_sign sign.Colon) (λ _. typed_form (name_of l ∷ others)) refuse))
+    (λ _. follow names_form (λ others. shift (is_sign sign.Colon) (λ _. typed_form (name_of l ∷ others)) refuse))
     (shift (is_sign sign.Colon) (λ _. typed_form (name_of l ∷ []))
     (shift (is_sign sign.Declare) (λ _. make (λ e. tree.Declare (name_of l ∷ []) None (Some e)) value_form)
     (follow (behind_name_form l) assign_form))))
@@ -91,9 +111,13 @@ simple_form =
 unfoldable pub body_form : Word → Form (List Stmt)
 body_form w = shift (is_word w) (λ _. nest stmts) refuse
 
+-- ["else" stmts]
+abbrev pub else_form : Form (Option (List Stmt))
+else_form = shift (is_word word.Else) (λ _. make Some (nest stmts)) (give None)
+
 -- ending = ["else" stmts] "end"
 unfoldable pub ending_form : Form (Option (List Stmt))
-ending_form = until_word word.End (shift (is_word word.Else) (λ _. make Some (nest stmts)) (give None))
+ending_form = until_word word.End else_form
 
 -- arm = expr "then" stmts
 unfoldable pub arm_form : Form Arm
@@ -107,6 +131,10 @@ case_arm_form = follow (list value_form) (λ values. make (λ list. record { val
 unfoldable pub branch_form : Form TypeArm
 branch_form = follow (nest type) (λ t. make (λ list. record { ty = t; body = list }) (body_form word.Then))
 
+-- arm {"elsif" arm}
+abbrev pub arms_form : Form (List Arm)
+arms_form = separated (is_word word.Elsif) arm_form
+
 -- {"when" case_arm}
 unfoldable pub case_arms_form : Form (List CaseArm)
 case_arms_form = shift (is_word word.When) (λ _. separated (is_word word.When) case_arm_form) (give [])
@@ -115,24 +143,46 @@ case_arms_form = shift (is_word word.When) (λ _. separated (is_word word.When) 
 unfoldable pub branches_form : Form (List TypeArm)
 branches_form = shift (is_word word.When) (λ _. separated (is_word word.When) branch_form) (give [])
 
--- stmt = if | loop | case | typecase | protect | leave | simple
-unfoldable pub stmt_form : Form Stmt
-stmt_form =
-    shift (is_word word.If)
-    (λ w. follow (separated (is_word word.Elsif) arm_form) (λ arms. make (λ rest. tree.If arms (unwrap_or rest []) w.pos) ending_form))
-    (shift (is_word word.Loop) (λ w. make (λ list. tree.Loop list w.pos) (until_word word.End (nest stmts)))
-    (shift (is_word word.Case)
-    (λ w. follow value_form (λ e. follow case_arms_form (λ arms. make (λ rest. tree.Case e arms rest w.pos) ending_form)))
-    (shift (is_word word.Typecase)
-    (λ w. follow name_form (λ name. follow branches_form (λ branches. make (λ rest. tree.TypeCase name branches rest w.pos) ending_form)))
-    (shift (is_word word.Protect)
-    (λ w. follow (nest stmts) (λ list. follow branches_form (λ branches. make (λ rest. tree.Protect list branches rest w.pos) ending_form)))
-    (shift (is_word word.Return) (λ w. make (λ value. tree.Return value w.pos) optional_value_form)
+-- arm {"elsif" arm} ending, behind the "if"
+abbrev pub if_form : Lexeme → Form Stmt
+if_form w = follow arms_form (λ arms. make (λ rest. tree.If arms (unwrap_or rest []) w.pos) ending_form)
+
+-- stmts "end", behind the "loop"
+abbrev pub loop_form : Lexeme → Form Stmt
+loop_form w = make (λ list. tree.Loop list w.pos) (until_word word.End (nest stmts))
+
+-- expr {"when" case_arm} ending, behind the "case"
+abbrev pub case_form : Lexeme → Form Stmt
+case_form w = follow value_form (λ e. follow case_arms_form (λ arms. make (λ rest. tree.Case e arms rest w.pos) ending_form))
+
+-- LNAME {"when" branch} ending, behind the "typecase"
+abbrev pub typecase_form : Lexeme → Form Stmt
+typecase_form w =
+    follow name_form (λ name. follow branches_form (λ branches. make (λ rest. tree.TypeCase name branches rest w.pos) ending_form))
+
+-- stmts {"when" branch} ending, behind the "protect"
+abbrev pub protect_form : Lexeme → Form Stmt
+protect_form w =
+    follow (nest stmts) (λ list. follow branches_form (λ branches. make (λ rest. tree.Protect list branches rest w.pos) ending_form))
+
+-- leave = "return" [expr] | "yield" [expr] | "quit" | "raise" expr | "assert" expr, or else another form
+abbrev pub leave_or : Form Stmt → Form Stmt
+leave_or other =
+    shift (is_word word.Return) (λ w. make (λ value. tree.Return value w.pos) optional_value_form)
     (shift (is_word word.Yield) (λ w. make (λ value. tree.Yield value w.pos) optional_value_form)
     (shift (is_word word.Quit) (λ w. give (tree.Quit w.pos))
     (shift (is_word word.Raise) (λ w. make (λ e. tree.Raise e w.pos) value_form)
-    (shift (is_word word.Assert) (λ w. make (λ e. tree.Assert e w.pos) value_form)
-    simple_form)))))))))
+    (shift (is_word word.Assert) (λ w. make (λ e. tree.Assert e w.pos) value_form) other))))
+
+-- stmt = if | loop | case | typecase | protect | leave | simple
+unfoldable pub stmt_form : Form Stmt
+stmt_form =
+    shift (is_word word.If) if_form
+    (shift (is_word word.Loop) loop_form
+    (shift (is_word word.Case) case_form
+    (shift (is_word word.Typecase) typecase_form
+    (shift (is_word word.Protect) protect_form
+    (leave_or simple_form)))))
 
 -- [stmt], as a list
 unfoldable pub optional_stmt_form : Form (List Stmt)

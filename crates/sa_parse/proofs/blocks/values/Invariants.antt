@@ -2,12 +2,15 @@ use Rattle.std.proofs.Common.{length, ◌-◌}
 use Rattle.sa_parse_expr.specs.Lexemes.{between}
 use Rattle.sa_parse_expr.specs.Places.{IsBehind}
 use Rattle.sa_parse.specs.Statements.{IsValues}
+use Rattle.sa_parse_expr.specs.StatementForms.{value_form}
+use Rattle.sa_parse_expr.proofs.Runs.{Lists}
 use Rattle.sa_parse.proofs.blocks.values.Given as goal
 
 abbrev pub invariant-more : goal.invariant-more
 invariant-more l = record {
   behind : IsBehind l.tokens.list.now l.from l.next;
   spelled : IsValues (between l.tokens l.from l.next) l.values;
+  listed : Lists l.tokens value_form l.from l.values l.next;
 }
 
 abbrev pub decreases-more : goal.decreases-more

@@ -2,6 +2,8 @@ use Rattle.std.proofs.Common.{length, ◌+◌, ◌-◌, ◌≤◌, vec_len}
 use Rattle.sa_parse_expr.specs.Lexemes.{between}
 use Rattle.sa_parse_expr.specs.Places.{IsBehind}
 use Rattle.sa_parse.specs.Names.{IsNames}
+use Rattle.sa_parse_expr.specs.StatementForms.{name_form}
+use Rattle.sa_parse_expr.proofs.Runs.{Lists}
 use Rattle.sa_parse.proofs.names.lower_names.Given as goal
 
 abbrev pub invariant-more : goal.invariant-more
@@ -9,6 +11,7 @@ invariant-more l = record {
   behind : IsBehind l.tokens.list.now l.from l.next;
   count : l.from + vec_len l.names ≤ l.next;
   spelled : IsNames (between l.tokens l.from l.next) l.names.items;
+  listed : Lists l.tokens name_form l.from l.names.items l.next;
 }
 
 abbrev pub decreases-more : goal.decreases-more

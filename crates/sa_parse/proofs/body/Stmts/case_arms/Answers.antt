@@ -1,14 +1,18 @@
-use Rattle.std.proofs.Common.{◌≡◌, Some, arith, rules}
+use Rattle.std.proofs.Common.{◌≡◌, Some, arith, rules, ◌≢◌, ◌+◌, refl}
 use Rattle.sa_lex.specs.declared.token.TokenKind.TheVariants as token
 use Rattle.sa_lex.specs.declared.word.Word.TheVariants as word
 use Rattle.sa_parse_expr.specs.Places.{kind_at}
 use Rattle.sa_parse.proofs.SpelledStatements.{no_case_arm, more_case_arms}
+use Rattle.sa_parse_expr.specs.StatementForms.{case_arm_form}
+use Rattle.sa_parse_expr.proofs.Runs.{handed_on}
+use Rattle.sa_parse.proofs.ExactBlocks as exact
 use Rattle.sa_parse.proofs.body.Stmts.case_arms.Goals as goal
 
 pub more-init : goal.more-init
 more-init g c = record {
   behind = (omega arith, c.requires.within);
   spelled = no_case_arm c.args.self.now.tokens c.args.from _ (search rules);
+  read = exact.none_yet refl (search rules);
 }
 
 pub more-preserved : goal.more-preserved
@@ -19,4 +23,18 @@ more-preserved g c =
     record {
       behind = (omega (arith, begun.behind.0, one.next.0), one.next.1);
       spelled = more_case_arms c.args.self.now.tokens c.args.from c.more.next _ _ _ _ when begun.spelled one.spelled begun.behind.0 (omega (arith, one.next.0)) (search rules);
+      read = exact.next_when c.args.self.now.tokens case_arm_form c.args.from c.more.next _ _ _ _ begun.read when one.exact (search rules);
     }
+
+pub returns-in_err-arm-clause-exact : goal.returns-in_err-arm-clause-exact
+returns-in_err-arm-clause-exact g c =
+    let t = c.args.self.now.tokens in
+    let when : kind_at t.list.now c.more.next ≡ Some (token.Word word.When) = search rules in
+    handed_on t case_arm_form (c.more.next + 1) _ (search rules) c.in_err-arm.ensures.exact
+    (λ rest r. exact.case_arm_refused t c.args.from c.more.next _ c.more.invariant.read when r)
+
+pub returns-clause-exact : goal.returns-clause-exact
+returns-clause-exact g c =
+    let t = c.args.self.now.tokens in
+    let other : kind_at t.list.now c.more.next ≢ Some (token.Word word.When) = search rules in
+    exact.all_case_arms t c.args.from c.more.next _ c.more.invariant.read other

@@ -2,12 +2,14 @@ use Rattle.std.proofs.Common.{length, ◌-◌}
 use Rattle.sa_parse_expr.specs.Lexemes.{between}
 use Rattle.sa_parse_expr.specs.Places.{IsFrom}
 use Rattle.sa_parse.specs.Statements.{IsStmts}
+use Rattle.sa_parse.proofs.ExactBodies.{StmtsRead}
 use Rattle.sa_parse.proofs.body.Stmts.stmts.Given as goal
 
 abbrev pub invariant-more : goal.invariant-more
 invariant-more g l = record {
   behind : IsFrom l.self.tokens.list.now l.from l.next;
   spelled : IsStmts (between l.self.tokens l.from l.next) l.list.items;
+  read : StmtsRead l.self.tokens l.from l.list.items l.next;
 }
 
 abbrev pub decreases-more : goal.decreases-more

@@ -1,0 +1,16 @@
+-- The forms of parts of statements whose types this crate alone has.
+use Rattle.std.specs.Prelude.{List}
+use Rattle.sa_tree.specs.declared.stmt.CaseArm.{CaseArm}
+use Rattle.sa_tree.specs.declared.stmt.TypeArm.{TypeArm}
+use Rattle.sa_parse_expr.specs.Forms.{Form, follow, make}
+use Rattle.sa_parse_expr.specs.StatementForms.{ending_form, case_arms_form, branches_form}
+use Rattle.sa_parse.specs.declared.blocks.CaseChoice.{CaseChoice}
+use Rattle.sa_parse.specs.declared.blocks.TypeChoice.{TypeChoice}
+
+-- case_choice = {"when" case_arm} ending
+unfoldable pub case_choice_form : Form CaseChoice
+case_choice_form = follow case_arms_form (λ arms. make (λ rest. record { arms = arms; rest = rest }) ending_form)
+
+-- type_choice = {"when" branch} ending
+unfoldable pub type_choice_form : Form TypeChoice
+type_choice_form = follow branches_form (λ branches. make (λ rest. record { branches = branches; rest = rest }) ending_form)
