@@ -12,3 +12,4 @@ pub mod SignatureForms
 pub mod Signatures
 pub mod Starts
 pub mod Statements
+pub mod Trees
