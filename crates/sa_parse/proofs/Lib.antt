@@ -2,8 +2,8 @@ mod ExactBlocks
 mod ExactBodies
 mod ExactConditions
 mod ExactDeclared
+mod ExactFeatures
 mod ExactIncludes
-mod ExactMembers
 mod ExactSignatures
 mod ExactStatements
 pub mod SpelledStatements

@@ -184,7 +184,7 @@ member_form class invariants =
 
 -- the class that a reader of members is in
 abbrev pub enclosing_of : ClassContext → Enclosing
-enclosing_of class = record { name = class.name; kind = class.kind; file_kind = class.file_kind }
+enclosing_of class = record { name = class.name.now; kind = class.kind; file_kind = class.file_kind }
 
 -- an invariant stands there only where one may stand
 abbrev pub MayStand : FileKind → Bool → Option TokenKind → Type 0

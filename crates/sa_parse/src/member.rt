@@ -190,7 +190,7 @@ fn builtin(
 ) -> Result<(Feature, u32), FrontFault>
     ensures next { IfOk result (λ read. IsBehind tokens.now.list.now from read.1) }
     ensures refused { IfErr result (IsUnexpected tokens.now.file) }
-    ensures exact { ReadsAs (builtin_form class.entry.name access) tokens.now from (given_as without_clauses result) }
+    ensures exact { ReadsAs (builtin_form class.entry.name.now access) tokens.now from (given_as without_clauses result) }
 {
     let (sig, next) = sig(alloc, tokens, sharing, from)?;
     let of = class.name.copy(alloc)?;

@@ -6,7 +6,7 @@ use Rattle.sa_parse_expr.specs.Places.{kind_at}
 use Rattle.sa_parse_expr.proofs.Runs.{taken, takes, handed_on, stops, makes}
 use Rattle.sa_parse.specs.FeatureForms.{constants_form, declared_or, enclosing_of, include_form, is_private}
 use Rattle.sa_parse.proofs.ExactStatements.{instead}
-use Rattle.sa_parse.proofs.ExactMembers as exact
+use Rattle.sa_parse.proofs.ExactFeatures as exact
 use Rattle.sa_parse.proofs.member.after_access.Goals as goal
 use Rattle.sa_parse.proofs.member.after_access.Goals.{in_default-via-in-Some+in-Word+in_default, in_default-via-in-Some+in_default, in_default-via-in_default}
 

@@ -1,7 +1,7 @@
 use Rattle.std.proofs.Common.{rules}
 use Rattle.sa_parse_expr.proofs.Runs.{handed_on, stops}
 use Rattle.sa_parse.specs.SignatureForms.{sig_form}
-use Rattle.sa_parse.proofs.ExactMembers as exact
+use Rattle.sa_parse.proofs.ExactFeatures as exact
 use Rattle.sa_parse.proofs.member.builtin.Goals as goal
 
 pub returns-in_err-sig-clause-exact : goal.returns-in_err-sig-clause-exact
@@ -13,4 +13,4 @@ pub returns-clause-exact : goal.returns-clause-exact
 returns-clause-exact c =
     let t = c.args.tokens.now in
     let sig = c.in_ok-sig in
-    exact.builtin t c.args.class.name c.args.access c.args.from sig.next _ _ sig.ensures.exact (first_of (cc, search rules))
+    exact.builtin t c.args.class.name.now c.args.access c.args.from sig.next _ _ sig.ensures.exact (first_of (cc, search rules))

@@ -8,7 +8,7 @@ use Rattle.sa_parse.specs.declared.file.FileKind.TheVariants.{Prelude}
 use Rattle.sa_parse.specs.FeatureForms.{builtin_form, enclosing_of}
 use Rattle.sa_parse.specs.SignatureForms.{sig_form}
 use Rattle.sa_parse.proofs.ExactStatements.{instead}
-use Rattle.sa_parse.proofs.ExactMembers as exact
+use Rattle.sa_parse.proofs.ExactFeatures as exact
 use Rattle.sa_parse.proofs.member.called.Goals as goal
 
 pub returns-in_err-sig-in-Some-Word-Stub-clause-exact : goal.returns-in_err-sig-in-Some-Word-Stub-clause-exact
@@ -32,7 +32,7 @@ returns-in_err-builtin-in-Some-Word-Builtin-clause-exact c =
     let t = c.args.tokens.now in
     let there : kind_at t.list.now c.args.from ≡ Some (token.Word word.Builtin) = grind arith in
     let prelude : c.args.class.file_kind ≡ Prelude = search rules in
-    handed_on t (builtin_form c.args.class.name c.args.access) (c.args.from + 1) _ (search rules) c.in_err-builtin-in-Some-Word-Builtin.ensures.exact
+    handed_on t (builtin_form c.args.class.name.now c.args.access) (c.args.from + 1) _ (search rules) c.in_err-builtin-in-Some-Word-Builtin.ensures.exact
     (λ rest r. exact.builtin_there t (enclosing_of c.args.class) c.args.access c.args.from prelude there r)
 
 pub returns-in_ok-builtin-in-Some-Word-Builtin-clause-exact : goal.returns-in_ok-builtin-in-Some-Word-Builtin-clause-exact

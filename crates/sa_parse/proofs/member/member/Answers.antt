@@ -8,7 +8,7 @@ use Rattle.sa_parse_expr.proofs.Runs.{taken, takes, handed_on, stops, makes}
 use Rattle.sa_parse.specs.ConditionForms.{holding_form}
 use Rattle.sa_parse.specs.FeatureForms.{declared_or, enclosing_of}
 use Rattle.sa_parse.proofs.ExactStatements.{instead}
-use Rattle.sa_parse.proofs.ExactMembers as exact
+use Rattle.sa_parse.proofs.ExactFeatures as exact
 use Rattle.sa_parse.proofs.member.member.Goals as goal
 use Rattle.sa_parse.proofs.member.member.Goals.{in_default-via-in-Some+in-Word+in_default, in_default-via-in-Some+in_default, in_default-via-in_default}
 

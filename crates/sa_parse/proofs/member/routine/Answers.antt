@@ -3,7 +3,7 @@ use Rattle.sa_parse_expr.proofs.Runs.{taken, handed_on, follows, stops}
 use Rattle.sa_parse.specs.ConditionForms.{clauses_form}
 use Rattle.sa_parse.specs.FeatureForms.{enclosing_of, whole_body_form}
 use Rattle.sa_parse.specs.SignatureForms.{sig_form}
-use Rattle.sa_parse.proofs.ExactMembers as exact
+use Rattle.sa_parse.proofs.ExactFeatures as exact
 use Rattle.sa_parse.proofs.member.routine.Goals as goal
 
 pub returns-in_err-sig-clause-exact : goal.returns-in_err-sig-clause-exact

@@ -5,7 +5,7 @@ use Rattle.sa_parse.specs.declared.member.Declaration.TheVariants as declaration
 use Rattle.sa_parse_expr.specs.Forms.{refuse}
 use Rattle.sa_parse_expr.specs.Places.{kind_at}
 use Rattle.sa_parse_expr.proofs.Runs.{refused_at}
-use Rattle.sa_parse.proofs.ExactMembers as exact
+use Rattle.sa_parse.proofs.ExactFeatures as exact
 use Rattle.sa_parse.proofs.member.variables.Goals as goal
 use Rattle.sa_parse.proofs.member.variables.Goals.{in_default-via-in-Some+in-Word+in_default, in_default-via-in-Some+in_default, in_default-via-in_default}
 

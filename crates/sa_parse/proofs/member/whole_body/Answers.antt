@@ -3,7 +3,7 @@ use Rattle.sa_lex.specs.declared.word.Word.TheVariants as word
 use Rattle.sa_parse_expr.specs.StatementForms.{body_form}
 use Rattle.sa_parse_expr.proofs.Runs.{handed_on, refused_at}
 use Rattle.sa_parse.proofs.ExactStatements.{same_tree}
-use Rattle.sa_parse.proofs.ExactMembers as exact
+use Rattle.sa_parse.proofs.ExactFeatures as exact
 use Rattle.sa_parse.proofs.member.whole_body.Goals as goal
 
 pub returns-in_err-body-clause-exact : goal.returns-in_err-body-clause-exact

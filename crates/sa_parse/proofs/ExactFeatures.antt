@@ -1,4 +1,5 @@
--- Members of classes, as their forms read them: a lemma for each alternative that a reader decides by the token that stands there.
+-- Features and other members of classes, as their forms read them: a lemma for each alternative that a reader decides by the token that
+-- stands there.
 use Rattle.std.proofs.Common.{◌≡◌, ◌≢◌, ℕ, ◌+◌, Bool, true, false, List, Some, Ok, Err, Result, ◌⊎◌, inl, inr, refl, sym, ◌∙◌}
 use Rattle.sa_lex.specs.declared.token.TokenKind.TheVariants as token
 use Rattle.sa_lex.specs.declared.word.Word.{Word}
