@@ -261,15 +261,15 @@ module _ (t : Tokens) where
     pub stood : Stood t is_lower from
     pub is : name ≡ name_of (lexeme_at t from stood.kind)
 
-  named_read : {from next : ℕ} {name : Local} (stood : Stood t is_lower from) → Runs t (give (name_of (lexeme_at t from stood.kind))) (from + 1) (Read name (lexemes_from t next))
+  named_read : {from : ℕ} {name : Local} (next : ℕ) (stood : Stood t is_lower from) → Runs t (give (name_of (lexeme_at t from stood.kind))) (from + 1) (Read name (lexemes_from t next))
       → Named from name
-  named_read stood r = record { stood = stood; is = sym (tree_of r.is) }
+  named_read next stood r = record { stood = stood; is = sym (tree_of r.is) }
 
   pub named : (from next : ℕ) (name : Local) → Takes name_form t from name next → Named from name
   unfolding name_form
   named from next name h =
       let opened = opened_read t {test = is_lower} {go = λ l. give (name_of l)} (taken t h) in
-      named_read opened.first opened.rest
+      named_read next opened.first opened.rest
 
   given_refused : {A B : Type 0} {a : A} {at : ℕ} {rest : List Lexeme} → Runs t (give a) at (Refused rest) → B
   given_refused k = let same = k.is in absurd (cc)

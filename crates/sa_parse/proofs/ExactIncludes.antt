@@ -19,7 +19,7 @@ use Rattle.sa_parse_expr.specs.Places.{kind_at}
 use Rattle.sa_parse_expr.specs.Readings.{Reading, Read, Refused}
 use Rattle.sa_parse_expr.specs.StatementForms.{name_as}
 use Rattle.sa_parse_expr.specs.Tests.{is_sign, is_feature}
-use Rattle.sa_parse_expr.proofs.Openings.{Stood, opened_refused, runs}
+use Rattle.sa_parse_expr.proofs.Openings.{Stood, opened_read, opened_refused}
 use Rattle.sa_parse_expr.proofs.Runs.{Runs, taken, takes, gives, refused, met, not_met, another, follows, stops, makes, first_one, second_one, meets_by, shut_sign, shut_word}
 use Rattle.sa_parse_expr.proofs.Shifts.{Shut}
 use Rattle.sa_parse_expr.proofs.Tested.{sign_is, word_is}
@@ -27,7 +27,6 @@ use Rattle.sa_parse.specs.declared.include.NewName.{NewName}
 use Rattle.sa_parse.specs.declared.member.Declaration.{Declaration}
 use Rattle.sa_parse.specs.declared.member.Declaration.TheVariants as member
 use Rattle.sa_parse.specs.FeatureForms.{is_private, change_to, renamed, new_name_form, changed_form, change_form, optional_changes_form, include_form}
-use Rattle.sa_parse.proofs.ExactSignatures.{Named}
 use Rattle.sa_parse.proofs.ExactStatements.{shut_feature}
 
 -- ---- what opens the form of changes
@@ -50,20 +49,45 @@ private_is Public = refl
 private_is Private = refl
 private_is ReadOnly = refl
 
+tree_of : {A : Type 0} {a b : A} {ls ms : List Lexeme} → Read a ls ≡ Read b ms → a ≡ b
+tree_of e = cc
+
 module _ (t : Tokens) where
   given_refused : {A B : Type 0} {a : A} {at : ℕ} {rest : List Lexeme} → Runs t (give a) at (Refused rest) → B
   given_refused k = let same = k.is in absurd (cc)
+
+  -- ---- names
+
+  -- a name that was read, and the token that it is
+  pub record Named (from : ℕ) (name : Local) : Type 0 where
+    pub stood : Stood t is_feature from
+    pub is : name ≡ name_of (lexeme_at t from stood.kind)
+
+  named_read : {from : ℕ} {name : Local} (next : ℕ) (stood : Stood t is_feature from)
+      → Runs t (give (name_of (lexeme_at t from stood.kind))) (from + 1) (Read name (lexemes_from t next)) → Named from name
+  named_read next stood r = record { stood = stood; is = sym (tree_of r.is) }
+
+  pub named : (from next : ℕ) (name : Local) → Takes (name_as is_feature) t from name next → Named from name
+  named from next name h =
+      let opened = opened_read t {test = is_feature} {go = λ l. give (name_of l)} (taken t h) in
+      named_read next opened.first opened.rest
 
   -- ---- new names
 
   -- what stands in front of a new name says its access
   pub data Begins (from : ℕ) : Access → ℕ → Type 0 where
-    private : kind_at t.list.now from ≡ Some (token.Word word.Private) → Begins from Private (from + 1)
-    readonly : kind_at t.list.now from ≡ Some (token.Word word.Readonly) → Begins from ReadOnly (from + 1)
-    public : Stood t is_feature from → kind_at t.list.now from ≢ Some (token.Word word.Private)
+    private_word : kind_at t.list.now from ≡ Some (token.Word word.Private) → Begins from Private (from + 1)
+    readonly_word : kind_at t.list.now from ≡ Some (token.Word word.Readonly) → Begins from ReadOnly (from + 1)
+    name_alone : Stood t is_feature from → kind_at t.list.now from ≢ Some (token.Word word.Private)
         → kind_at t.list.now from ≢ Some (token.Word word.Readonly) → Begins from Public from
 
-  pub named_there : (f : Lexeme) (access : Access) (at : ℕ) (s : Stood t is_feature at)
+  pub lower_alone : (from : ℕ) → kind_at t.list.now from ≡ Some token.Lower → Begins from Public from
+  lower_alone from there = name_alone (record { kind = token.Lower; there = there; met = refl }) (λ e. cc) (λ e. cc)
+
+  pub iter_alone : (from : ℕ) → kind_at t.list.now from ≡ Some token.IterName → Begins from Public from
+  iter_alone from there = name_alone (record { kind = token.IterName; there = there; met = refl }) (λ e. cc) (λ e. cc)
+
+  named_there : (f : Lexeme) (access : Access) (at : ℕ) (s : Stood t is_feature at)
       → Runs t (new_name_form f access) at (Read (change_to f access (Some (name_of (lexeme_at t at s.kind)).name)) (lexemes_from t (at + 1)))
   unfolding new_name_form
   named_there f access at s = met t s.kind s.there s.met (gives t)
@@ -87,9 +111,9 @@ module _ (t : Tokens) where
 
   pub behind_access : (f : Lexeme) (from next : ℕ) (access : Access) → Begins from access next → {v : Reading Change}
       → Runs t (new_name_form f access) next v → Runs t (changed_form f) from v
-  behind_access f from next access (private there) r = private_there f from there r
-  behind_access f from next access (readonly there) r = readonly_there f from there r
-  behind_access f from next access (public s no_private no_readonly) r =
+  behind_access f from next access (private_word there) r = private_there f from there r
+  behind_access f from next access (readonly_word there) r = readonly_there f from there r
+  behind_access f from next access (name_alone s no_private no_readonly) r =
       let first = public_there f from s no_private no_readonly in
       let second = named_there f Public from s in
       record { is = first.is ∙ (sym second.is ∙ r.is) }
@@ -100,7 +124,7 @@ module _ (t : Tokens) where
   no_new_name f access at r =
       opened_refused t {test = is_feature} {go = λ l. give (name_of l)} {other = λ g. give (change_to f access (Some g.bytes))} (λ s k. given_refused k) r
 
-  pub new_name : (f : Lexeme) (from mid : ℕ) (access : Access) (name : Local) (new : NewName) → Begins from access mid → Named t mid name
+  pub new_name : (f : Lexeme) (from mid : ℕ) (access : Access) (name : Local) (new : NewName) → Begins from access mid → Named mid name
       → new ≡ record { access = access; name = Some name.name } → Takes (changed_form f) t from (renamed f new) (mid + 1)
   new_name f from mid access name new begins n same =
       rw (same, n.is) (takes t (behind_access f from mid access begins (named_there f access mid n.stood)))
@@ -133,12 +157,18 @@ module _ (t : Tokens) where
       → Runs t (shift (is_sign sign.Arrow) (λ _. changed_form f) refuse) at (Refused (lexemes_from t at))
   no_arrow f at other = not_met t (shut_sign t sign.Arrow at other) (refused t)
 
-  pub change : (from next : ℕ) (name : Local) (new : NewName) (made : Change) (n : Named t from name)
-      → kind_at t.list.now (from + 1) ≡ Some (token.Sign sign.Arrow)
-      → Takes (changed_form (lexeme_at t from n.stood.kind)) t (from + 1 + 1) (renamed (lexeme_at t from n.stood.kind) new) next
+  -- behind the name and the arrow
+  pub behind_both : (from mid third : ℕ) (name : Local) (n : Named from name) → mid ≡ from + 1 → kind_at t.list.now mid ≡ Some (token.Sign sign.Arrow)
+      → third ≡ mid + 1 → {v : Reading Change} → Runs t (changed_form (lexeme_at t from n.stood.kind)) third v → Runs t change_form from v
+  behind_both from mid third name n alone arrow behind r =
+      behind_name from n.stood (behind_arrow (lexeme_at t from n.stood.kind) (from + 1) (rw alone at arrow) (rw (behind, alone) at r))
+
+  pub change : (from mid third next : ℕ) (name : Local) (new : NewName) (made : Change) (n : Named from name) → mid ≡ from + 1
+      → kind_at t.list.now mid ≡ Some (token.Sign sign.Arrow) → third ≡ mid + 1
+      → Takes (changed_form (lexeme_at t from n.stood.kind)) t third (renamed (lexeme_at t from n.stood.kind) new) next
       → made ≡ record { from = name; to = new.name; access = new.access } → Takes change_form t from made next
-  change from next name new made n arrow last same =
-      rw (same, n.is) (takes t (behind_name from n.stood (behind_arrow (lexeme_at t from n.stood.kind) (from + 1) arrow (taken t last))))
+  change from mid third next name new made n alone arrow behind last same =
+      rw (same, n.is) (takes t (behind_both from mid third name n alone arrow behind (taken t last)))
 
   pub changes_there : (at : ℕ) → Stood t is_feature at → {v : Reading (List Change)} → Runs t (list change_form) at v → Runs t optional_changes_form at v
   unfolding optional_changes_form
@@ -152,18 +182,18 @@ module _ (t : Tokens) where
 
   -- ---- includes
 
-  pub behind_type : (private : Bool) (from mid : ℕ) (one : Ty) → Takes (nest type) t from one mid → {v : Reading Declaration}
-      → Runs t (make (λ changes. member.Include (record { ty = one; private = private; changes = changes })) optional_changes_form) mid v
-      → Runs t (include_form private) from v
+  pub behind_type : (hidden : Bool) (from mid : ℕ) (one : Ty) → Takes (nest type) t from one mid → {v : Reading Declaration}
+      → Runs t (make (λ changes. member.Include (record { ty = one; private = hidden; changes = changes })) optional_changes_form) mid v
+      → Runs t (include_form hidden) from v
   unfolding include_form
-  behind_type private from mid one first r = follows t (taken t first) r
+  behind_type hidden from mid one first r = follows t (taken t first) r
 
-  pub no_type : (private : Bool) (from : ℕ) {rest : List Lexeme} → Runs t (nest type) from (Refused rest) → Runs t (include_form private) from (Refused rest)
+  pub no_type : (hidden : Bool) (from : ℕ) {rest : List Lexeme} → Runs t (nest type) from (Refused rest) → Runs t (include_form hidden) from (Refused rest)
   unfolding include_form
-  no_type private from r = stops t r
+  no_type hidden from r = stops t r
 
-  pub include : (private : Bool) (from mid next : ℕ) (one : Ty) (changes : List Change) (made : Include) → Takes (nest type) t from one mid
-      → Takes optional_changes_form t mid changes next → made ≡ record { ty = one; private = private; changes = changes }
-      → Takes (include_form private) t from (member.Include made) next
-  include private from mid next one changes made first second same =
-      rw same (takes t (behind_type private from mid one first (makes t next (taken t second))))
+  pub include : (hidden : Bool) (from mid next : ℕ) (one : Ty) (changes : List Change) (made : Include) → Takes (nest type) t from one mid
+      → Takes optional_changes_form t mid changes next → made ≡ record { ty = one; private = hidden; changes = changes }
+      → Takes (include_form hidden) t from (member.Include made) next
+  include hidden from mid next one changes made first second same =
+      rw same (takes t (behind_type hidden from mid one first (makes t next (taken t second))))

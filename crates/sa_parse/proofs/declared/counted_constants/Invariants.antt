@@ -8,7 +8,7 @@ invariant-more l = record {
   behind : IsFrom l.tokens.list.now l.from l.next;
   number : l.number ≤ l.next;
   count : l.from + length l.features ≤ l.next + 1;
-  read : ConstantsRead l.tokens l.access l.initial.first l.from l.features l.number l.next;
+  read : ConstantsRead l.tokens l.access l.fn.first l.from l.features l.number l.next;
 }
 
 abbrev pub decreases-more : goal.decreases-more

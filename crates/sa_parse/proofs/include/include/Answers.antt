@@ -1,4 +1,4 @@
-use Rattle.std.proofs.Common.{rules}
+use Rattle.std.proofs.Common.{arith, rules}
 use Rattle.sa_parse_expr.specs.Forms.{nest, type}
 use Rattle.sa_parse_expr.proofs.Runs.{handed_on, stops}
 use Rattle.sa_parse.specs.FeatureForms.{is_private, optional_changes_form}
