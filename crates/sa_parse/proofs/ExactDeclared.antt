@@ -49,7 +49,7 @@ counted-one number access value (y ∷ xs) x =
     (counted-one (number + 1) access value xs x
     ∙ ap (λ n. counted_from (number + 1) access value xs ++ variable_of access None (part.Const value n) x ∷ []) same)
 
-length-one : {A : Type 0} (xs : List A) (x : A) → length (xs ++ x ∷ []) ≡ length xs + 1
+pub length-one : {A : Type 0} (xs : List A) (x : A) → length (xs ++ x ∷ []) ≡ length xs + 1
 length-one [] x = refl
 length-one (y ∷ xs) x = let rest = length-one xs x in omega (arith, rest)
 
@@ -71,9 +71,9 @@ module _ (t : Tokens) where
   never form other at from next a (fault.Refused refusal) h k = let same = sym h.is ∙ k.is in absurd (cc)
   never form other at from next a fault.NoMemory h k = tt
 
-  pub never_refused : {A B : Type 0} {other : Form B} {from : ℕ} {r : Result (B × ℕ) FrontFault} (form : Form A) (at next : ℕ) (a : A) (e : FrontFault) → r ≡ Err e
+  pub never_refused : {A B : Type 0} {r : Result (B × ℕ) FrontFault} (form : Form A) (other : Form B) (at from next : ℕ) (a : A) (e : FrontFault) → r ≡ Err e
       → Takes form t at a next → ReadsTree form t at (Err e) → ReadsAs other t from r
-  never_refused {other = other} {from = from} form at next a e is h k = rw is (never form other at from next a e h k)
+  never_refused form other at from next a e is h k = rw is (never form other at from next a e h k)
 
   -- ---- what names share
 

@@ -33,7 +33,7 @@ more-preserved c =
       count =
           let was = begun.count in
           let gone = c.in-Some.ensures.steps.1 in
-          let longer = ap length c.in_ok-push.ensures.ok in
+          let longer = ap length c.in_ok-push.ensures.ok ∙ exact.length-one c.more.features _ in
           first_of (omega arith, grind arith);
       names = one_yielded _ _ _ _ c.in-Some.name begun.names steps;
       left =

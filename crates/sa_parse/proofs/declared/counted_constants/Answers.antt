@@ -1,4 +1,4 @@
-use Rattle.std.proofs.Common.{◌≡◌, ◌≢◌, ◌+◌, Some, refl, ap, length, arith, rules}
+use Rattle.std.proofs.Common.{◌≡◌, ◌≢◌, ◌+◌, ◌∙◌, Some, refl, ap, length, arith, rules}
 use Rattle.sa_lex.specs.declared.token.TokenKind.TheVariants as token
 use Rattle.sa_lex.specs.declared.sign.Sign.TheVariants as sign
 use Rattle.sa_parse_expr.specs.Places.{kind_at}
@@ -24,13 +24,13 @@ more-preserved c =
     let begun = c.more.invariant in
     let comma : kind_at t.list.now c.more.next ≡ Some (token.Sign sign.Comma) = search rules in
     let name = c.in_ok-name in
-    let copy = c.in_ok-value-in-more in
+    let copy = c.in_ok-value-2 in
     record {
       behind = (omega (arith, begun.behind.0, name.ensures.next.0), name.ensures.next.1);
       number = omega (arith, begun.number, name.ensures.next.0);
       count =
           let was = begun.count in
-          let longer = ap length c.in_ok-push-in-more.ensures.ok in
+          let longer = ap length c.in_ok-push-2.ensures.ok ∙ exact.length-one c.more.features _ in
           let behind = name.ensures.next.0 in
           first_of (omega arith, grind arith);
       read = exact.next_constant t c.args.access c.args.first copy.value c.args.from c.more.next name.end copy.ensures.exact.next c.more.number _ _ _ name.name begun.read comma name.ensures.exact copy.ensures.exact.is (omega arith) (first_of (cc, search rules, grind arith));
@@ -48,11 +48,11 @@ returns-in_err-name-clause-exact c =
     handed_on t name_form (c.more.next + 1) _ (search rules) c.in_err-name.ensures.exact
     (λ rest r. exact.constant_refused t c.args.access c.args.first c.args.from c.more.next c.more.number _ c.more.invariant.read comma r)
 
-pub returns-in_err-value-in-more-clause-exact : goal.returns-in_err-value-in-more-clause-exact
-returns-in_err-value-in-more-clause-exact c =
+pub returns-in_err-value-2-clause-exact : goal.returns-in_err-value-2-clause-exact
+returns-in_err-value-2-clause-exact c =
     let t = c.args.tokens.now in
     let so_far = c.more.invariant.read in
-    exact.never_refused t assigned_form c.args.from so_far.mid so_far.value _ (search rules) so_far.was c.in_err-value-in-more.ensures.exact
+    exact.never_refused t assigned_form (counted_constants_of c.args.access c.args.first) c.args.from c.args.from so_far.mid so_far.value _ (search rules) so_far.was c.in_err-value-2.ensures.exact
 
 pub returns-clause-exact : goal.returns-clause-exact
 returns-clause-exact c =
