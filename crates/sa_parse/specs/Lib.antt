@@ -6,6 +6,8 @@ pub mod ConditionForms
 pub mod Conditions
 pub mod FeatureForms
 pub mod Features
+pub mod Files
+pub mod Made
 pub mod Names
 pub mod Refusals
 pub mod SignatureForms

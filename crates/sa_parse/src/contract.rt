@@ -11,7 +11,9 @@
 //! `result` and `initial` may stand in the expression of a `post` alone.
 
 ghost use Rattle.std.specs.Prelude.{◌≡◌, ◌≤◌, IfErr, IfOk, length};
+ghost use Rattle.std.specs.Option.{option_to_list};
 ghost use Rattle.sa_tree.specs.declared.contract.Condition.{Condition};
+ghost use Rattle.sa_parse.specs.Classes.{contract_of};
 ghost use Rattle.sa_parse.specs.ConditionForms.{clause_form, clauses_form, closing_form, condition_form, holding_form, with_tree};
 ghost use Rattle.sa_parse.specs.Conditions.{no_clauses};
 ghost use Rattle.sa_parse_expr.specs.Exactly.{ReadsAs};
@@ -43,7 +45,9 @@ impl Clauses {
     }
 
     /// The contract that they are of this feature of this class, if one of them is written.
-    pub(crate) fn of(self, class: u32, feature: u32) -> Option<Contract> {
+    pub(crate) fn of(self, class: u32, feature: u32) -> Option<Contract>
+        ensures { option_to_list result ≡ contract_of class feature self.pre self.post }
+    {
         if self.pre.is_none() && self.post.is_none() {
             return None;
         }

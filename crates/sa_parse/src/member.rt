@@ -13,9 +13,14 @@
 //! whole_body = "is" stmts "end"
 //! ```
 
-ghost use Rattle.std.specs.Prelude.{◌+◌, ◌≤◌, IfErr, IfOk, length};
-ghost use Rattle.sa_parse.specs.Features.{features_of};
-ghost use Rattle.sa_parse_expr.specs.Places.{IsBehind, IsUnexpected};
+ghost use Rattle.std.specs.Prelude.{◌≡◌, ◌+◌, ◌≤◌, Bool, true, IfErr, IfOk, Some, length};
+ghost use Rattle.sa_lex.specs.declared.token.TokenKind.TheVariants as token;
+ghost use Rattle.sa_lex.specs.declared.word.Word.TheVariants as word;
+ghost use Rattle.sa_parse.specs.declared.file.FileKind.TheVariants.{Program};
+ghost use Rattle.sa_parse.specs.FeatureForms.{member_form};
+ghost use Rattle.sa_parse.specs.Features.{feature_of, features_of};
+ghost use Rattle.sa_parse_expr.specs.Exactly.{ReadsAs};
+ghost use Rattle.sa_parse_expr.specs.Places.{IsBehind, IsUnexpected, kind_at};
 
 use crate::body::read_body;
 use crate::contract::{Clauses, feature_clauses, invariant};
@@ -53,7 +58,9 @@ pub(crate) enum Declaration {
 }
 
 /// The feature of a signature.
-pub(crate) fn of_sig(sig: Signature, access: Access, part: Part) -> Feature {
+pub(crate) fn of_sig(sig: Signature, access: Access, part: Part) -> Feature
+    ensures { result ≡ feature_of sig access part }
+{
     Feature {
         name: sig.name,
         access,
@@ -74,6 +81,9 @@ pub(crate) fn member(
     ensures count { IfOk result (λ read. from + length (features_of read.0) ≤ read.1) }
     ensures next { IfOk result (λ read. IsBehind tokens.now.list.now from read.1) }
     ensures refused { IfErr result (IsUnexpected tokens.now.file) }
+    ensures exact { (invariants : Bool)
+            → (kind_at tokens.now.list.now from ≡ Some (token.Word word.Invariant) → (class.file_kind ≡ Program) × (invariants ≡ true))
+            → ReadsAs (member_form (record { name = class.name.now; kind = class.kind; file_kind = class.file_kind }) invariants) tokens.now from result }
 {
     match tokens.kind(from) {
         Some(TokenKind::Word(Word::Private)) => {
