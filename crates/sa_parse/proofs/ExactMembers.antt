@@ -32,6 +32,7 @@ use Rattle.sa_parse.specs.ClassForms.{optional_member_form, is_empty, none_yet, 
 use Rattle.sa_parse.specs.Classes.{includes_of, invariants_of, contract_of, clauses_from, clauses_at, last_of, or_before, inside_of}
 use Rattle.sa_parse.specs.FeatureForms.{member_form, open_form, declared_or, stub_or, builtin_or, invariant_or, routine_form}
 use Rattle.sa_parse.specs.Features.{Enclosing, features_of}
+use Rattle.sa_parse.specs.Made.{TakesMade}
 use Rattle.sa_parse.specs.SignatureForms.{sig_form}
 use Rattle.sa_parse.specs.Starts.{begins_member, is_prelude}
 
@@ -250,3 +251,33 @@ module _ (t : Tokens) where
   next_refused class from mid all so_far semicolon r =
       follows t (taken t so_far.opened)
       (turn_refused t (is_sign sign.Semicolon) (more_form class) so_far.turns (token.Sign sign.Semicolon) semicolon (sign_is sign.Semicolon) (stops t r))
+
+  -- ---- the inside that is made of the members
+
+  -- the members that were read up to a place, and the inside that is made of them
+  pub record InsideRead (class : Enclosing) (place from : ℕ) (inside : Inside) (next : ℕ) : Type 0 where
+    pub members : List Declaration
+    pub read : MembersRead class from members next
+    pub same : inside ≡ inside_of place members
+
+  pub first_inside : (class : Enclosing) (place from next : ℕ) (inside : Inside)
+      → TakesMade (optional_member_form class true) (λ more. inside_of place ([] ++ more)) t from inside next → InsideRead class place from inside next
+  first_inside class place from next inside h = record { members = h.written; read = first_members class from next h.written h.taken; same = h.same }
+
+  pub next_inside : (class : Enclosing) (place from mid next : ℕ) (before after : Inside) (so_far : InsideRead class place from before mid)
+      → kind_at t.list.now mid ≡ Some (token.Sign sign.Semicolon)
+      → TakesMade (optional_member_form class (none_yet so_far.members)) (λ more. inside_of place (so_far.members ++ more)) t (mid + 1) after next
+      → InsideRead class place from after next
+  next_inside class place from mid next before after so_far semicolon h = record {
+    members = so_far.members ++ h.written;
+    read = next_members class from mid next so_far.members h.written so_far.read semicolon h.taken;
+    same = h.same;
+  }
+
+  pub all_inside : (class : Enclosing) (place from next : ℕ) (inside : Inside) → InsideRead class place from inside next
+      → kind_at t.list.now next ≢ Some (token.Sign sign.Semicolon) → TakesMade (members_form class) (inside_of place) t from inside next
+  all_inside class place from next inside so_far other = record {
+    written = so_far.members;
+    taken = all_members class from next so_far.members so_far.read other;
+    same = so_far.same;
+  }

@@ -303,7 +303,7 @@ fn concrete_inside(
 ) -> Result<(Inside, u32), FrontFault>
     ensures next { IfOk result (λ read. IsBehind tokens.now.list.now from read.1) }
     ensures refused { IfErr result (IsUnexpected tokens.now.file) }
-    ensures exact { ReadsMade (members_inside_form (enclosing class)) (inside_of class.place) tokens.now from result }
+    ensures exact { ReadsMade (members_inside_form (enclosing class.entry)) (inside_of class.entry.place) tokens.now from result }
 {
     let next = tokens.after_word(from, Word::Is)?;
     let (inside, next) = members(alloc, tokens, class, sharing, next)?;
@@ -436,7 +436,7 @@ fn members(
     requires { from ≤ length tokens.now.list.now }
     ensures next { IfOk result (λ read. IsFrom tokens.now.list.now from read.1) }
     ensures refused { IfErr result (IsUnexpected tokens.now.file) }
-    ensures exact { ReadsMade (members_form (enclosing class)) (inside_of class.place) tokens.now from result }
+    ensures exact { ReadsMade (members_form (enclosing class.entry)) (inside_of class.entry.place) tokens.now from result }
 {
     let mut inside = Inside::new(alloc);
     let mut next = add_member(alloc, tokens, class, sharing, &mut inside, from)?;
@@ -460,8 +460,8 @@ fn add_member(
     ensures count { IfOk result (λ next. length inside.new.features ≤ next) }
     ensures next { IfOk result (IsFrom tokens.now.list.now from) }
     ensures refused { IfErr result (IsUnexpected tokens.now.file) }
-    ensures exact { (others : List Declaration) → inside.old ≡ inside_of class.place others
-            → ReadsMade (optional_member_form (enclosing class) (none_yet others)) (λ more. inside_of class.place (others ++ more)) tokens.now from
+    ensures exact { (others : List Declaration) → inside.old ≡ inside_of class.entry.place others
+            → ReadsMade (optional_member_form (enclosing class.entry) (none_yet others)) (λ more. inside_of class.entry.place (others ++ more)) tokens.now from
             (with_tree inside.new result) }
 {
     if !begins_member(tokens.kind(from), class, inside) {
