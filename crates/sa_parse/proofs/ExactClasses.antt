@@ -1,7 +1,6 @@
 -- Classes and what stands in them, as their forms read them: a lemma for each alternative that a reader decides by the token that stands
 -- there.
 use Rattle.std.proofs.Common.{◌≡◌, ◌≢◌, ℕ, ◌+◌, Bool, true, false, ◌||◌, List, [], ◌∷◌, ◌++◌, map, Option, Some, None, Result, Ok, Err, refl, sym, ap, ◌∙◌}
-use Rattle.std.specs.Option.{option_to_list}
 use Rattle.std.proofs.lemmas.List.{append-nil}
 use Rattle.sa_lex.specs.declared.token.TokenKind.{TokenKind}
 use Rattle.sa_lex.specs.declared.token.TokenKind.TheVariants as token
@@ -16,14 +15,13 @@ use Rattle.sa_tree.specs.declared.class.Kind.TheVariants.{Reference, Immutable, 
 use Rattle.sa_tree.specs.declared.class.Part.TheVariants as part
 use Rattle.sa_tree.specs.declared.class.Feature.{Feature}
 use Rattle.sa_parse_expr.specs.declared.tokens.Tokens.{Tokens}
-use Rattle.sa_parse_expr.specs.Exactly.{lexemes_from, Takes, Refuses, ReadsAs}
-use Rattle.sa_parse_expr.specs.Forms.{Form, give, refuse, shift, follow, separated, make, until_word, opens}
+use Rattle.sa_parse_expr.specs.Exactly.{lexemes_from, Takes, ReadsAs}
+use Rattle.sa_parse_expr.specs.Forms.{Form, refuse, shift, follow, make, until_word, opens}
 use Rattle.sa_parse_expr.specs.Lexemes.{Lexeme, lexeme_at}
 use Rattle.sa_parse_expr.specs.Places.{kind_at, unexpected_at}
 use Rattle.sa_parse_expr.specs.Readings.{Reading, Read, Refused}
-use Rattle.sa_parse_expr.specs.StatementForms.{joined}
 use Rattle.sa_parse_expr.specs.Tests.{is_sign, is_word, is_feature}
-use Rattle.sa_parse_expr.proofs.Openings.{opened_read, opened_refused, word_closed, word_unclosed}
+use Rattle.sa_parse_expr.proofs.Openings.{opened_read, opened_refused}
 use Rattle.sa_parse_expr.proofs.Runs.{Runs, taken, takes, handed_on, refused_at, gives, refused, met, not_met, another, follows, stops, makes, first_one, second_one, meets_by, shut_by, shut_sign, shut_word}
 use Rattle.sa_parse_expr.proofs.Shifts.{Shut}
 use Rattle.sa_parse_expr.proofs.Tested.{sign_is, word_is, lexeme}
@@ -161,7 +159,7 @@ module _ (t : Tokens) where
   abbrev behind_abstract : Head → Form Written
   behind_abstract head = shift (is_word word.Is) (λ _. make (of_signatures head) (until_word word.End signatures_form)) refuse
 
-  pub abstract_there : (at : ℕ) → kind_at t.list.now at ≡ Some (token.Word word.Class) → {v : Reading Written} → Runs t (follow abstract_head_form behind_abstract) (at + 1) v
+  pub abstract_there : (at : ℕ) → kind_at t.list.now at ≡ Some (token.Word word.Class) → {v : Reading Written} → Runs t (follow abstract_head_form (λ head. behind_abstract head)) (at + 1) v
       → Runs t abstract_form at v
   unfolding abstract_form
   abstract_there at there r = met t (token.Word word.Class) there (word_is word.Class) r
@@ -203,7 +201,7 @@ module _ (t : Tokens) where
       shift (is_word word.Is) (λ _. make (of_members kind head) (until_word word.End (members_form (around file_kind kind head)))) refuse
 
   pub concrete_there : (file_kind : FileKind) (kind : Kind) (at : ℕ) → kind_at t.list.now at ≡ Some (token.Word word.Class) → {v : Reading Written}
-      → Runs t (follow concrete_head_form (behind_concrete file_kind kind)) (at + 1) v → Runs t (concrete_form file_kind kind) at v
+      → Runs t (follow concrete_head_form (λ head. behind_concrete file_kind kind head)) (at + 1) v → Runs t (concrete_form file_kind kind) at v
   unfolding concrete_form
   concrete_there file_kind kind at there r = met t (token.Word word.Class) there (word_is word.Class) r
 

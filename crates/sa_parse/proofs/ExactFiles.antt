@@ -1,8 +1,9 @@
 -- Files, as their form reads them, and the classes and contracts that are made of them.
-use Rattle.std.proofs.Common.{◌≡◌, ◌≢◌, ℕ, suc, ◌+◌, ◌<◌, ◌≤◌, ◌⊎◌, inl, inr, List, [], ◌∷◌, ◌++◌, length, drop, map, Option, Some, None, Result, Ok, Err, refl, sym, ap, ◌∙◌, append_assoc, arith}
+use Rattle.std.proofs.Common.{◌≡◌, ◌≢◌, ℕ, suc, ◌+◌, ◌<◌, ◌≤◌, ◌⊎◌, inl, inr, List, [], ◌∷◌, ◌++◌, length, map, Option, Some, None, Result, Ok, Err, refl, sym, ap, ◌∙◌, append_assoc, arith}
 use Rattle.std.specs.List.{flat_map}
 use Rattle.std.specs.Option.{option_to_list}
-use Rattle.std.proofs.lemmas.List.{append-nil, map-append, length-map, length-append}
+use Rattle.std.proofs.lemmas.List.{map-append, length-map}
+use Rattle.std.proofs.lemmas.Option.{slice_get_cases}
 use Rattle.sa_lex.specs.declared.token.Token.{Token}
 use Rattle.sa_lex.specs.declared.token.TokenKind.TheVariants as token
 use Rattle.sa_lex.specs.declared.sign.Sign.TheVariants as sign
@@ -21,7 +22,7 @@ use Rattle.sa_parse_expr.specs.Places.{kind_at, unexpected_at}
 use Rattle.sa_parse_expr.specs.Readings.{Reading, Read, Refused}
 use Rattle.sa_parse_expr.specs.Tests.{is_sign}
 use Rattle.sa_parse_expr.proofs.Runs.{Runs, takes, handed_on, shut_sign}
-use Rattle.sa_parse_expr.proofs.Stretches.{past}
+use Rattle.sa_parse_expr.proofs.Stretches.{standing, past}
 use Rattle.sa_parse_expr.proofs.Tested.{sign_is}
 use Rattle.sa_parse.specs.declared.class.WholeClass.{WholeClass}
 use Rattle.sa_parse.specs.declared.file.FileKind.{FileKind}
@@ -137,6 +138,16 @@ module _ (t : Tokens) (file_kind : FileKind) (first : ℕ) where
 
   -- ---- what is read of the file
 
+  -- at the end of the file no token stands
+  pub ended : (at : ℕ) → kind_at t.list.now at ≡ None → length t.list.now ≤ at
+  ended at none = elim (slice_get_cases t.list.now at).1 [
+    | inl found ↦
+        let there = standing t at found.1 in
+        let same : kind_at t.list.now at ≡ Some there.0 = there.1 in
+        absurd (cc)
+    | inr end ↦ end.0
+  ]
+
   whole_read : (written : List Written) (next : ℕ) → length t.list.now ≤ next → Takes (file_form file_kind) t 0 written next
       → read_as (file_form file_kind) (lexemes_of t.file t.src.now t.list.now) ≡ Read written []
   unfolding lexemes_from
@@ -167,13 +178,13 @@ module _ (t : Tokens) (file_kind : FileKind) (first : ℕ) where
       → FileReads t.file t.src.now t.list.now file_kind first r
   class_refused at e r is h step = rw is (file_refused e (handed_on t (optional_class_form file_kind) at e refl h step))
 
-  -- ---- behind the rules of words and levels
+-- ---- behind the rules of words and levels
 
-  pub scanned : (r : Result Parsed FrontFault) → AreTaken t.list.now (length t.list.now) → FileReads t.file t.src.now t.list.now file_kind first r
-      → Parses t.file t.src.now t.list.now file_kind first r
-  scanned (Ok parsed) taken h = h
-  scanned (Err (fault.Refused refusal)) taken h = inr (taken, h)
-  scanned (Err fault.NoMemory) taken h = tt
+pub scanned : (file : ℕ) (text : List ℕ) (tokens : List Token) (file_kind : FileKind) (first : ℕ) (r : Result Parsed FrontFault) → AreTaken tokens (length tokens)
+    → FileReads file text tokens file_kind first r → Parses file text tokens file_kind first r
+scanned file text tokens file_kind first (Ok parsed) taken h = h
+scanned file text tokens file_kind first (Err (fault.Refused refusal)) taken h = inr (taken, h)
+scanned file text tokens file_kind first (Err fault.NoMemory) taken h = tt
 
 pub scan_refused : (file : ℕ) (text : List ℕ) (tokens : List Token) (file_kind : FileKind) (first : ℕ) (e : FrontFault) → RefusesTokens tokens file e
     → Parses file text tokens file_kind first (Err e)

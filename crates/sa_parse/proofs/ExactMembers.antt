@@ -55,7 +55,7 @@ none_last (a ∷ b ∷ more) = none_last (b ∷ more)
 
 -- where the features of the members behind one begin
 moved : (m : Declaration) (members : List Declaration) (place : ℕ)
-    → place + length (features_of m) + length (flat_map features_of members) ≡ place + length (flat_map features_of (m ∷ members))
+    → place + length (features_of m) + length (flat_map features_of members) ≡ place + length (features_of m ++ flat_map features_of members)
 moved m members place =
     let sum : length (features_of m ++ flat_map features_of members) ≡ length (features_of m) + length (flat_map features_of members) = length-append (features_of m) (flat_map features_of members) in
     omega (arith, sum)

@@ -75,6 +75,15 @@ least n = omega arith
 one_fits : 1 ≤ 1
 one_fits = omega arith
 
+-- one invariant at most is among the members of a class
+abbrev pub Single : Written → Type 0
+Single w = length (flat_map invariants_of w.members) ≤ 1
+
+-- the same of the class that is there, if one is
+pub data Singles : List Written → Type 0 where
+  no_class : Singles []
+  one_class : {w : Written} → Single w → Singles (w ∷ [])
+
 module _ (t : Tokens) where
   -- all trees that a form reads have the property
   record Yields {A : Type 0} (P : A → Type 0) (form : Form A) : Type 0 where
@@ -203,10 +212,6 @@ module _ (t : Tokens) where
 
   -- ---- classes
 
-  -- one invariant at most is among the members of a class
-  abbrev pub Single : Written → Type 0
-  Single w = length (flat_map invariants_of w.members) ≤ 1
-
   abstract_few : Yields Single abstract_form
   unfolding abstract_form
   abstract_few = yields_shift _ _ _ (λ l. yields_behind _ _ (λ head. yields_shift _ _ _ (λ l. yields_make _ _ (λ features. least 1)) yields_refuse)) yields_refuse
@@ -225,11 +230,6 @@ module _ (t : Tokens) where
       yields_shift _ _ _ (λ l. abstract_few)
       (yields_shift _ _ _ (λ l. concrete_few file_kind Immutable)
       (yields_shift _ _ _ (λ l. concrete_few file_kind Partial) (concrete_few file_kind Reference)))
-
-  -- the same of the class that is there, if one is
-  pub data Singles : List Written → Type 0 where
-    no_class : Singles []
-    one_class : {w : Written} → Single w → Singles (w ∷ [])
 
   optional_class_few : (file_kind : FileKind) → Yields Singles (optional_class_form file_kind)
   unfolding optional_class_form

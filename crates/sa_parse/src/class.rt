@@ -461,8 +461,8 @@ fn add_member(
     ensures next { IfOk result (IsFrom tokens.now.list.now from) }
     ensures refused { IfErr result (IsUnexpected tokens.now.file) }
     ensures exact { (others : List Declaration) → inside.old ≡ inside_of class.entry.place others
-            → ReadsMade (optional_member_form (enclosing class.entry) (none_yet others)) (λ more. inside_of class.entry.place (others ++ more)) tokens.now from
-            (with_tree inside.new result) }
+        → ReadsMade (optional_member_form (enclosing class.entry) (none_yet others)) (λ more. inside_of class.entry.place (others ++ more)) tokens.now from
+        (with_tree inside.new result) }
 {
     if !begins_member(tokens.kind(from), class, inside) {
         return Ok(from);

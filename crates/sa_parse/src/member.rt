@@ -82,8 +82,8 @@ pub(crate) fn member(
     ensures next { IfOk result (λ read. IsBehind tokens.now.list.now from read.1) }
     ensures refused { IfErr result (IsUnexpected tokens.now.file) }
     ensures exact { (invariants : Bool)
-            → (kind_at tokens.now.list.now from ≡ Some (token.Word word.Invariant) → (class.entry.file_kind ≡ Program) × (invariants ≡ true))
-            → ReadsAs (member_form (record { name = class.entry.name.now; kind = class.entry.kind; file_kind = class.entry.file_kind }) invariants) tokens.now from result }
+        → (kind_at tokens.now.list.now from ≡ Some (token.Word word.Invariant) → (class.entry.file_kind ≡ Program) × (invariants ≡ true))
+        → ReadsAs (member_form (record { name = class.entry.name.now; kind = class.entry.kind; file_kind = class.entry.file_kind }) invariants) tokens.now from result }
 {
     match tokens.kind(from) {
         Some(TokenKind::Word(Word::Private)) => {

@@ -31,4 +31,4 @@ returns-clause-exact c =
     let head = c.in_ok-head in
     let inside = c.in_ok-inside in
     λ place. exact.abstract_class t place c.args.from head.next inside.next _ _ _ begun.ensures.word (rw begun.ensures.next.0 at head.ensures.exact) inside.ensures.exact
-    (first_of (search rules, cc))
+    c.whole_class.ensures

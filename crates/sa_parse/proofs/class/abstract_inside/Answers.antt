@@ -1,6 +1,7 @@
-use Rattle.std.proofs.Common.{◌∙◌, rules}
+use Rattle.std.proofs.Common.{ap, rules}
 use Rattle.sa_parse_expr.proofs.Openings.{word_closed, word_unclosed}
 use Rattle.sa_parse_expr.proofs.Runs.{taken, takes, stops}
+use Rattle.sa_parse.specs.declared.class.Inside.{Inside}
 use Rattle.sa_parse.specs.ClassForms.{signatures_form}
 use Rattle.sa_parse.proofs.ExactClasses as exact
 use Rattle.sa_parse.proofs.class.abstract_inside.Goals as goal
@@ -39,5 +40,6 @@ returns-clause-exact c =
       taken = rw ends.next.0 (takes t
           (exact.behind_is t signatures_form c.args.from is.ensures.word
           (word_closed t features.next (taken t (rw is.ensures.next.0 at features.ensures.exact)) ends.word)));
-      same = first_of (cc, search rules);
+      same = ap (λ (inside : Inside). record { includes = inside.includes; features = features.features; clauses = inside.clauses; invariant = inside.invariant })
+          c.new-inside.ensures.exact;
     }

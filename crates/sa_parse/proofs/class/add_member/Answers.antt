@@ -14,7 +14,7 @@ pub returns-then-not-begins_member-clause-exact : goal.returns-then-not-begins_m
 returns-then-not-begins_member-clause-exact c =
     let t = c.args.tokens.now in
     let class = c.args.class in
-    let begins : begins_member class.kind class.file_kind c.args.inside.old.invariant (kind_at t.list.now c.args.from) ≡ false = search rules in
+    let begins : begins_member class.kind class.file_kind c.args.inside.now.invariant (kind_at t.list.now c.args.from) ≡ false = search rules in
     λ others was. record {
       written = [];
       taken = exact.no_member t class.name.now class.kind class.file_kind others c.args.from (rw was at begins);
@@ -25,7 +25,7 @@ pub returns-in_err-member-clause-exact : goal.returns-in_err-member-clause-exact
 returns-in_err-member-clause-exact c =
     let t = c.args.tokens.now in
     let class = c.args.class in
-    let begins : begins_member class.kind class.file_kind c.args.inside.old.invariant (kind_at t.list.now c.args.from) ≡ true = search rules in
+    let begins : begins_member class.kind class.file_kind c.args.inside.now.invariant (kind_at t.list.now c.args.from) ≡ true = search rules in
     λ others was.
     made_on t (member_form (enclosing class) (none_yet others)) c.args.from _ (first_of (search rules, cc))
     (c.in_err-member.ensures.exact (none_yet others) (λ there. exact.where_invariant t class.name.now class.kind class.file_kind others c.args.from (rw was at begins) there))
@@ -35,7 +35,7 @@ pub returns-clause-exact : goal.returns-clause-exact
 returns-clause-exact c =
     let t = c.args.tokens.now in
     let class = c.args.class in
-    let begins : begins_member class.kind class.file_kind c.args.inside.old.invariant (kind_at t.list.now c.args.from) ≡ true = search rules in
+    let begins : begins_member class.kind class.file_kind c.args.inside.now.invariant (kind_at t.list.now c.args.from) ≡ true = search rules in
     let one = c.in_ok-member in
     let put = c.in_ok-put.ensures in
     λ others was. record {

@@ -39,4 +39,4 @@ returns-clause-exact c =
     let head = c.in_ok-head in
     let inside = c.in_ok-inside in
     exact.concrete_class t c.args.file_kind c.args.place c.args.from kind.result.1 head.next inside.next kind.result.0 head.head _ _ kind.ensures.exact begun.ensures.word
-    (rw begun.ensures.next.0 at head.ensures.exact) inside.ensures.exact (first_of (search rules, cc))
+    (rw begun.ensures.next.0 at head.ensures.exact) inside.ensures.exact c.whole_class.ensures

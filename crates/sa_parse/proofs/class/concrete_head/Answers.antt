@@ -1,4 +1,4 @@
-use Rattle.std.proofs.Common.{rules}
+use Rattle.std.proofs.Common.{arith, rules}
 use Rattle.sa_lex.specs.declared.sign.Sign.TheVariants as sign
 use Rattle.sa_parse_expr.specs.StatementForms.{name_as}
 use Rattle.sa_parse_expr.specs.Tests.{is_class_name}
@@ -41,4 +41,4 @@ returns-clause-exact c =
     (takes t
     (exact.concrete_named t c.args.from _ named
     (follows t (taken t (rw name.ensures.alone at params.ensures.exact)) (makes t below.next (taken t below.ensures.exact)))))
-    (first_of (cc, search rules))
+    (first_of (cc, search rules, grind arith))

@@ -23,7 +23,7 @@ more-preserved c =
     let t = c.args.tokens.now in
     let begun = c.more.invariant in
     let semicolon : kind_at t.list.now c.more.next ≡ Some (token.Sign sign.Semicolon) = search rules in
-    let one = c.in_ok-next-2.ensures in
+    let one = c.in_ok-add_member.ensures in
     record {
       behind = (omega (arith, begun.behind.0, one.next.0), one.next.1);
       count = one.count;
@@ -36,13 +36,13 @@ returns-in_err-next-clause-exact c =
     made_on t (optional_member_form (enclosing c.args.class) true) c.args.from _ (search rules)
     (bare_refusal t _ (c.in_err-next.ensures.exact [] c.new-inside.ensures.exact)) (λ rest r. exact.first_refused t (enclosing c.args.class) c.args.from r)
 
-pub returns-in_err-next-2-clause-exact : goal.returns-in_err-next-2-clause-exact
-returns-in_err-next-2-clause-exact c =
+pub returns-in_err-add_member-clause-exact : goal.returns-in_err-add_member-clause-exact
+returns-in_err-add_member-clause-exact c =
     let t = c.args.tokens.now in
     let read = c.more.invariant.read in
     let semicolon : kind_at t.list.now c.more.next ≡ Some (token.Sign sign.Semicolon) = search rules in
     made_on t (optional_member_form (enclosing c.args.class) (none_yet read.members)) (c.more.next + 1) _ (search rules)
-    (bare_refusal t _ (c.in_err-next-2.ensures.exact read.members read.same))
+    (bare_refusal t _ (c.in_err-add_member.ensures.exact read.members read.same))
     (λ rest r. exact.next_refused t (enclosing c.args.class) c.args.from c.more.next read.members read.read semicolon r)
 
 pub returns-clause-exact : goal.returns-clause-exact

@@ -1,4 +1,4 @@
-use Rattle.std.proofs.Common.{◌≡◌, ◌≢◌, ◌⊎◌, Some, rules}
+use Rattle.std.proofs.Common.{◌≡◌, ◌≢◌, ◌⊎◌, [], ◌∷◌, Some, ap, rules}
 use Rattle.sa_lex.specs.declared.token.TokenKind.TheVariants as token
 use Rattle.sa_parse_expr.specs.Places.{kind_at}
 use Rattle.sa_parse_expr.proofs.Runs.{taken, takes, handed_on, stops, makes}
@@ -31,4 +31,4 @@ returns-clause-exact c =
     let there = feature_stands t c.args.from kinds in
     let sig = c.in_ok-sig in
     same_tree t (takes t (exact.sig_there t c.args.from there.kind there.there (feature_met there.is) (makes t sig.next (taken t sig.ensures.exact))))
-    (first_of (cc, search rules))
+    (ap (λ feature. feature ∷ []) c.of_sig.ensures)

@@ -15,4 +15,4 @@ pub returns-clause-exact : goal.returns-clause-exact
 returns-clause-exact c =
     let t = c.args.tokens.now in
     let there : kind_at t.list.now c.args.from ≡ Some (token.Sign c.args.sign) = search rules in
-    instead t (λ v r. exact.behind_sign t c.args.sign c.args.from there r) _ c.read_types.ensures.exact
+    instead t (λ v r. exact.behind_sign t c.args.sign c.args.from there r) c.read_types.result c.read_types.ensures.exact

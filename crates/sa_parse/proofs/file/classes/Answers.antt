@@ -1,4 +1,4 @@
-use Rattle.std.proofs.Common.{◌≡◌, ◌≢◌, ◌+◌, ◌<◌, ◌≤◌, length, Some, arith, refl, rules}
+use Rattle.std.proofs.Common.{◌≡◌, ◌≢◌, ◌+◌, ◌<◌, length, Some, None, arith, refl, rules}
 use Rattle.sa_lex.specs.declared.token.TokenKind.TheVariants as token
 use Rattle.sa_lex.specs.declared.sign.Sign.TheVariants as sign
 use Rattle.sa_parse_expr.specs.Places.{kind_at}
@@ -13,7 +13,7 @@ more-init c =
     let put = c.in_ok-put.ensures in
     record {
       behind = one.ensures.next;
-      count = grind arith;
+      count = first_of (grind arith, search rules);
       read = exact.first_parsed t c.args.file_kind c.args.first one.next one.one _ _ c.new-parsed.ensures one.ensures.exact put.classes put.contracts;
     }
 
@@ -26,8 +26,8 @@ more-preserved c =
     let put = c.in_ok-put-2.ensures in
     record {
       behind = (omega (arith, begun.behind.0, one.ensures.next.0), one.ensures.next.1);
-      count = grind arith;
-      read = exact.next_parsed t c.args.file_kind c.args.first _ c.more.next one.end one.one _ _ begun.read (first_of (search rules, grind arith)) semicolon one.ensures.exact put.classes put.contracts;
+      count = omega (arith, begun.count, put.count, one.ensures.next.0);
+      read = exact.next_parsed t c.args.file_kind c.args.first _ c.more.next one.end one.one _ _ begun.read (first_of (search rules, grind arith, omega (arith, begun.count, begun.behind.1, c.requires))) semicolon one.ensures.exact put.classes put.contracts;
     }
 
 pub returns-in_err-one-clause-exact : goal.returns-in_err-one-clause-exact
@@ -47,12 +47,13 @@ pub returns-in-None-clause-exact : goal.returns-in-None-clause-exact
 returns-in-None-clause-exact c =
     let t = c.args.tokens.now in
     let other : kind_at t.list.now c.more.next ≢ Some (token.Sign sign.Semicolon) = search rules in
-    let end : length t.list.now ≤ c.more.next = search rules in
+    let none : kind_at t.list.now c.more.next ≡ None = first_of (search rules, grind arith) in
+    let end = exact.ended t c.args.file_kind c.args.first c.more.next none in
     exact.file_read t c.args.file_kind c.args.first c.more.next _ _ c.more.invariant.read other end refl
 
 pub returns-in-Some-clause-exact : goal.returns-in-Some-clause-exact
 returns-in-Some-clause-exact c =
     let t = c.args.tokens.now in
     let other : kind_at t.list.now c.more.next ≢ Some (token.Sign sign.Semicolon) = search rules in
-    let short : c.more.next < length t.list.now = search rules in
+    let short : c.more.next < length t.list.now = first_of (search rules, grind arith) in
     exact.file_left t c.args.file_kind c.args.first c.more.next _ c.unexpected.result _ refl c.unexpected.ensures.value c.more.invariant.read other short

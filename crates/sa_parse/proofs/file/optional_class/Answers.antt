@@ -1,4 +1,4 @@
-use Rattle.std.proofs.Common.{◌≡◌, true, false, refl, rules}
+use Rattle.std.proofs.Common.{◌≡◌, true, false, [], refl, rules}
 use Rattle.sa_parse_expr.specs.Places.{kind_at}
 use Rattle.sa_parse_expr.proofs.Runs.{stops}
 use Rattle.sa_parse.specs.ClassForms.{class_form}
@@ -10,7 +10,7 @@ pub returns-then-not-begins_class-clause-exact : goal.returns-then-not-begins_cl
 returns-then-not-begins_class-clause-exact c =
     let t = c.args.tokens.now in
     let none : begins_class (kind_at t.list.now c.args.from) ≡ false = search rules in
-    record { written = _; taken = exact.no_class t c.args.file_kind c.args.from none; same = refl }
+    record { written = []; taken = exact.no_class t c.args.file_kind c.args.from none; same = refl }
 
 pub returns-in_err-class-clause-exact : goal.returns-in_err-class-clause-exact
 returns-in_err-class-clause-exact c =

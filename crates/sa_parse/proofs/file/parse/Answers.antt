@@ -7,4 +7,4 @@ returns-in_err-scan-clause-exact c =
     exact.scan_refused c.args.file c.args.src.now c.args.tokens.now c.args.file_kind c.args.first _ c.in_err-scan.ensures.refused
 
 pub returns-clause-exact : goal.returns-clause-exact
-returns-clause-exact c = exact.scanned _ c.args.file_kind c.args.first _ c.in_ok-scan.ensures.taken c.classes.ensures.exact
+returns-clause-exact c = exact.scanned c.args.file c.args.src.now c.args.tokens.now c.args.file_kind c.args.first c.classes.result c.in_ok-scan.ensures.taken c.classes.ensures.exact
