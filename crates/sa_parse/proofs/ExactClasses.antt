@@ -11,7 +11,7 @@ use Rattle.sa_tree.specs.declared.refusal.FrontFault.{FrontFault}
 use Rattle.sa_tree.specs.declared.refusal.FrontFault.TheVariants as fault
 use Rattle.sa_tree.specs.declared.class.Access.TheVariants.{Public}
 use Rattle.sa_tree.specs.declared.class.Kind.{Kind}
-use Rattle.sa_tree.specs.declared.class.Kind.TheVariants.{Reference, Immutable, Abstract, Partial}
+use Rattle.sa_tree.specs.declared.class.Kind.TheVariants.{Abstract}
 use Rattle.sa_tree.specs.declared.class.Part.TheVariants as part
 use Rattle.sa_tree.specs.declared.class.Feature.{Feature}
 use Rattle.sa_parse_expr.specs.declared.tokens.Tokens.{Tokens}

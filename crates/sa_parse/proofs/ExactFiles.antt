@@ -1,5 +1,5 @@
 -- Files, as their form reads them, and the classes and contracts that are made of them.
-use Rattle.std.proofs.Common.{◌≡◌, ◌≢◌, ℕ, suc, ◌+◌, ◌<◌, ◌≤◌, ◌⊎◌, inl, inr, List, [], ◌∷◌, ◌++◌, length, map, Option, Some, None, Result, Ok, Err, refl, sym, ap, ◌∙◌, append_assoc, arith}
+use Rattle.std.proofs.Common.{◌≡◌, ◌≢◌, ℕ, suc, ◌+◌, ◌<◌, ◌≤◌, inl, inr, List, [], ◌∷◌, ◌++◌, length, map, Option, Some, None, Result, Ok, Err, refl, sym, ap, ◌∙◌, append_assoc, arith}
 use Rattle.std.specs.List.{flat_map}
 use Rattle.std.specs.Option.{option_to_list}
 use Rattle.std.proofs.lemmas.List.{map-append, length-map}
@@ -19,7 +19,7 @@ use Rattle.sa_parse_expr.specs.Grammar.{read_as}
 use Rattle.sa_parse_expr.specs.Level.{AreTaken, RefusesTokens}
 use Rattle.sa_parse_expr.specs.Lexemes.{Lexeme, lexemes_of}
 use Rattle.sa_parse_expr.specs.Places.{kind_at, unexpected_at}
-use Rattle.sa_parse_expr.specs.Readings.{Reading, Read, Refused}
+use Rattle.sa_parse_expr.specs.Readings.{Read, Refused}
 use Rattle.sa_parse_expr.specs.Tests.{is_sign}
 use Rattle.sa_parse_expr.proofs.Runs.{Runs, takes, handed_on, shut_sign}
 use Rattle.sa_parse_expr.proofs.Stretches.{standing, past}
@@ -29,7 +29,7 @@ use Rattle.sa_parse.specs.declared.file.FileKind.{FileKind}
 use Rattle.sa_parse.specs.declared.file.Parsed.{Parsed}
 use Rattle.sa_parse.specs.ClassForms.{optional_class_form, file_form}
 use Rattle.sa_parse.specs.Classes.{Written, class_of, clauses_from, contracts_of, contracts_from, last_of, whole_of, contracts_in, parsed_of}
-use Rattle.sa_parse.specs.Files.{IsRead, IsRefused, refused, left, FileReads, Parses}
+use Rattle.sa_parse.specs.Files.{IsRead, refused, left, FileReads, Parses}
 use Rattle.sa_parse.specs.Made.{TakesMade}
 use Rattle.sa_parse.proofs.ExactBodies.{Joins, first_joined, next_joined, all_joined, first_join_refused, next_join_refused}
 use Rattle.sa_parse.proofs.Yields.{Single, Singles, no_class, one_class, singles}

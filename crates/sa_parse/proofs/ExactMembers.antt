@@ -14,11 +14,11 @@ use Rattle.sa_tree.specs.declared.class.Include.{Include}
 use Rattle.sa_tree.specs.declared.contract.Condition.{Condition}
 use Rattle.sa_tree.specs.declared.contract.Contract.{Contract}
 use Rattle.sa_parse_expr.specs.declared.tokens.Tokens.{Tokens}
-use Rattle.sa_parse_expr.specs.Exactly.{lexemes_from, Takes}
-use Rattle.sa_parse_expr.specs.Forms.{Form, give, make, repeat, opens}
+use Rattle.sa_parse_expr.specs.Exactly.{Takes}
+use Rattle.sa_parse_expr.specs.Forms.{Form, make, opens}
 use Rattle.sa_parse_expr.specs.Lexemes.{Lexeme, lexeme_at}
 use Rattle.sa_parse_expr.specs.Places.{kind_at}
-use Rattle.sa_parse_expr.specs.Readings.{Reading, Read, Refused}
+use Rattle.sa_parse_expr.specs.Readings.{Reading, Refused}
 use Rattle.sa_parse_expr.specs.Tests.{is_sign}
 use Rattle.sa_parse_expr.proofs.Runs.{Runs, taken, takes, gives, follows, stops, makes, first_one, second_one, meets_by, shut_by, shut_sign}
 use Rattle.sa_parse_expr.proofs.Runs.{Turns, no_turn, next_turn, turn_refused, all_turned}

@@ -1,5 +1,5 @@
 -- What the trees that a form reads have in common: of the members of a class one is an invariant at most.
-use Rattle.std.proofs.Common.{◌≡◌, ℕ, zero, suc, ◌+◌, ◌≤◌, Bool, true, false, cond, List, [], ◌∷◌, ◌++◌, length, sym, refl, ap, ◌∙◌, arith}
+use Rattle.std.proofs.Common.{◌≡◌, ℕ, zero, suc, ◌+◌, ◌≤◌, Bool, true, false, cond, List, [], ◌∷◌, ◌++◌, length, ap, ◌∙◌, arith}
 use Rattle.std.specs.List.{flat_map}
 use Rattle.std.proofs.lemmas.List.{length-append}
 use Rattle.std.proofs.lemmas.Grind.{flat_map-append}
@@ -11,14 +11,13 @@ use Rattle.sa_lex.specs.declared.word.Word.{Word}
 use Rattle.sa_lex.specs.declared.word.Word.TheVariants as word
 use Rattle.sa_parse_expr.specs.declared.tokens.Tokens.{Tokens}
 use Rattle.sa_parse_expr.specs.Exactly.{lexemes_from, Takes}
-use Rattle.sa_parse_expr.specs.Forms.{Form, Reader, Nested, Tree, give, refuse, shift, either, follow, repeat, make, until_word, behind, shifted, repeated, run, opens}
+use Rattle.sa_parse_expr.specs.Forms.{Form, Reader, give, refuse, shift, either, follow, repeat, make, until_word, behind, repeated, opens}
 use Rattle.sa_parse_expr.specs.Lexemes.{Lexeme}
 use Rattle.sa_parse_expr.specs.Readings.{Reading, Read, Refused}
-use Rattle.sa_parse_expr.proofs.Runs.{level, at_level, Runs, taken}
+use Rattle.sa_parse_expr.proofs.Runs.{level, at_level, taken}
 use Rattle.sa_parse.specs.declared.file.FileKind.{FileKind}
 use Rattle.sa_parse.specs.declared.file.FileKind.TheVariants.{Prelude, Program}
 use Rattle.sa_parse.specs.declared.member.Declaration.{Declaration}
-use Rattle.sa_parse.specs.declared.member.Declaration.TheVariants as member
 use Rattle.sa_parse.specs.ClassForms.{optional_member_form, is_empty, none_yet, members_form, abstract_form, concrete_form, class_form, optional_class_form}
 use Rattle.sa_parse.specs.Classes.{Written, invariants_of}
 use Rattle.sa_parse.specs.FeatureForms.{member_form, open_form, declared_or, stub_or, builtin_or, invariant_or, routine_form, include_form}
@@ -60,13 +59,17 @@ count_more : (all more : List Declaration) → count (all ++ more) ≡ count all
 count_more all more = ap length (flat_map-append invariants_of all more) ∙ length-append (flat_map invariants_of all) (flat_map invariants_of more)
 
 fits : (all : List Condition) (n : ℕ) → length all ≤ 1 → n ≤ most (is_empty all) → length all + n ≤ 1
-fits [] n few h = h
-fits (holds ∷ all) n few h = omega (arith, few, h)
+fits [] n few h =
+    let bound : n ≤ 1 = h in
+    omega (arith, bound)
+fits (holds ∷ all) n few h =
+    let bound : n ≤ 0 = h in
+    omega (arith, few, bound)
 
 more_fit : (all more : List Declaration) → count all ≤ 1 → count more ≤ most (none_yet all) → count (all ++ more) ≤ 1
 more_fit all more few h =
-    let whole = fits (flat_map invariants_of all) (count more) few h in
-    let sum = count_more all more in
+    let whole : count all + count more ≤ 1 = fits (flat_map invariants_of all) (count more) few h in
+    let sum : count (all ++ more) ≡ count all + count more = count_more all more in
     omega (arith, whole, sum)
 
 least : (n : ℕ) → 0 ≤ n

@@ -13,30 +13,31 @@ use Rattle.sa_parse.specs.declared.file.Parsed.{Parsed}
 use Rattle.sa_parse.specs.ClassForms.{file_form}
 use Rattle.sa_parse.specs.Classes.{Written, parsed_of}
 
-module _ (file : ℕ) (text : List ℕ) (tokens : List Token) (file_kind : FileKind) where
-  -- the lexemes of the file, all of them, are these classes as they are written, and what was parsed is made of them. The first
-  -- class has the place `first`
-  pub record IsRead (first : ℕ) (parsed : Parsed) : Type 0 where
-    pub written : List Written
-    pub all : read_as (file_form file_kind) (lexemes_of file text tokens) ≡ Read written []
-    pub made : parsed ≡ parsed_of first written
+-- the lexemes of the file, all of them, are these classes as they are written, and what was parsed is made of them. The first class
+-- has the place `first`
+pub record IsRead (file : ℕ) (text : List ℕ) (tokens : List Token) (file_kind : FileKind) (first : ℕ) (parsed : Parsed) : Type 0 where
+  pub written : List Written
+  pub all : read_as (file_form file_kind) (lexemes_of file text tokens) ≡ Read written []
+  pub made : parsed ≡ parsed_of first written
 
-  -- E06 at the lexeme that the form of files refuses, or at the first one that it leaves
-  pub data IsRefused : FrontFault → Type 0 where
-    refused : (at : ℕ) → read_as (file_form file_kind) (lexemes_of file text tokens) ≡ Refused (drop at (lexemes_of file text tokens))
-        → IsRefused (unexpected_at file text tokens at)
-    left : (written : List Written) (at : ℕ) → read_as (file_form file_kind) (lexemes_of file text tokens) ≡ Read written (drop at (lexemes_of file text tokens))
-        → at < length tokens → IsRefused (unexpected_at file text tokens at)
+-- E06 at the lexeme that the form of files refuses, or at the first one that it leaves
+pub data IsRefused (file : ℕ) (text : List ℕ) (tokens : List Token) (file_kind : FileKind) : FrontFault → Type 0 where
+  refused : (at : ℕ) → read_as (file_form file_kind) (lexemes_of file text tokens) ≡ Refused (drop at (lexemes_of file text tokens))
+      → IsRefused file text tokens file_kind (unexpected_at file text tokens at)
+  left : (written : List Written) (at : ℕ)
+      → read_as (file_form file_kind) (lexemes_of file text tokens) ≡ Read written (drop at (lexemes_of file text tokens))
+      → at < length tokens → IsRefused file text tokens file_kind (unexpected_at file text tokens at)
 
-  -- what the form of files reads, or refuses. Where memory ran out nothing is said
-  abbrev pub FileReads : ℕ → Result Parsed FrontFault → Type 0
-  FileReads first (Ok parsed) = IsRead first parsed
-  FileReads first (Err (fault.Refused refusal)) = IsRefused (fault.Refused refusal)
-  FileReads first (Err fault.NoMemory) = ⊤
+-- what the form of files reads, or refuses. Where memory ran out nothing is said
+abbrev pub FileReads : ℕ → List ℕ → List Token → FileKind → ℕ → Result Parsed FrontFault → Type 0
+FileReads file text tokens file_kind first (Ok parsed) = IsRead file text tokens file_kind first parsed
+FileReads file text tokens file_kind first (Err (fault.Refused refusal)) = IsRefused file text tokens file_kind (fault.Refused refusal)
+FileReads file text tokens file_kind first (Err fault.NoMemory) = ⊤
 
-  -- the same where no token breaks the rules of words and levels, and else the refusal of the first one that does
-  abbrev pub Parses : ℕ → Result Parsed FrontFault → Type 0
-  Parses first (Ok parsed) = IsRead first parsed
-  Parses first (Err (fault.Refused refusal)) =
-      RefusesTokens tokens file (fault.Refused refusal) ⊎ (AreTaken tokens (length tokens) × IsRefused (fault.Refused refusal))
-  Parses first (Err fault.NoMemory) = ⊤
+-- the same where no token breaks the rules of words and levels, and else the refusal of the first one that does
+abbrev pub Parses : ℕ → List ℕ → List Token → FileKind → ℕ → Result Parsed FrontFault → Type 0
+Parses file text tokens file_kind first (Ok parsed) = IsRead file text tokens file_kind first parsed
+Parses file text tokens file_kind first (Err (fault.Refused refusal)) =
+    RefusesTokens tokens file (fault.Refused refusal)
+    ⊎ (AreTaken tokens (length tokens) × IsRefused file text tokens file_kind (fault.Refused refusal))
+Parses file text tokens file_kind first (Err fault.NoMemory) = ⊤
