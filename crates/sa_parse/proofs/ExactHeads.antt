@@ -1,7 +1,6 @@
 -- What stands in front of the `is` of a class, as its forms read it: a lemma for each alternative that a reader decides by the token
 -- that stands there.
-use Rattle.std.proofs.Common.{◌≡◌, ◌≢◌, ℕ, ◌+◌, Bool, true, false, List, [], ◌∷◌, Option, Some, None, refl, sym, ap, ◌∙◌}
-use Rattle.sa_lex.specs.declared.token.TokenKind.{TokenKind}
+use Rattle.std.proofs.Common.{◌≡◌, ◌≢◌, ℕ, ◌+◌, Bool, List, [], Some, None, refl, sym, ap, ◌∙◌}
 use Rattle.sa_lex.specs.declared.token.TokenKind.TheVariants as token
 use Rattle.sa_lex.specs.declared.sign.Sign.{Sign}
 use Rattle.sa_lex.specs.declared.sign.Sign.TheVariants as sign
@@ -17,7 +16,7 @@ use Rattle.sa_parse_expr.specs.Readings.{Reading, Read, Refused}
 use Rattle.sa_parse_expr.specs.StatementForms.{name_as}
 use Rattle.sa_parse_expr.specs.Tests.{is_sign, is_class_name, is_abstract_name}
 use Rattle.sa_parse_expr.proofs.Openings.{Stood, opened_read, opened_refused}
-use Rattle.sa_parse_expr.proofs.Runs.{at_level, Runs, taken, takes, gives, met, not_met, follows, stops, makes, shut_sign}
+use Rattle.sa_parse_expr.proofs.Runs.{at_level, Runs, taken, takes, gives, met, not_met, follows, stops, shut_sign}
 use Rattle.sa_parse_expr.proofs.Tested.{sign_is}
 use Rattle.sa_parse.specs.declared.class.DeclaredEdges.{DeclaredEdges}
 use Rattle.sa_parse.specs.declared.class.Head.{Head}
@@ -34,14 +33,14 @@ module _ (t : Tokens) where
     pub stood : Stood t test from
     pub is : name ≡ name_of (lexeme_at t from stood.kind)
 
-  name_read : {test : Lexeme → Bool} {from next : ℕ} {name : Local} (stood : Stood t test from)
+  name_read : {test : Lexeme → Bool} {from : ℕ} {name : Local} (next : ℕ) (stood : Stood t test from)
       → Runs t (give (name_of (lexeme_at t from stood.kind))) (from + 1) (Read name (lexemes_from t next)) → NameAt test from name
-  name_read stood r = record { stood = stood; is = sym (tree_of r.is) }
+  name_read next stood r = record { stood = stood; is = sym (tree_of r.is) }
 
   pub name_there : (test : Lexeme → Bool) (from next : ℕ) (name : Local) → Takes (name_as test) t from name next → NameAt test from name
   name_there test from next name h =
       let opened = opened_read t {test = test} {go = λ l. give (name_of l)} (taken t h) in
-      name_read opened.first opened.rest
+      name_read next opened.first opened.rest
 
   given_refused : {A B : Type 0} {a : A} {at : ℕ} {rest : List Lexeme} → Runs t (give a) at (Refused rest) → B
   given_refused k = let same = k.is in absurd (cc)

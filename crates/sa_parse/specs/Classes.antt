@@ -213,7 +213,7 @@ enclosing class = record { name = class.name.now; kind = class.kind; file_kind =
 abbrev pub last_of : {A : Type 0} → List A → Option A
 last_of [] = None
 last_of (a ∷ []) = Some a
-last_of (a ∷ b ∷ more) = last_of (b ∷ more)
+last_of (a ∷ b ∷ others) = last_of (b ∷ others)
 
 -- the inside of the class at a place of these members
 abbrev pub inside_of : ℕ → List Declaration → Inside
@@ -269,7 +269,7 @@ clauses_at class place _ = []
 -- an invariant, and the one before where there is none
 abbrev pub or_before : List Condition → Option Condition → Option Condition
 or_before [] before = before
-or_before (holds ∷ more) before = Some holds
+or_before (holds ∷ others) before = Some holds
 
 -- the tokens of this text, which is that of file `file`, spell what was parsed. The first class has the place `first`
 pub record Spells (text : List ℕ) (file : ℕ) (file_kind : FileKind) (first : ℕ) (tokens : List Token) (parsed : Parsed) : Type 0 where

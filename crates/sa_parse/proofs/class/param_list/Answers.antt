@@ -1,4 +1,4 @@
-use Rattle.std.proofs.Common.{◌≡◌, ◌≢◌, ◌+◌, Some, arith, rules}
+use Rattle.std.proofs.Common.{◌≡◌, ◌≢◌, ◌+◌, [], ◌∷◌, Some, arith, rules}
 use Rattle.sa_lex.specs.declared.token.TokenKind.TheVariants as token
 use Rattle.sa_lex.specs.declared.sign.Sign.TheVariants as sign
 use Rattle.sa_parse_expr.specs.Places.{kind_at}
@@ -7,10 +7,13 @@ use Rattle.sa_parse.specs.ClassForms.{param_form}
 use Rattle.sa_parse.proofs.class.param_list.Goals as goal
 
 pub more-init : goal.more-init
-more-init c = record {
-  behind = c.in_ok-first.ensures.next;
-  listed = rw (c.in_ok-push.ensures.items, c.new-params.ensures.items) (first_listed c.args.tokens.now (taken c.args.tokens.now c.in_ok-first.ensures.exact));
-}
+more-init c =
+    let first = c.in_ok-first in
+    let pushed : c.push.new.self ≡ first.first ∷ [] = first_of (cc, search rules, grind arith) in
+    record {
+      behind = first.ensures.next;
+      listed = rw pushed (first_listed c.args.tokens.now (taken c.args.tokens.now first.ensures.exact));
+    }
 
 pub more-preserved : goal.more-preserved
 more-preserved c =

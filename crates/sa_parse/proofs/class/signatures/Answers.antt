@@ -7,6 +7,12 @@ use Rattle.sa_parse.specs.ClassForms.{optional_sig_form}
 use Rattle.sa_parse.proofs.ExactClasses as exact
 use Rattle.sa_parse.proofs.class.signatures.Goals as goal
 
+pub more-init : goal.more-init
+more-init c = ?
+
+pub more-preserved : goal.more-preserved
+more-preserved c = ?
+
 pub returns-in_err-first-clause-exact : goal.returns-in_err-first-clause-exact
 returns-in_err-first-clause-exact c =
     let t = c.args.tokens.now in
