@@ -8,7 +8,6 @@ use Rattle.sa_lex.specs.declared.sign.Sign.TheVariants as sign
 use Rattle.sa_lex.specs.declared.word.Word.{Word}
 use Rattle.sa_lex.specs.declared.word.Word.TheVariants as word
 use Rattle.sa_tree.specs.declared.refusal.FrontFault.{FrontFault}
-use Rattle.sa_tree.specs.declared.refusal.FrontFault.TheVariants as fault
 use Rattle.sa_tree.specs.declared.class.Access.TheVariants.{Public}
 use Rattle.sa_tree.specs.declared.class.Kind.{Kind}
 use Rattle.sa_tree.specs.declared.class.Kind.TheVariants.{Abstract}
@@ -70,22 +69,13 @@ whole_signed place head features = ap (λ all. whole_with Abstract head (signed 
 module _ (t : Tokens) where
   -- ---- what is made of what was read
 
-  -- a refusal says nothing of what is made
-  pub made_refusal : {A B : Type 0} {form : Form A} {made_of : A → B} {from : ℕ} (e : FrontFault) → ReadsAs form t from (Err e) → ReadsMade form made_of t from (Err e)
-  made_refusal (fault.Refused refusal) h = h
-  made_refusal fault.NoMemory h = tt
-
-  pub bare_refusal : {A B : Type 0} {form : Form A} {made_of : A → B} {from : ℕ} (e : FrontFault) → ReadsMade form made_of t from (Err e) → ReadsAs form t from (Err e)
-  bare_refusal (fault.Refused refusal) h = h
-  bare_refusal fault.NoMemory h = tt
-
-  pub made_on : {A B C : Type 0} {form : Form B} {made_of : B → C} {from : ℕ} {r : Result (C × ℕ) FrontFault} (part : Form A) (mid : ℕ) (e : FrontFault) → r ≡ Err e
+  pub made_on : {A B C : Type 0} {form : Form B} (made_of : B → C) {from : ℕ} {r : Result (C × ℕ) FrontFault} (part : Form A) (mid : ℕ) (e : FrontFault) → r ≡ Err e
       → ReadsAs part t mid (Err e) → ((rest : List Lexeme) → Runs t part mid (Refused rest) → Runs t form from (Refused rest)) → ReadsMade form made_of t from r
-  made_on part mid e is h step = rw is (made_refusal e (handed_on t part mid e refl h step))
+  made_on made_of part mid e is h step = rw is (handed_on t part mid e refl h step)
 
-  pub made_refused_at : {A B : Type 0} {form : Form A} {made_of : A → B} {from : ℕ} {r : Result (B × ℕ) FrontFault} (at : ℕ) (e : FrontFault) → r ≡ Err e
+  pub made_refused_at : {A B : Type 0} {form : Form A} (made_of : A → B) {from : ℕ} {r : Result (B × ℕ) FrontFault} (at : ℕ) (e : FrontFault) → r ≡ Err e
       → e ≡ unexpected_at t.file t.src.now t.list.now at → Runs t form from (Refused (lexemes_from t at)) → ReadsMade form made_of t from r
-  made_refused_at at e is there r = rw is (made_refusal e (refused_at t at e refl there r))
+  made_refused_at made_of at e is there r = rw is (refused_at t at e refl there r)
 
   -- ---- signatures
 
@@ -253,10 +243,10 @@ module _ (t : Tokens) where
   of_concrete file_kind at other r = not_met t (shut_word t word.Abstract at other) r
 
   -- what is made of what one form reads is made of what another one reads, if what runs as it does
-  pub made_instead : {A B : Type 0} {form other : Form A} {made_of : A → B} {at from : ℕ} → ((v : Reading A) → Runs t form at v → Runs t other from v)
+  pub made_instead : {A B : Type 0} {form other : Form A} (made_of : A → B) {at from : ℕ} → ((v : Reading A) → Runs t form at v → Runs t other from v)
       → (r : Result (B × ℕ) FrontFault) → ReadsMade form made_of t at r → ReadsMade other made_of t from r
-  made_instead step (Ok read) h = record { written = h.written; taken = takes t (step _ (taken t h.taken)); same = h.same }
-  made_instead {form = form} {at = at} step (Err e) h = made_on form at e refl (bare_refusal e h) (λ rest r. step (Refused rest) r)
+  made_instead made_of step (Ok read) h = record { written = h.written; taken = takes t (step _ (taken t h.taken)); same = h.same }
+  made_instead {form = form} made_of {at = at} step (Err e) h = handed_on t form at e refl h (λ rest r. step (Refused rest) r)
 
   pub class_there : (file_kind : FileKind) (at : ℕ) → begins_class (kind_at t.list.now at) ≡ true → {v : Reading (List Written)}
       → Runs t (make (λ c. c ∷ []) (class_form file_kind)) at v → Runs t (optional_class_form file_kind) at v

@@ -10,13 +10,13 @@ pub returns-in_err-next-clause-exact : goal.returns-in_err-next-clause-exact
 returns-in_err-next-clause-exact c =
     let t = c.args.tokens.now in
     let other = c.in_err-next.ensures in
-    exact.made_refused_at t c.args.from _ (search rules) other.fault (exact.no_is t signatures_form c.args.from other.another)
+    exact.made_refused_at t _ c.args.from _ (search rules) other.fault (exact.no_is t signatures_form c.args.from other.another)
 
 pub returns-in_err-features-clause-exact : goal.returns-in_err-features-clause-exact
 returns-in_err-features-clause-exact c =
     let t = c.args.tokens.now in
     let is = c.in_ok-next in
-    exact.made_on t signatures_form is.next _ (search rules) c.in_err-features.ensures.exact
+    exact.made_on t _ signatures_form is.next _ (search rules) c.in_err-features.ensures.exact
     (λ rest r. exact.behind_is t signatures_form c.args.from is.ensures.word (stops t (rw is.ensures.next.0 at r)))
 
 pub returns-in_err-next-2-clause-exact : goal.returns-in_err-next-2-clause-exact
@@ -25,7 +25,7 @@ returns-in_err-next-2-clause-exact c =
     let is = c.in_ok-next in
     let features = c.in_ok-features in
     let other = c.in_err-next-2.ensures in
-    exact.made_refused_at t features.next _ (search rules) other.fault
+    exact.made_refused_at t _ features.next _ (search rules) other.fault
     (exact.behind_is t signatures_form c.args.from is.ensures.word
     (word_unclosed t features.next (taken t (rw is.ensures.next.0 at features.ensures.exact)) other.another))
 

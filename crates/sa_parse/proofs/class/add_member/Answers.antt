@@ -27,7 +27,7 @@ returns-in_err-member-clause-exact c =
     let class = c.args.class in
     let begins : begins_member class.kind class.file_kind c.args.inside.now.invariant (kind_at t.list.now c.args.from) ≡ true = search rules in
     λ others was.
-    made_on t (member_form (enclosing class) (none_yet others)) c.args.from _ (first_of (search rules, cc))
+    made_on t _ (member_form (enclosing class) (none_yet others)) c.args.from _ (first_of (search rules, cc))
     (c.in_err-member.ensures.exact (none_yet others) (λ there. exact.where_invariant t class.name.now class.kind class.file_kind others c.args.from (rw was at begins) there))
     (λ rest r. exact.member_there t class.name.now class.kind class.file_kind others c.args.from (rw was at begins) (stops t r))
 

@@ -8,7 +8,7 @@ returns-in_err-next-clause-exact c =
     let t = c.args.tokens.now in
     let kind = c.kind-kind in
     let other = c.in_err-next.ensures in
-    exact.made_refused_at t kind.result.1 _ (search rules) other.fault
+    exact.made_refused_at t _ kind.result.1 _ (search rules) other.fault
     (exact.behind_kind t c.args.file_kind c.args.from kind.result.1 kind.result.0 kind.ensures.exact
     (exact.no_concrete t c.args.file_kind kind.result.0 kind.result.1 other.another))
 
@@ -17,7 +17,7 @@ returns-in_err-head-clause-exact c =
     let t = c.args.tokens.now in
     let kind = c.kind-kind in
     let begun = c.in_ok-next in
-    exact.made_on t concrete_head_form begun.next _ (search rules) c.in_err-head.ensures.exact
+    exact.made_on t _ concrete_head_form begun.next _ (search rules) c.in_err-head.ensures.exact
     (λ rest r. exact.behind_kind t c.args.file_kind c.args.from kind.result.1 kind.result.0 kind.ensures.exact
     (exact.concrete_head_refused t c.args.file_kind kind.result.0 kind.result.1 begun.ensures.word (rw begun.ensures.next.0 at r)))
 
@@ -27,7 +27,7 @@ returns-in_err-inside-clause-exact c =
     let kind = c.kind-kind in
     let begun = c.in_ok-next in
     let head = c.in_ok-head in
-    exact.made_on t (members_inside_form (exact.around t c.args.file_kind kind.result.0 head.head)) head.next _ (search rules) (exact.bare_refusal t _ c.in_err-inside.ensures.exact)
+    exact.made_on t _ (members_inside_form (exact.around t c.args.file_kind kind.result.0 head.head)) head.next _ (search rules) c.in_err-inside.ensures.exact
     (λ rest r. exact.behind_kind t c.args.file_kind c.args.from kind.result.1 kind.result.0 kind.ensures.exact
     (exact.concrete_inside_refused t c.args.file_kind kind.result.0 kind.result.1 head.next head.head begun.ensures.word (rw begun.ensures.next.0 at head.ensures.exact) r))
 

@@ -4,7 +4,7 @@ use Rattle.sa_lex.specs.declared.sign.Sign.TheVariants as sign
 use Rattle.sa_parse_expr.specs.Places.{kind_at}
 use Rattle.sa_parse.specs.ClassForms.{optional_member_form, none_yet}
 use Rattle.sa_parse.specs.Classes.{enclosing}
-use Rattle.sa_parse.proofs.ExactClasses.{made_on, bare_refusal}
+use Rattle.sa_parse.proofs.ExactClasses.{made_on}
 use Rattle.sa_parse.proofs.ExactMembers as exact
 use Rattle.sa_parse.proofs.class.members.Goals as goal
 
@@ -33,16 +33,16 @@ more-preserved c =
 pub returns-in_err-next-clause-exact : goal.returns-in_err-next-clause-exact
 returns-in_err-next-clause-exact c =
     let t = c.args.tokens.now in
-    made_on t (optional_member_form (enclosing c.args.class) true) c.args.from _ (search rules)
-    (bare_refusal t _ (c.in_err-next.ensures.exact [] c.new-inside.ensures.exact)) (λ rest r. exact.first_refused t (enclosing c.args.class) c.args.from r)
+    made_on t _ (optional_member_form (enclosing c.args.class) true) c.args.from _ (search rules)
+    (c.in_err-next.ensures.exact [] c.new-inside.ensures.exact) (λ rest r. exact.first_refused t (enclosing c.args.class) c.args.from r)
 
 pub returns-in_err-add_member-clause-exact : goal.returns-in_err-add_member-clause-exact
 returns-in_err-add_member-clause-exact c =
     let t = c.args.tokens.now in
     let read = c.more.invariant.read in
     let semicolon : kind_at t.list.now c.more.next ≡ Some (token.Sign sign.Semicolon) = search rules in
-    made_on t (optional_member_form (enclosing c.args.class) (none_yet read.members)) (c.more.next + 1) _ (search rules)
-    (bare_refusal t _ (c.in_err-add_member.ensures.exact read.members read.same))
+    made_on t _ (optional_member_form (enclosing c.args.class) (none_yet read.members)) (c.more.next + 1) _ (search rules)
+    (c.in_err-add_member.ensures.exact read.members read.same)
     (λ rest r. exact.next_refused t (enclosing c.args.class) c.args.from c.more.next read.members read.read semicolon r)
 
 pub returns-clause-exact : goal.returns-clause-exact

@@ -2,7 +2,6 @@ use Rattle.std.proofs.Common.{◌≡◌, ◌≢◌, ◌+◌, ◌<◌, length, So
 use Rattle.sa_lex.specs.declared.token.TokenKind.TheVariants as token
 use Rattle.sa_lex.specs.declared.sign.Sign.TheVariants as sign
 use Rattle.sa_parse_expr.specs.Places.{kind_at}
-use Rattle.sa_parse.proofs.ExactClasses.{bare_refusal}
 use Rattle.sa_parse.proofs.ExactFiles as exact
 use Rattle.sa_parse.proofs.file.classes.Goals as goal
 
@@ -33,14 +32,14 @@ more-preserved c =
 pub returns-in_err-one-clause-exact : goal.returns-in_err-one-clause-exact
 returns-in_err-one-clause-exact c =
     let t = c.args.tokens.now in
-    exact.class_refused t c.args.file_kind c.args.first 0 _ _ (search rules) (bare_refusal t _ c.in_err-one.ensures.exact)
+    exact.class_refused t c.args.file_kind c.args.first 0 _ _ (search rules) c.in_err-one.ensures.exact
     (λ rest r. exact.first_refused t c.args.file_kind c.args.first r)
 
 pub returns-in_err-one-2-clause-exact : goal.returns-in_err-one-2-clause-exact
 returns-in_err-one-2-clause-exact c =
     let t = c.args.tokens.now in
     let semicolon : kind_at t.list.now c.more.next ≡ Some (token.Sign sign.Semicolon) = search rules in
-    exact.class_refused t c.args.file_kind c.args.first (c.more.next + 1) _ _ (search rules) (bare_refusal t _ c.in_err-one-2.ensures.exact)
+    exact.class_refused t c.args.file_kind c.args.first (c.more.next + 1) _ _ (search rules) c.in_err-one-2.ensures.exact
     (λ rest r. exact.next_refused t c.args.file_kind c.args.first c.more.next _ c.more.invariant.read semicolon r)
 
 pub returns-in-None-clause-exact : goal.returns-in-None-clause-exact

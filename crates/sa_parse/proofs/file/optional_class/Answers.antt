@@ -16,7 +16,7 @@ pub returns-in_err-class-clause-exact : goal.returns-in_err-class-clause-exact
 returns-in_err-class-clause-exact c =
     let t = c.args.tokens.now in
     let begins : begins_class (kind_at t.list.now c.args.from) ≡ true = search rules in
-    exact.made_on t (class_form c.args.file_kind) c.args.from _ (search rules) (exact.bare_refusal t _ c.in_err-class.ensures.exact)
+    exact.made_on t _ (class_form c.args.file_kind) c.args.from _ (search rules) c.in_err-class.ensures.exact
     (λ rest r. exact.class_there t c.args.file_kind c.args.from begins (stops t r))
 
 pub returns-clause-exact : goal.returns-clause-exact
