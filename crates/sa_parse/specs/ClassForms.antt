@@ -13,7 +13,8 @@ use Rattle.sa_tree.specs.declared.class.Param.{Param}
 use Rattle.sa_tree.specs.declared.class.Feature.{Feature}
 use Rattle.sa_parse_expr.specs.Lexemes.{name_of}
 use Rattle.sa_parse_expr.specs.Tests.{is_sign, is_word, is_class_name, is_abstract_name}
-use Rattle.sa_parse_expr.specs.Forms.{Form, give, refuse, shift, either, follow, separated, repeat, list, nest, type, make, until, until_word}
+use Rattle.sa_parse_expr.specs.Forms.{Form, give, refuse, shift, either, follow, separated}
+use Rattle.sa_parse_expr.specs.Forms.{repeat, list, nest, type, make, until, until_word}
 use Rattle.sa_parse_expr.specs.StatementForms.{joined}
 use Rattle.sa_parse.specs.declared.file.FileKind.{FileKind}
 use Rattle.sa_parse.specs.Features.{Enclosing, feature_of}

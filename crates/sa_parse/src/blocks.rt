@@ -33,7 +33,8 @@ ghost use Rattle.sa_parse_expr.specs.Forms.{list, refuse, shift};
 ghost use Rattle.sa_parse_expr.specs.Lexemes.{between};
 ghost use Rattle.sa_parse_expr.specs.Places.{IsBehind, IsFrom, IsUnexpected};
 ghost use Rattle.sa_parse_expr.specs.StatementForms.{arm_form, arms_form, branch_form, branches_form, case_arm_form, case_arms_form};
-ghost use Rattle.sa_parse_expr.specs.StatementForms.{case_form, else_form, ending_form, if_form, loop_form, protect_form, typecase_form, value_form};
+ghost use Rattle.sa_parse_expr.specs.StatementForms.{case_form, else_form, ending_form, if_form};
+ghost use Rattle.sa_parse_expr.specs.StatementForms.{loop_form, protect_form, typecase_form, value_form};
 ghost use Rattle.sa_parse_expr.specs.Tests.{is_word};
 
 use crate::body::Stmts;
