@@ -8,14 +8,11 @@ use Rattle.sa_parse_expr.specs.Readings.{Spelling, Read}
 use Rattle.sa_parse_expr.specs.Tests.{is_sign}
 use Rattle.sa_parse_expr.specs.Forms.{Form, give, shift, either, follow, separated, repeat, placed, list, make, until, opens}
 use Rattle.sa_parse_expr.specs.Forms.{Reader, behind, with_read, place_of, listed, repeated, run, Nested, Tree}
+use Rattle.sa_parse_expr.proofs.BehindNames.{with_kind}
 use Rattle.sa_parse_expr.proofs.Tested.{sign_met, sign_stands}
 use Rattle.sa_parse_expr.proofs.Shorter.{behind_one}
 use Rattle.sa_parse_expr.proofs.Shifts.{Shut, Meets, shifted_met, shifted_shut, chosen_met, chosen_shut}
 use Rattle.sa_grammar.proofs.Sound.{Separated, last, more, Listed}
-
--- a lexeme, but of this kind
-abbrev pub with_kind : TokenKind → Lexeme → Lexeme
-with_kind kind l = record { kind = kind; bytes = l.bytes; pos = l.pos }
 
 module _ (level : ℕ) (nested : (n : Nested) → Reader (Tree n)) where
   -- a form reads a tree of these lexemes, and leaves those

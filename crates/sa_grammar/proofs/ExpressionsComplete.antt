@@ -26,10 +26,11 @@ use Rattle.sa_parse_expr.specs.Forms.{Reader, behind, repeated, run, Nested, Tre
 use Rattle.sa_parse_expr.specs.TypeForms.{type_form}
 use Rattle.sa_parse_expr.specs.ExpressionForms.{arg_form, args_form, named_form, call_form, places_form, inside_form, optional_form, texts_form}
 use Rattle.sa_parse_expr.specs.ExpressionForms.{items_or, result_or, class_call_form, optional_type_form, first_form}
+use Rattle.sa_parse_expr.proofs.BehindNames.{with_kind}
 use Rattle.sa_parse_expr.proofs.Tested.{sign_met, word_met, feature_met, other_sign, other_word}
 use Rattle.sa_parse_expr.proofs.Shifts.{Shut, Meets, shifted_met, shifted_shut}
 use Rattle.sa_grammar.proofs.Complete.{Reads, reads-give, reads-met, reads-other, reads-first, reads-second, reads-follow, reads-make, reads-kind, reads-known}
-use Rattle.sa_grammar.proofs.Complete.{reads-joined, reads-until, reads-list, with_kind}
+use Rattle.sa_grammar.proofs.Complete.{reads-joined, reads-until, reads-list}
 use Rattle.sa_grammar.proofs.TypeForms.{EndsType, sign_ends, type_read}
 use Rattle.sa_grammar.proofs.ExpressionStarts.{begins_expr, meets_front, expr_starts}
 use Rattle.sa_grammar.proofs.ExpressionStarts.{sign_shut, word_shut}

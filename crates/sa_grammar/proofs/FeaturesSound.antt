@@ -22,7 +22,7 @@ use Rattle.sa_parse_expr.specs.Types as types
 use Rattle.sa_parse_expr.specs.Types.{IsType}
 use Rattle.sa_parse_expr.specs.Readings.{Spelling}
 use Rattle.sa_parse_expr.specs.Forms.{Form, Reader, Nested, Tree, list, type, stmts}
-use Rattle.sa_parse_expr.proofs.Tested.{sign_stands, word_stands, feature_stands, lexeme, a_sign, a_word}
+use Rattle.sa_parse_expr.proofs.Tested.{sign_stands, word_stands, lower_stands, feature_stands, lexeme, a_sign, a_word}
 use Rattle.sa_parse_expr.proofs.Shorter.{opened}
 use Rattle.sa_parse.specs.declared.file.FileKind.{FileKind}
 use Rattle.sa_parse.specs.declared.file.FileKind.TheVariants.{Prelude, Program}
@@ -43,7 +43,7 @@ use Rattle.sa_grammar.proofs.Sound.{After, Sound, sound_shorter, Listed, last, m
 use Rattle.sa_grammar.proofs.Sound.{IsSound, sound-give, sound-refuse, sound-shift, sound-either, sound-follow, sound-list, sound-make, sound-until_word, sound-up}
 use Rattle.sa_grammar.proofs.ExpressionStarts.{origin, true_lexeme}
 use Rattle.sa_grammar.proofs.ExpressionsSound.{Spells, nested_sound}
-use Rattle.sa_grammar.proofs.StatementsSound.{lower_stands, sound_value, sound_assigned, no_stmts, a_value}
+use Rattle.sa_grammar.proofs.StatementsSound.{sound_value, sound_assigned, no_stmts, a_value}
 use Rattle.sa_grammar.proofs.Signatures.{sound_names, sound_sig}
 use Rattle.sa_grammar.proofs.Conditions.{sound_clauses, sound_invariant}
 

@@ -28,21 +28,21 @@ use Rattle.sa_parse_expr.specs.Forms.{Form, Reader, Nested, Tree, list, opens, r
 use Rattle.sa_parse_expr.specs.ExpressionForms.{named_form, args_form, expr_form}
 use Rattle.sa_parse_expr.specs.StatementForms.{value_form, assigned_form, optional_value_form, name_form, typed_form, assign_form, behind_name_form, simple_form}
 use Rattle.sa_parse_expr.specs.StatementForms.{joined}
-use Rattle.sa_parse_expr.proofs.Tested.{sign_met, sign_stands, word_met, other_sign}
+use Rattle.sa_parse_expr.proofs.BehindNames.{with_kind, same_behind}
+use Rattle.sa_parse_expr.proofs.Tested.{sign_met, sign_stands, word_met, lower_stands, other_sign}
 use Rattle.sa_parse_expr.proofs.Shifts.{Shut, Meets}
 use Rattle.sa_parse.specs.Names as names
 use Rattle.sa_parse.specs.Names.{IsLower, IsName, IsMoreNames, IsNames}
 use Rattle.sa_parse.specs.Statements as stmt
 use Rattle.sa_parse.specs.Statements.{IsValue, IsValues, IsAssigned, IsOptionalExpr, IsSimple, IsLeave, IsBody, IsStmts, IsOptionalStmt, IsStmt, IsArms, IsArm, IsEnding, IsElse, IsCaseArms, IsCaseArm, IsBranches, IsBranch}
 use Rattle.sa_grammar.proofs.Sound.{Separated, Listed, last, more}
-use Rattle.sa_grammar.proofs.Complete.{Reads, reads-give, reads-met, reads-other, reads-first, reads-second, reads-follow, reads-make, reads-joined, reads-list, with_kind}
+use Rattle.sa_grammar.proofs.Complete.{Reads, reads-give, reads-met, reads-other, reads-first, reads-second, reads-follow, reads-make, reads-joined, reads-list}
 use Rattle.sa_grammar.proofs.TypeForms.{EndsType, sign_ends}
 use Rattle.sa_grammar.proofs.ExpressionStarts.{begins_expr, meets_front, expr_starts}
 use Rattle.sa_grammar.proofs.ExpressionEnds.{Ends, after_expr, ends_left, ends_right, kind_ends}
 use Rattle.sa_grammar.proofs.ExpressionsSound.{Spells}
 use Rattle.sa_grammar.proofs.ExpressionsComplete.{EndsOf, nest_read}
 use Rattle.sa_grammar.proofs.OperationsComplete.{expr_read}
-use Rattle.sa_grammar.proofs.StatementsSound.{lower_stands, same_behind}
 use Rattle.sa_grammar.proofs.ExpressionEnds.{expr_ends_type, expr_shuts_colon}
 use Rattle.sa_grammar.proofs.StatementEnds.{begins_stmt, kind_begins_stmt, after_names, after_value, after_simple, after_stmt, expr_opens, agreed_shut, agreed_meets}
 

@@ -28,7 +28,8 @@ use Rattle.sa_parse_expr.specs.ExpressionForms.{named_form, first_form, placed_p
 use Rattle.sa_parse_expr.specs.ExpressionForms.{operation_form, product_form, sum_form, comparison_form, expr_form}
 use Rattle.sa_parse_expr.specs.StatementForms.{value_form, assigned_form, optional_value_form, name_form, typed_form, assign_form, behind_name_form, simple_form}
 use Rattle.sa_parse_expr.specs.StatementForms.{body_form, ending_form, arm_form, case_arm_form, branch_form, case_arms_form, branches_form, stmt_form, optional_stmt_form, joined, stmts_form}
-use Rattle.sa_parse_expr.proofs.Tested.{sign_stands, word_stands, lexeme, a_sign, a_word}
+use Rattle.sa_parse_expr.proofs.BehindNames.{same_behind}
+use Rattle.sa_parse_expr.proofs.Tested.{sign_stands, word_stands, lower_stands, lexeme, a_sign, a_word}
 use Rattle.sa_parse_expr.proofs.Shorter.{opened}
 use Rattle.sa_parse.specs.Names as names
 use Rattle.sa_parse.specs.Names.{IsLower, IsName, IsMoreNames, IsNames}
@@ -36,19 +37,11 @@ use Rattle.sa_parse.specs.Statements as stmt
 use Rattle.sa_parse.specs.Statements.{IsValue, IsValues, IsAssigned, IsOptionalExpr, IsSimple, IsBody, IsStmts, IsOptionalStmt, IsStmt, IsArms, IsArm, IsEnding, IsElse, IsCaseArms, IsCaseArm, IsBranches, IsBranch}
 use Rattle.sa_grammar.proofs.Sound.{After, Sound, sound_shorter, sound-behind_lexeme, Separated, Listed, last, more}
 use Rattle.sa_grammar.proofs.Sound.{IsSound, sound-give, sound-refuse, sound-shift, sound-either, sound-follow, sound-separated, sound-list, sound-make, sound-until_word, sound-up}
-use Rattle.sa_grammar.proofs.Complete.{with_kind}
 use Rattle.sa_grammar.proofs.ExpressionStarts.{begins_expr, origin, true_lexeme, an_expr}
 use Rattle.sa_grammar.proofs.ExpressionsSound.{Spells, nested_sound, sound_expr}
 use Rattle.sa_grammar.proofs.StatementEnds.{expr_opens}
 
 -- ---- names, values and lists
-
-lower_kind : (kind : TokenKind) → is_lower_kind kind ≡ true → kind ≡ token.Lower
-lower_kind token.Lower h = refl
-lower_kind _ h = cc
-
-pub lower_stands : (l : Lexeme) → is_lower l ≡ true → IsLower l
-lower_stands l h = lower_kind l.kind h
 
 pub names_behind : {ls : List Lexeme} {others : List Local} (comma : Lexeme) → IsSign sign.Comma comma → Listed (IsName IsLower) ls others → IsMoreNames (comma ∷ ls) others
 names_behind comma is (last (names.one_name k)) = names.more_names is k names.no_more_names
@@ -97,15 +90,6 @@ after_typecase w _ ms rest _ branches other is (names.one_name h) k j = stmt.typ
 after_protect : (w : Lexeme) (ls ms rest : List Lexeme) (list : List Stmt) (branches : List TypeArm) (other : Option (List Stmt)) → IsBody word.Protect (w ∷ ls) list
     → IsBranches ms branches → IsEnding rest other → IsStmt (w ∷ (ls ++ (ms ++ rest))) (tree.Protect list branches other w.pos)
 after_protect w ls ms rest list branches other h k j = stmt.protect_block h (stmt.type_choice k j)
-
--- an expression that begins with a name is read behind it as it is read with it
-module _ (level : ℕ) (nested : (n : Nested) → Reader (Tree n)) where
-  kind_behind : (l : Lexeme) (ls : List Lexeme) → run level nested (expr_form Plain outside) (with_kind token.Lower l ∷ ls) ≡ run level nested (behind_name_form l) ls
-  unfolding expr_form comparison_form sum_form product_form operation_form unary_form power_form post_form placed_post_form first_form named_form behind_name_form
-  kind_behind l ls = refl
-
-  pub same_behind : (l : Lexeme) → IsLower l → (ls : List Lexeme) → run level nested (expr_form Plain outside) (l ∷ ls) ≡ run level nested (behind_name_form l) ls
-  same_behind l is ls = ap (λ kind. run level nested (expr_form Plain outside) (with_kind kind l ∷ ls)) is ∙ kind_behind l ls
 
 -- ---- what completes them
 

@@ -19,9 +19,9 @@ use Rattle.sa_parse_expr.specs.declared.grammar.Scope.TheVariants.{Plain}
 use Rattle.sa_parse_expr.specs.declared.tokens.Tokens.{Tokens}
 use Rattle.sa_parse_expr.specs.Arounds.{outside}
 use Rattle.sa_parse_expr.specs.Exactly.{lexemes_from, Takes, ReadsAs}
-use Rattle.sa_parse_expr.specs.ExpressionForms.{first_form, items_or, result_or, class_call_form, placed_post_form, post_form, power_form, unary_form, named_form}
+use Rattle.sa_parse_expr.specs.ExpressionForms.{first_form, items_or, result_or, class_call_form, placed_post_form, post_form, power_form, unary_form}
 use Rattle.sa_parse_expr.specs.ExpressionForms.{operation_form, product_form, sum_form, comparison_form, expr_form}
-use Rattle.sa_parse_expr.specs.Forms.{Form, refuse, shift, follow, make, nest, type, expr, opens, Reader, behind, with_read, run, Nested, Tree}
+use Rattle.sa_parse_expr.specs.Forms.{Form, refuse, shift, follow, make, nest, type, expr, opens, Reader, behind, with_read}
 use Rattle.sa_parse_expr.specs.Grammar.{form_of}
 use Rattle.sa_parse_expr.specs.Lexemes.{Lexeme, lexeme_at, name_of, IsFeature, lower_name, iter_name}
 use Rattle.sa_parse_expr.specs.Places.{kind_at}
@@ -36,6 +36,7 @@ use Rattle.sa_parse_expr.proofs.Runs.{at_level, Runs, taken, takes, handed_on, g
 use Rattle.sa_parse_expr.proofs.Runs.{Lists, first_listed, all_listed, parts_behind}
 use Rattle.sa_parse_expr.proofs.Shifts.{Shut}
 use Rattle.sa_parse_expr.proofs.Stretches.{pos_at, stands}
+use Rattle.sa_parse_expr.proofs.BehindNames.{kind_behind}
 use Rattle.sa_parse_expr.proofs.Tested.{sign_is, word_is, class_name_stands, abstract_name_stands, feature_stands}
 use Rattle.sa_parse.specs.Names.{name_at}
 
@@ -64,16 +65,6 @@ kind_opens _ = refl
 pub expr_opens : (l : Lexeme) → opens (expr_form Plain outside) l ≡ begins_expression (Some l.kind)
 unfolding type_form first_form items_or result_or class_call_form placed_post_form post_form power_form unary_form operation_form product_form sum_form comparison_form expr_form
 expr_opens l = kind_opens l.kind
-
--- ---- an expression that begins with a name is read behind it as it is read with it
-
-abbrev with_kind : TokenKind → Lexeme → Lexeme
-with_kind kind l = record { kind = kind; bytes = l.bytes; pos = l.pos }
-
-kind_behind : (deep : ℕ) (inside : (n : Nested) → Reader (Tree n)) (l : Lexeme) (ls : List Lexeme)
-    → run deep inside (expr_form Plain outside) (with_kind token.Lower l ∷ ls) ≡ run deep inside (behind_name_form l) ls
-unfolding expr_form comparison_form sum_form product_form operation_form unary_form power_form post_form placed_post_form first_form named_form behind_name_form
-kind_behind deep inside l ls = refl
 
 behind-with : {A B C : Type 0} (go : B → Reader C) (f : A → B) (v : Reading A) → behind go (with_read f v) ≡ behind (λ a. go (f a)) v
 behind-with go f (Read a rest) = refl

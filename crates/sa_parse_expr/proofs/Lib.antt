@@ -1,4 +1,5 @@
 pub mod Alternatives
+pub mod BehindNames
 mod ExactArguments
 mod ExactFirsts
 mod ExactOperations
