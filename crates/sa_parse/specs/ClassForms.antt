@@ -1,6 +1,8 @@
 -- The forms of classes and files, production by production.
-use Rattle.std.specs.Prelude.{Bool, true, false, List, [], ◌∷◌, ◌++◌, Some, None}
+use Rattle.std.specs.Prelude.{◌≡◌, ◌≢◌, ℕ, ◌+◌, Bool, true, false, List, [], ◌∷◌, ◌++◌, Some, None}
 use Rattle.std.specs.List.{flat_map}
+use Rattle.sa_lex.specs.declared.token.Token.{Token}
+use Rattle.sa_lex.specs.declared.token.TokenKind.TheVariants as token
 use Rattle.sa_lex.specs.declared.sign.Sign.{Sign}
 use Rattle.sa_lex.specs.declared.sign.Sign.TheVariants as sign
 use Rattle.sa_lex.specs.declared.word.Word.TheVariants as word
@@ -12,6 +14,7 @@ use Rattle.sa_tree.specs.declared.class.Part.TheVariants as part
 use Rattle.sa_tree.specs.declared.class.Param.{Param}
 use Rattle.sa_tree.specs.declared.class.Feature.{Feature}
 use Rattle.sa_parse_expr.specs.Lexemes.{name_of}
+use Rattle.sa_parse_expr.specs.Places.{kind_at}
 use Rattle.sa_parse_expr.specs.Tests.{is_sign, is_word, is_class_name, is_abstract_name}
 use Rattle.sa_parse_expr.specs.Forms.{Form, give, refuse, shift, either, follow, separated}
 use Rattle.sa_parse_expr.specs.Forms.{repeat, list, nest, type, make, until, until_word}
@@ -19,6 +22,7 @@ use Rattle.sa_parse_expr.specs.StatementForms.{joined}
 use Rattle.sa_parse.specs.declared.file.FileKind.{FileKind}
 use Rattle.sa_parse.specs.Features.{Enclosing, feature_of}
 use Rattle.sa_parse.specs.Classes.{Written, invariants_of}
+use Rattle.sa_parse.specs.declared.class.DeclaredEdges.{DeclaredEdges}
 use Rattle.sa_parse.specs.declared.class.Head.{Head}
 use Rattle.sa_parse.specs.declared.member.Declaration.{Declaration}
 use Rattle.sa_parse.specs.SignatureForms.{sig_form}
@@ -41,6 +45,11 @@ params_form = shift (is_sign sign.LeftBrace) (λ _. until sign.RightBrace (list 
 -- ["<" type {"," type}], or the same with `>`
 unfoldable pub types_after_form : Sign → Form (List Ty)
 types_after_form s = shift (is_sign s) (λ _. list (nest type)) (give [])
+
+-- edges = ["<" types] [">" types]
+unfoldable pub edges_form : Form DeclaredEdges
+edges_form =
+    follow (types_after_form sign.Less) (λ below. make (λ above. record { below = below; above = above }) (types_after_form sign.Greater))
 
 -- abstract_head = ANAME params ["<" types] [">" types]
 unfoldable pub abstract_head_form : Form Head
@@ -71,6 +80,10 @@ optional_sig_form = either (make (λ sig. feature_of sig Public part.Signature �
 unfoldable pub signatures_form : Form (List Feature)
 signatures_form = make joined (separated (is_sign sign.Semicolon) optional_sig_form)
 
+-- "is" [sig] {";" [sig]} "end"
+abbrev pub signatures_inside_form : Form (List Feature)
+signatures_inside_form = shift (is_word word.Is) (λ _. until_word word.End signatures_form) refuse
+
 -- [member], as a list, where an invariant may stand or not
 unfoldable pub optional_member_form : Enclosing → Bool → Form (List Declaration)
 optional_member_form class invariants = either (make (λ m. m ∷ []) (member_form class invariants)) (give [])
@@ -89,7 +102,18 @@ members_form class =
     follow (optional_member_form class true)
     (repeat (is_sign sign.Semicolon) (λ all _. make (λ more. all ++ more) (optional_member_form class (none_yet all))))
 
+-- "is" members "end"
+abbrev pub members_inside_form : Enclosing → Form (List Declaration)
+members_inside_form class = shift (is_word word.Is) (λ _. until_word word.End (members_form class)) refuse
+
 -- ---- classes
+
+-- the kind of class that the word at a place tells, and the place behind the word
+pub data KindAt (tokens : List Token) (from : ℕ) : Kind → ℕ → Type 0 where
+  immutable_there : kind_at tokens from ≡ Some (token.Word word.Immutable) → KindAt tokens from Immutable (from + 1)
+  partial_there : kind_at tokens from ≡ Some (token.Word word.Partial) → KindAt tokens from Partial (from + 1)
+  no_word : kind_at tokens from ≢ Some (token.Word word.Immutable) → kind_at tokens from ≢ Some (token.Word word.Partial)
+      → KindAt tokens from Reference from
 
 -- "class" abstract_head "is" [sig] {";" [sig]} "end"
 unfoldable pub abstract_form : Form Written
@@ -113,12 +137,15 @@ concrete_form file_kind kind =
     refuse))
     refuse
 
+-- ["immutable" | "partial"] concrete
+abbrev pub concrete_class_form : FileKind → Form Written
+concrete_class_form file_kind =
+    shift (is_word word.Immutable) (λ _. concrete_form file_kind Immutable)
+    (shift (is_word word.Partial) (λ _. concrete_form file_kind Partial) (concrete_form file_kind Reference))
+
 -- class = "abstract" abstract | ["immutable" | "partial"] concrete
 unfoldable pub class_form : FileKind → Form Written
-class_form file_kind =
-    shift (is_word word.Abstract) (λ _. abstract_form)
-    (shift (is_word word.Immutable) (λ _. concrete_form file_kind Immutable)
-    (shift (is_word word.Partial) (λ _. concrete_form file_kind Partial) (concrete_form file_kind Reference)))
+class_form file_kind = shift (is_word word.Abstract) (λ _. abstract_form) (concrete_class_form file_kind)
 
 -- [class], as a list
 unfoldable pub optional_class_form : FileKind → Form (List Written)

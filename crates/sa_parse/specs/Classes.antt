@@ -1,7 +1,7 @@
 -- Classes and files: a relation for each production of their grammar, with a case for each of its alternatives.
 use Rattle.std.specs.Prelude.{◌≡◌, ℕ, ◌+◌, ◌≤◌, List, [], ◌∷◌, ◌++◌, length, map, Option, Some, None}
+use Rattle.std.specs.Option.{option_to_list}
 use Rattle.std.specs.List.{flat_map}
-use Rattle.sa_lex.specs.declared.token.Token.{Token}
 use Rattle.sa_lex.specs.declared.token.TokenKind.TheVariants.{ClassName, AbstractName}
 use Rattle.sa_lex.specs.declared.sign.Sign.{Sign}
 use Rattle.sa_lex.specs.declared.sign.Sign.TheVariants as sign
@@ -18,12 +18,15 @@ use Rattle.sa_tree.specs.declared.class.Class.{Class}
 use Rattle.sa_tree.specs.declared.contract.Condition.{Condition}
 use Rattle.sa_tree.specs.declared.contract.Contract.{Contract}
 use Rattle.sa_tree.specs.declared.contract.Contract.TheVariants as contract
-use Rattle.sa_parse_expr.specs.Lexemes.{Lexeme, IsWord, IsSign, lexemes_of, name_of}
+use Rattle.sa_parse_expr.specs.Lexemes.{Lexeme, IsWord, IsSign, name_of}
 use Rattle.sa_parse_expr.specs.Types.{IsType, IsTypes}
 use Rattle.sa_parse.specs.declared.class.DeclaredEdges.{DeclaredEdges}
 use Rattle.sa_parse.specs.declared.class.Head.{Head}
+use Rattle.sa_parse.specs.declared.class.Inside.{Inside}
+use Rattle.sa_parse.specs.declared.class.WholeClass.{WholeClass}
 use Rattle.sa_parse.specs.declared.file.FileKind.{FileKind}
 use Rattle.sa_parse.specs.declared.file.Parsed.{Parsed}
+use Rattle.sa_parse.specs.declared.member.ClassContext.{ClassContext}
 use Rattle.sa_parse.specs.declared.member.Declaration.{Declaration}
 use Rattle.sa_parse.specs.declared.member.Declaration.TheVariants as member
 use Rattle.sa_parse.specs.declared.signature.Signature.{Signature}
@@ -199,9 +202,70 @@ abbrev pub contracts_from : ℕ → List Written → List Contract
 contracts_from class [] = []
 contracts_from class (w ∷ others) = contracts_of class w ++ contracts_from (class + 1) others
 
--- the tokens of this text, which is that of file `file`, spell what was parsed. The first class has the place `first`
-pub record Spells (text : List ℕ) (file : ℕ) (file_kind : FileKind) (first : ℕ) (tokens : List Token) (parsed : Parsed) : Type 0 where
-  pub written : List Written
-  pub spelled : IsFile file_kind (lexemes_of file text tokens) written
-  pub classes : parsed.classes ≡ map class_of written
-  pub contracts : parsed.contracts ≡ contracts_from first written
+-- ---- what a reader gives
+
+-- the class that members stand in, as the grammar sees it
+abbrev pub enclosing : ClassContext → Enclosing
+enclosing class = record { name = class.name.now; kind = class.kind; file_kind = class.file_kind }
+
+-- the last of these, if there is one
+abbrev pub last_of : {A : Type 0} → List A → Option A
+last_of [] = None
+last_of (a ∷ []) = Some a
+last_of (a ∷ b ∷ others) = last_of (b ∷ others)
+
+-- the inside of the class at a place of these members
+abbrev pub inside_of : ℕ → List Declaration → Inside
+inside_of class members =
+    record {
+      includes = flat_map includes_of members;
+      features = flat_map features_of members;
+      clauses = clauses_from class 0 members;
+      invariant = last_of (flat_map invariants_of members);
+    }
+
+-- the inside of an abstract class of these signatures
+abbrev pub signed : List Feature → Inside
+signed features = record { includes = []; features = features; clauses = []; invariant = None }
+
+-- a class of what stands before its `is` and behind it
+abbrev pub whole_with : Kind → Head → Inside → WholeClass
+whole_with kind head inside =
+    record {
+      class = record {
+        kind = kind;
+        name = head.name;
+        params = head.params;
+        below = head.edges.below;
+        above = head.edges.above;
+        includes = inside.includes;
+        features = inside.features;
+      };
+      clauses = inside.clauses;
+      invariant = inside.invariant;
+    }
+
+-- the class at a place, with its contracts: of the invariants of its members there is one at most
+abbrev pub whole_of : ℕ → Written → WholeClass
+whole_of class w =
+    record { class = class_of w; clauses = clauses_from class 0 w.members; invariant = last_of (flat_map invariants_of w.members) }
+
+-- its contracts: those of its features, and behind them its invariant
+abbrev pub contracts_in : ℕ → WholeClass → List Contract
+contracts_in class whole = whole.clauses ++ map (contract.Invariant class) (option_to_list whole.invariant)
+
+-- these classes and their contracts, of which the first class has this place
+abbrev pub parsed_of : ℕ → List Written → Parsed
+parsed_of first written = record { classes = map class_of written; contracts = contracts_from first written }
+
+-- ---- one member behind the others
+
+-- the clauses of a member whose first feature has this place
+abbrev pub clauses_at : ℕ → ℕ → Declaration → List Contract
+clauses_at class place (member.Called feature clauses) = contract_of class place clauses.pre clauses.post
+clauses_at class place _ = []
+
+-- an invariant, and the one before where there is none
+abbrev pub or_before : List Condition → Option Condition → Option Condition
+or_before [] before = before
+or_before (holds ∷ others) before = Some holds

@@ -1,9 +1,10 @@
 -- The forms of clauses and invariants, production by production.
-use Rattle.std.specs.Prelude.{Bool, ◌&&◌, bytes_eq, codes, Option, Some, None}
+use Rattle.std.specs.Prelude.{Bool, ◌&&◌, bytes_eq, codes, ℕ, Option, Some, None, Result, Ok, Err}
 use Rattle.sa_lex.specs.declared.sign.Sign.TheVariants as sign
 use Rattle.sa_lex.specs.declared.word.Word.{Word}
 use Rattle.sa_lex.specs.declared.word.Word.TheVariants as word
 use Rattle.sa_tree.specs.declared.contract.Condition.{Condition}
+use Rattle.sa_tree.specs.declared.refusal.FrontFault.{FrontFault}
 use Rattle.sa_parse_expr.specs.declared.grammar.Scope.{Scope}
 use Rattle.sa_parse_expr.specs.declared.grammar.Scope.TheVariants.{Plain, PostClause}
 use Rattle.sa_parse_expr.specs.Lexemes.{Lexeme}
@@ -47,3 +48,8 @@ holding_form =
     (λ _. shift (is_word word.Is)
     (λ _. shift (is_word word.Return) (λ _. follow (condition_form Plain) closing_form) refuse)
     refuse) refuse) refuse
+
+-- a place that is given, with this tree
+abbrev pub with_tree : {A : Type 0} → A → Result ℕ FrontFault → Result (A × ℕ) FrontFault
+with_tree tree (Ok next) = Ok (tree, next)
+with_tree tree (Err refusal) = Err refusal

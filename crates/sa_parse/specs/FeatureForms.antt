@@ -1,7 +1,9 @@
 -- The forms of features, production by production.
-use Rattle.std.specs.Prelude.{ℕ, Bool, true, false, List, [], ◌∷◌, Option, Some, None, map}
+use Rattle.std.specs.Prelude.{◌≡◌, ℕ, Bool, true, false, List, [], ◌∷◌, Option, Some, None, map}
 use Rattle.sa_lex.specs.declared.sign.Sign.TheVariants as sign
 use Rattle.sa_lex.specs.declared.word.Word.TheVariants as word
+use Rattle.sa_lex.specs.declared.token.TokenKind.{TokenKind}
+use Rattle.sa_lex.specs.declared.token.TokenKind.TheVariants as token
 use Rattle.sa_tree.specs.declared.ty.Ty.{Ty}
 use Rattle.sa_tree.specs.declared.stmt.Local.{Local}
 use Rattle.sa_tree.specs.declared.stmt.Stmt.{Stmt}
@@ -21,6 +23,7 @@ use Rattle.sa_parse.specs.declared.file.FileKind.TheVariants.{Prelude, Program}
 use Rattle.sa_parse.specs.Conditions.{no_clauses}
 use Rattle.sa_parse.specs.Features.{Enclosing, variable_of, counted_from, feature_of}
 use Rattle.sa_parse.specs.declared.declared.SharedParts.{SharedParts}
+use Rattle.sa_parse.specs.declared.include.NewName.{NewName}
 use Rattle.sa_parse.specs.declared.member.Declaration.{Declaration}
 use Rattle.sa_parse.specs.declared.member.Declaration.TheVariants as member
 use Rattle.sa_parse.specs.SignatureForms.{sig_form}
@@ -84,20 +87,33 @@ unfoldable pub more_names_form : Form (List Local)
 more_names_form = shift (is_sign sign.Comma) (λ _. names_form) (give [])
 
 -- type ":=" expr, behind the name of a constant and the ":"
-unfoldable pub typed_constant_form : Access → Lexeme → Form (List Feature)
-typed_constant_form access l =
+abbrev pub typed_constant_of : Access → Local → Form (List Feature)
+typed_constant_of access name =
     follow (nest type)
     (λ t. shift (is_sign sign.Assign)
-    (λ _. make (λ e. variable_of access (Some t) (part.Const (Some e) 0) (name_of l) ∷ []) value_form)
+    (λ _. make (λ e. variable_of access (Some t) (part.Const (Some e) 0) name ∷ []) value_form)
     refuse)
+
+-- the same behind a lexeme that is the name
+unfoldable pub typed_constant_form : Access → Lexeme → Form (List Feature)
+typed_constant_form access l = typed_constant_of access (name_of l)
+
+-- [":=" expr] {"," LNAME}, behind the name of a constant
+abbrev pub counted_constants_of : Access → Local → Form (List Feature)
+counted_constants_of access name =
+    follow assigned_form (λ value. make (λ others. counted_from 0 access value (name ∷ others)) more_names_form)
 
 -- LNAME (":" type ":=" expr | [":=" expr] {"," LNAME}), behind the "const"
 unfoldable pub constants_form : Access → Form (List Feature)
 constants_form access =
     shift is_lower
     (λ l. shift (is_sign sign.Colon) (λ _. typed_constant_form access l)
-    (follow assigned_form (λ value. make (λ others. counted_from 0 access value (name_of l ∷ others)) more_names_form)))
+    (counted_constants_of access (name_of l)))
     refuse
+
+-- the shared of this name
+abbrev pub shared_of : Access → SharedParts → Local → Feature
+shared_of access parts name = variable_of access (Some parts.ty) (part.Shared parts.value) name
 
 -- attr | shared, or else another form
 unfoldable pub declared_or : Access → Form Declaration → Form Declaration
@@ -124,13 +140,20 @@ stub_or Partial access other =
     shift (is_word word.Stub) (λ _. make (λ sig. member.Called (feature_of sig access part.Stub) no_clauses) sig_form) other
 stub_or _ access other = other
 
+-- sig, behind the "builtin"
+abbrev pub builtin_form : List ℕ → Access → Form Declaration
+builtin_form name access =
+    make (λ sig. member.Called (feature_of sig access (part.Builtin name sig.name.name)) no_clauses) sig_form
+
 -- builtin, which stands in the prelude alone, or else another form
 unfoldable pub builtin_or : FileKind → List ℕ → Access → Form Declaration → Form Declaration
 builtin_or Prelude name access other =
-    shift (is_word word.Builtin)
-    (λ _. make (λ sig. member.Called (feature_of sig access (part.Builtin name sig.name.name)) no_clauses) sig_form)
-    other
+    shift (is_word word.Builtin) (λ _. builtin_form name access) other
 builtin_or Program name access other = other
+
+-- stub | builtin | routine, behind "private" or nothing
+abbrev pub called_form : Enclosing → Access → Form Declaration
+called_form class access = stub_or class.kind access (builtin_or class.file_kind class.name access (routine_form class access))
 
 -- whether this is the access of private features
 abbrev pub is_private : Access → Bool
@@ -142,8 +165,7 @@ unfoldable pub open_form : Enclosing → Access → Form Declaration
 open_form class access =
     declared_or access
     (shift (is_word word.Const) (λ _. make member.Variables (constants_form access))
-    (shift (is_word word.Include) (λ _. include_form (is_private access))
-    (stub_or class.kind access (builtin_or class.file_kind class.name access (routine_form class access)))))
+    (shift (is_word word.Include) (λ _. include_form (is_private access)) (called_form class access)))
 
 -- invariant, which the prelude has none of, where one may stand, or else another form
 unfoldable pub invariant_or : FileKind → Bool → Form Declaration → Form Declaration
@@ -156,3 +178,17 @@ unfoldable pub member_form : Enclosing → Bool → Form Declaration
 member_form class invariants =
     shift (is_word word.Private) (λ _. open_form class Private)
     (shift (is_word word.Readonly) (λ _. declared_or ReadOnly refuse) (invariant_or class.file_kind invariants (open_form class Public)))
+
+-- ---- what readers of members know
+
+-- an invariant stands there only where one may stand
+abbrev pub MayStand : FileKind → Bool → Option TokenKind → Type 0
+MayStand file_kind invariants found = found ≡ Some (token.Word word.Invariant) → (file_kind ≡ Program) × (invariants ≡ true)
+
+-- a feature for which no clause is written, as a member
+abbrev pub without_clauses : Feature → Declaration
+without_clauses feature = member.Called feature no_clauses
+
+-- a new name behind an arrow, as a change of this name
+abbrev pub renamed : Lexeme → NewName → Change
+renamed f new = change_to f new.access new.name

@@ -6,9 +6,12 @@ pub mod ConditionForms
 pub mod Conditions
 pub mod FeatureForms
 pub mod Features
+pub mod Files
+pub mod Made
 pub mod Names
 pub mod Refusals
 pub mod SignatureForms
 pub mod Signatures
 pub mod Starts
 pub mod Statements
+pub mod Trees

@@ -2,7 +2,6 @@
 use Rattle.std.specs.Prelude.{List, [], Option, Some, None, map}
 use Rattle.sa_lex.specs.declared.sign.Sign.TheVariants as sign
 use Rattle.sa_tree.specs.declared.ty.Ty.{Ty}
-use Rattle.sa_tree.specs.declared.stmt.Local.{Local}
 use Rattle.sa_tree.specs.declared.class.Formal.{Formal}
 use Rattle.sa_parse_expr.specs.declared.types.CallableKind.{CallableKind}
 use Rattle.sa_parse_expr.specs.Lexemes.{name_of}

@@ -14,9 +14,21 @@
 //! members       = [member] {";" [member]}
 //! ```
 
-ghost use Rattle.std.specs.Prelude.{◌≡◌, ◌+◌, ◌<◌, ◌≤◌, [], ◌∷◌, ◌++◌, IfErr, IfOk, OnOk, length};
-ghost use Rattle.sa_parse.specs.Features.{features_of};
+ghost use Rattle.std.specs.Prelude.{◌≡◌, ℕ, ◌+◌, ◌<◌, ◌≤◌, List, [], ◌∷◌, ◌++◌, IfErr, IfOk, OnOk, length};
+ghost use Rattle.std.specs.Option.{option_to_list};
+ghost use Rattle.sa_parse_expr.specs.Exactly.{ReadsAs, given_as};
+ghost use Rattle.sa_parse_expr.specs.Forms.{list};
 ghost use Rattle.sa_parse_expr.specs.Places.{IsBehind, IsFrom, IsUnexpected};
+ghost use Rattle.sa_parse.specs.declared.member.Declaration.{Declaration};
+ghost use Rattle.sa_parse.specs.ClassForms.{abstract_form, abstract_head_form, class_form, concrete_class_form, concrete_head_form};
+ghost use Rattle.sa_parse.specs.ClassForms.{KindAt, edges_form, members_form, members_inside_form, none_yet, optional_member_form};
+ghost use Rattle.sa_parse.specs.ClassForms.{optional_sig_form, param_form, params_form, signatures_form, signatures_inside_form};
+ghost use Rattle.sa_parse.specs.ClassForms.{types_after_form};
+ghost use Rattle.sa_parse.specs.Classes.{clauses_at, contract_of, enclosing, includes_of, inside_of, invariants_of, or_before};
+ghost use Rattle.sa_parse.specs.Classes.{signed, whole_of, whole_with};
+ghost use Rattle.sa_parse.specs.ConditionForms.{with_tree};
+ghost use Rattle.sa_parse.specs.Features.{features_of};
+ghost use Rattle.sa_parse.specs.Made.{ReadsMade};
 
 use crate::contract::Clauses;
 use crate::file::FileKind;
@@ -61,7 +73,8 @@ pub(crate) struct Inside {
 
 impl Inside {
     fn new(alloc: Global) -> Inside
-        ensures { result.features ≡ [] }
+        ensures features { result.features ≡ [] }
+        ensures exact { result ≡ signed [] }
     {
         Inside {
             includes: Items::new(alloc),
@@ -74,7 +87,10 @@ impl Inside {
     /// Puts what a member of the class at this place gives at the end.
     fn put(&mut self, class: u32, member: Declaration) -> Result<(), AllocError>
         requires { length self.old.features < 4294967296 }
-        ensures { OnOk result (self.new.features ≡ self.old.features ++ features_of member) }
+        ensures includes { OnOk result (self.new.includes ≡ self.old.includes ++ includes_of member) }
+        ensures features { OnOk result (self.new.features ≡ self.old.features ++ features_of member) }
+        ensures clauses { OnOk result (self.new.clauses ≡ self.old.clauses ++ clauses_at class (length self.old.features) member) }
+        ensures invariant { OnOk result (self.new.invariant ≡ or_before (invariants_of member) self.old.invariant) }
     {
         match member {
             Declaration::Variables(features) => self.features.append(features),
@@ -95,7 +111,10 @@ impl Inside {
         clauses: Clauses,
     ) -> Result<(), AllocError>
         requires { length self.old.features < 4294967296 }
-        ensures { OnOk result (self.new.features ≡ self.old.features ++ feature ∷ []) }
+        ensures features { OnOk result (self.new.features ≡ self.old.features ++ feature ∷ []) }
+        ensures clauses { OnOk result (self.new.clauses
+            ≡ self.old.clauses ++ contract_of class (length self.old.features) clauses.pre clauses.post) }
+        ensures others { OnOk result ((self.new.includes ≡ self.old.includes) × (self.new.invariant ≡ self.old.invariant)) }
     {
         let place = self.features.len() as u32;
         if let Some(contract) = clauses.of(class, place) {
@@ -114,7 +133,9 @@ pub(crate) struct WholeClass {
     pub(crate) invariant: Option<Condition>,
 }
 
-fn whole_class(kind: Kind, head: Head, inside: Inside) -> WholeClass {
+fn whole_class(kind: Kind, head: Head, inside: Inside) -> WholeClass
+    ensures { result ≡ whole_with kind head inside }
+{
     let class = Class {
         kind,
         name: head.name,
@@ -142,6 +163,7 @@ pub(crate) fn class(
 ) -> Result<(WholeClass, u32), FrontFault>
     ensures next { IfOk result (λ read. IsBehind tokens.now.list.now from read.1) }
     ensures refused { IfErr result (IsUnexpected tokens.now.file) }
+    ensures exact { ReadsMade (class_form file_kind) (whole_of place) tokens.now from result }
 {
     if tokens.is_word(from, Word::Abstract) {
         return abstract_class(alloc, tokens, sharing, from + 1);
@@ -158,6 +180,7 @@ fn abstract_class(
 ) -> Result<(WholeClass, u32), FrontFault>
     ensures next { IfOk result (λ read. IsBehind tokens.now.list.now from read.1) }
     ensures refused { IfErr result (IsUnexpected tokens.now.file) }
+    ensures exact { (place : ℕ) → ReadsMade abstract_form (whole_of place) tokens.now from result }
 {
     let next = tokens.after_word(from, Word::Class)?;
     let (head, next) = abstract_head(alloc, tokens, next)?;
@@ -169,6 +192,7 @@ fn abstract_class(
 fn abstract_head(alloc: Global, tokens: &Tokens<'_>, from: u32) -> Result<(Head, u32), FrontFault>
     ensures next { IfOk result (λ read. IsBehind tokens.now.list.now from read.1) }
     ensures refused { IfErr result (IsUnexpected tokens.now.file) }
+    ensures exact { ReadsAs abstract_head_form tokens.now from result }
 {
     let (name, next) = abstract_name(alloc, tokens, from)?;
     let (params, next) = params(alloc, tokens, next)?;
@@ -186,6 +210,7 @@ fn edges(alloc: Global, tokens: &Tokens<'_>, from: u32) -> Result<(DeclaredEdges
     requires { from ≤ length tokens.now.list.now }
     ensures next { IfOk result (λ read. IsFrom tokens.now.list.now from read.1) }
     ensures refused { IfErr result (IsUnexpected tokens.now.file) }
+    ensures exact { ReadsAs edges_form tokens.now from result }
 {
     let (below, next) = types_after(alloc, tokens, Sign::Less, from)?;
     let (above, next) = types_after(alloc, tokens, Sign::Greater, next)?;
@@ -201,6 +226,7 @@ fn abstract_inside(
 ) -> Result<(Inside, u32), FrontFault>
     ensures next { IfOk result (λ read. IsBehind tokens.now.list.now from read.1) }
     ensures refused { IfErr result (IsUnexpected tokens.now.file) }
+    ensures exact { ReadsMade signatures_inside_form signed tokens.now from result }
 {
     let next = tokens.after_word(from, Word::Is)?;
     let (features, next) = signatures(alloc, tokens, sharing, next)?;
@@ -221,6 +247,7 @@ fn concrete_class(
 ) -> Result<(WholeClass, u32), FrontFault>
     ensures next { IfOk result (λ read. IsBehind tokens.now.list.now from read.1) }
     ensures refused { IfErr result (IsUnexpected tokens.now.file) }
+    ensures exact { ReadsMade (concrete_class_form file_kind) (whole_of place) tokens.now from result }
 {
     let (kind, next) = kind(tokens, from);
     let next = tokens.after_word(next, Word::Class)?;
@@ -239,6 +266,7 @@ fn concrete_class(
 fn kind(tokens: &Tokens<'_>, from: u32) -> (Kind, u32)
     ensures from { from ≤ result.1 }
     ensures within { from ≤ length tokens.now.list.now → result.1 ≤ length tokens.now.list.now }
+    ensures exact { KindAt tokens.now.list.now from result.0 result.1 }
 {
     match tokens.kind(from) {
         Some(TokenKind::Word(Word::Immutable)) => (Kind::Immutable, from + 1),
@@ -251,6 +279,7 @@ fn kind(tokens: &Tokens<'_>, from: u32) -> (Kind, u32)
 fn concrete_head(alloc: Global, tokens: &Tokens<'_>, from: u32) -> Result<(Head, u32), FrontFault>
     ensures next { IfOk result (λ read. IsBehind tokens.now.list.now from read.1) }
     ensures refused { IfErr result (IsUnexpected tokens.now.file) }
+    ensures exact { ReadsAs concrete_head_form tokens.now from result }
 {
     let (name, next) = class_name(alloc, tokens, from)?;
     let (params, next) = params(alloc, tokens, next)?;
@@ -276,6 +305,7 @@ fn concrete_inside(
 ) -> Result<(Inside, u32), FrontFault>
     ensures next { IfOk result (λ read. IsBehind tokens.now.list.now from read.1) }
     ensures refused { IfErr result (IsUnexpected tokens.now.file) }
+    ensures exact { ReadsMade (members_inside_form (enclosing class.entry)) (inside_of class.entry.place) tokens.now from result }
 {
     let next = tokens.after_word(from, Word::Is)?;
     let (inside, next) = members(alloc, tokens, class, sharing, next)?;
@@ -288,6 +318,7 @@ fn params(alloc: Global, tokens: &Tokens<'_>, from: u32) -> Result<(Items<Param>
     requires { from ≤ length tokens.now.list.now }
     ensures next { IfOk result (λ read. IsFrom tokens.now.list.now from read.1) }
     ensures refused { IfErr result (IsUnexpected tokens.now.file) }
+    ensures exact { ReadsAs params_form tokens.now from result }
 {
     if !tokens.is_sign(from, Sign::LeftBrace) {
         return Ok((Items::new(alloc), from));
@@ -304,6 +335,7 @@ fn param_list(
 ) -> Result<(Items<Param>, u32), FrontFault>
     ensures next { IfOk result (λ read. IsBehind tokens.now.list.now from read.1) }
     ensures refused { IfErr result (IsUnexpected tokens.now.file) }
+    ensures exact { ReadsAs (list param_form) tokens.now from result }
 {
     let (first, mut next) = param(alloc, tokens, from)?;
     let mut params = Items::new(alloc);
@@ -320,6 +352,7 @@ fn param_list(
 fn param(alloc: Global, tokens: &Tokens<'_>, from: u32) -> Result<(Param, u32), FrontFault>
     ensures next { IfOk result (λ read. IsBehind tokens.now.list.now from read.1) }
     ensures refused { IfErr result (IsUnexpected tokens.now.file) }
+    ensures exact { ReadsAs param_form tokens.now from result }
 {
     let (name, next) = class_name(alloc, tokens, from)?;
     if !tokens.is_sign(next, Sign::Less) {
@@ -340,6 +373,7 @@ fn types_after(
     requires { from ≤ length tokens.now.list.now }
     ensures next { IfOk result (λ read. IsFrom tokens.now.list.now from read.1) }
     ensures refused { IfErr result (IsUnexpected tokens.now.file) }
+    ensures exact { ReadsAs (types_after_form sign) tokens.now from result }
 {
     if !tokens.is_sign(from, sign) {
         return Ok((Items::new(alloc), from));
@@ -357,6 +391,7 @@ fn signatures(
     requires { from ≤ length tokens.now.list.now }
     ensures next { IfOk result (λ read. IsFrom tokens.now.list.now from read.1) }
     ensures refused { IfErr result (IsUnexpected tokens.now.file) }
+    ensures exact { ReadsAs signatures_form tokens.now from result }
 {
     let (first, mut next) = optional_signature(alloc, tokens, sharing, from)?;
     let mut features = Items::new(alloc);
@@ -383,6 +418,7 @@ fn optional_signature(
     requires { from ≤ length tokens.now.list.now }
     ensures next { IfOk result (λ read. IsFrom tokens.now.list.now from read.1) }
     ensures refused { IfErr result (IsUnexpected tokens.now.file) }
+    ensures exact { ReadsAs optional_sig_form tokens.now from (given_as option_to_list result) }
 {
     if !tokens.is_feature_name(from) {
         return Ok((None, from));
@@ -402,6 +438,7 @@ fn members(
     requires { from ≤ length tokens.now.list.now }
     ensures next { IfOk result (λ read. IsFrom tokens.now.list.now from read.1) }
     ensures refused { IfErr result (IsUnexpected tokens.now.file) }
+    ensures exact { ReadsMade (members_form (enclosing class.entry)) (inside_of class.entry.place) tokens.now from result }
 {
     let mut inside = Inside::new(alloc);
     let mut next = add_member(alloc, tokens, class, sharing, &mut inside, from)?;
@@ -425,6 +462,9 @@ fn add_member(
     ensures count { IfOk result (λ next. length inside.new.features ≤ next) }
     ensures next { IfOk result (IsFrom tokens.now.list.now from) }
     ensures refused { IfErr result (IsUnexpected tokens.now.file) }
+    ensures exact { (others : List Declaration) → inside.old ≡ inside_of class.entry.place others
+        → ReadsMade (optional_member_form (enclosing class.entry) (none_yet others)) (λ more. inside_of class.entry.place (others ++ more))
+        tokens.now from (with_tree inside.new result) }
 {
     if !begins_member(tokens.kind(from), class, inside) {
         return Ok(from);

@@ -10,7 +10,13 @@
 //!
 //! `result` and `initial` may stand in the expression of a `post` alone.
 
-ghost use Rattle.std.specs.Prelude.{◌≤◌, IfErr, IfOk, length};
+ghost use Rattle.std.specs.Prelude.{◌≡◌, ◌≤◌, IfErr, IfOk, length};
+ghost use Rattle.std.specs.Option.{option_to_list};
+ghost use Rattle.sa_tree.specs.declared.contract.Condition.{Condition};
+ghost use Rattle.sa_parse.specs.Classes.{contract_of};
+ghost use Rattle.sa_parse.specs.ConditionForms.{clause_form, clauses_form, closing_form, condition_form, holding_form, with_tree};
+ghost use Rattle.sa_parse.specs.Conditions.{no_clauses};
+ghost use Rattle.sa_parse_expr.specs.Exactly.{ReadsAs};
 ghost use Rattle.sa_parse_expr.specs.Places.{IsBehind, IsFrom, IsUnexpected};
 
 use crate::file::FileKind;
@@ -29,7 +35,9 @@ pub(crate) struct Clauses {
 
 impl Clauses {
     /// Those of a feature for which none is written.
-    pub(crate) fn none() -> Clauses {
+    pub(crate) fn none() -> Clauses
+        ensures { result ≡ no_clauses }
+    {
         Clauses {
             pre: None,
             post: None,
@@ -37,7 +45,9 @@ impl Clauses {
     }
 
     /// The contract that they are of this feature of this class, if one of them is written.
-    pub(crate) fn of(self, class: u32, feature: u32) -> Option<Contract> {
+    pub(crate) fn of(self, class: u32, feature: u32) -> Option<Contract>
+        ensures { option_to_list result ≡ contract_of class feature self.pre self.post }
+    {
         if self.pre.is_none() && self.post.is_none() {
             return None;
         }
@@ -61,6 +71,7 @@ pub(crate) fn feature_clauses(
     requires { from ≤ length tokens.now.list.now }
     ensures next { IfOk result (λ read. IsFrom tokens.now.list.now from read.1) }
     ensures refused { IfErr result (IsUnexpected tokens.now.file) }
+    ensures exact { ReadsAs (clauses_form file_kind) tokens.now from result }
 {
     if file_kind == FileKind::Prelude {
         return Ok((Clauses::none(), from));
@@ -81,6 +92,7 @@ fn clause(
     requires { from ≤ length tokens.now.list.now }
     ensures next { IfOk result (λ read. IsFrom tokens.now.list.now from read.1) }
     ensures refused { IfErr result (IsUnexpected tokens.now.file) }
+    ensures exact { ReadsAs (clause_form word scope) tokens.now from result }
 {
     if !tokens.is_word(from, word) {
         return Ok((None, from));
@@ -98,6 +110,7 @@ fn condition(
 ) -> Result<(Condition, u32), FrontFault>
     ensures next { IfOk result (λ read. IsBehind tokens.now.list.now from read.1) }
     ensures refused { IfErr result (IsUnexpected tokens.now.file) }
+    ensures exact { ReadsAs (condition_form scope) tokens.now from result }
 {
     let (test, next) = read_condition(alloc, tokens, scope, from)?;
     let pos = tokens.pos(from);
@@ -112,6 +125,7 @@ pub(crate) fn invariant(
 ) -> Result<(Condition, u32), FrontFault>
     ensures next { IfOk result (λ read. IsBehind tokens.now.list.now from read.1) }
     ensures refused { IfErr result (IsUnexpected tokens.now.file) }
+    ensures exact { ReadsAs holding_form tokens.now from result }
 {
     let next = tokens.after_sign(from, Sign::Colon)?;
     let next = after_bool(tokens, next)?;
@@ -125,6 +139,7 @@ pub(crate) fn invariant(
 fn after_closing(tokens: &Tokens<'_>, from: u32) -> Result<u32, FrontFault>
     ensures next { IfOk result (IsBehind tokens.now.list.now from) }
     ensures refused { IfErr result (IsUnexpected tokens.now.file) }
+    ensures exact { (holds : Condition) → ReadsAs (closing_form holds) tokens.now from (with_tree holds result) }
 {
     if tokens.is_sign(from, Sign::Semicolon) {
         return tokens.after_word(from + 1, Word::End);

@@ -11,7 +11,14 @@
 //! so that each feature has its own. A constant without a written type has no type in the tree; it is the initialiser
 //! plus the number of names before it.
 
-ghost use Rattle.std.specs.Prelude.{◌+◌, ◌≤◌, IfErr, IfOk, length};
+ghost use Rattle.std.specs.Prelude.{◌+◌, ◌≡◌, ◌≤◌, IfErr, IfOk, length};
+ghost use Rattle.sa_parse.specs.FeatureForms as form;
+ghost use Rattle.sa_parse.specs.FeatureForms.{attr_form, constants_form, counted_constants_of};
+ghost use Rattle.sa_parse.specs.FeatureForms.{shared_form, shared_parts_form, typed_constant_of};
+ghost use Rattle.sa_parse.specs.Features.{variable_of};
+ghost use Rattle.sa_parse.specs.Trees.{ReadsTree};
+ghost use Rattle.sa_parse_expr.specs.Exactly.{ReadsAs};
+ghost use Rattle.sa_parse_expr.specs.StatementForms.{assigned_form};
 ghost use Rattle.sa_parse_expr.specs.Places.{IsBehind, IsFrom, IsUnexpected};
 
 use crate::names::{lower_name, lower_names};
@@ -24,7 +31,9 @@ use sqlite_items::Items;
 use std::alloc::Global;
 
 /// A feature without arguments.
-fn variable(alloc: Global, access: Access, name: Local, ty: Option<Ty>, part: Part) -> Feature {
+fn variable(alloc: Global, access: Access, name: Local, ty: Option<Ty>, part: Part) -> Feature
+    ensures { result ≡ variable_of access ty part name }
+{
     Feature {
         name,
         access,
@@ -41,7 +50,9 @@ struct SharedParts {
     value: Option<Expr>,
 }
 
-fn shared_of(alloc: Global, access: Access, name: Local, parts: SharedParts) -> Feature {
+fn shared_of(alloc: Global, access: Access, name: Local, parts: SharedParts) -> Feature
+    ensures { result ≡ form.shared_of access parts name }
+{
     variable(
         alloc,
         access,
@@ -62,6 +73,7 @@ pub(crate) fn attr(
     ensures count { IfOk result (λ read. from + length read.0 ≤ read.1) }
     ensures next { IfOk result (λ read. IsBehind tokens.now.list.now from read.1) }
     ensures refused { IfErr result (IsUnexpected tokens.now.file) }
+    ensures exact { ReadsAs (attr_form access) tokens.now from result }
 {
     let (names, next) = lower_names(alloc, tokens, from)?;
     let at = tokens.after_sign(next, Sign::Colon)?;
@@ -86,6 +98,7 @@ pub(crate) fn shared(
     ensures count { IfOk result (λ read. from + length read.0 ≤ read.1) }
     ensures next { IfOk result (λ read. IsBehind tokens.now.list.now from read.1) }
     ensures refused { IfErr result (IsUnexpected tokens.now.file) }
+    ensures exact { ReadsAs (shared_form access) tokens.now from result }
 {
     let (names, next) = lower_names(alloc, tokens, from)?;
     let at = tokens.after_sign(next, Sign::Colon)?;
@@ -108,6 +121,7 @@ fn counted_parts(
 ) -> Result<(SharedParts, u32), FrontFault>
     ensures next { IfOk result (λ read. IsBehind tokens.now.list.now from read.1) }
     ensures refused { IfErr result (IsUnexpected tokens.now.file) }
+    ensures exact { ReadsAs shared_parts_form tokens.now from result }
 {
     let (parts, next) = shared_parts(alloc, tokens, from)?;
     sharing.count(tokens, from, next)?;
@@ -122,6 +136,7 @@ fn shared_parts(
 ) -> Result<(SharedParts, u32), FrontFault>
     ensures next { IfOk result (λ read. IsBehind tokens.now.list.now from read.1) }
     ensures refused { IfErr result (IsUnexpected tokens.now.file) }
+    ensures exact { ReadsAs shared_parts_form tokens.now from result }
 {
     let (ty, next) = read_type(alloc, tokens, from)?;
     let (value, next) = assigned(alloc, tokens, next)?;
@@ -139,6 +154,7 @@ pub(crate) fn constants(
     ensures count { IfOk result (λ read. from + length read.0 ≤ read.1) }
     ensures next { IfOk result (λ read. IsBehind tokens.now.list.now from read.1) }
     ensures refused { IfErr result (IsUnexpected tokens.now.file) }
+    ensures exact { ReadsAs (constants_form access) tokens.now from result }
 {
     let (first, next) = lower_name(alloc, tokens, from)?;
     if tokens.is_sign(next, Sign::Colon) {
@@ -159,6 +175,7 @@ fn typed_constant(
     ensures count { IfOk result (λ read. from + length read.0 ≤ read.1) }
     ensures next { IfOk result (λ read. IsBehind tokens.now.list.now from read.1) }
     ensures refused { IfErr result (IsUnexpected tokens.now.file) }
+    ensures exact { ReadsAs (typed_constant_of access name) tokens.now from result }
 {
     let (ty, next) = read_type(alloc, tokens, from)?;
     let next = tokens.after_sign(next, Sign::Assign)?;
@@ -182,6 +199,7 @@ fn counted_constants(
     ensures count { IfOk result (λ read. from + length read.0 ≤ read.1 + 1) }
     ensures next { IfOk result (λ read. IsFrom tokens.now.list.now from read.1) }
     ensures refused { IfErr result (IsUnexpected tokens.now.file) }
+    ensures exact { ReadsAs (counted_constants_of access first) tokens.now from result }
 {
     let (value, mut next) = assigned(alloc, tokens, from)?;
     let part = Part::Const(value, 0);
@@ -207,7 +225,8 @@ fn counted_value(
     from: u32,
 ) -> Result<Option<Expr>, FrontFault>
     requires { from ≤ length tokens.now.list.now }
-    ensures { IfErr result (IsUnexpected tokens.now.file) }
+    ensures refused { IfErr result (IsUnexpected tokens.now.file) }
+    ensures exact { ReadsTree assigned_form tokens.now from result }
 {
     let (value, next) = assigned(alloc, tokens, from)?;
     sharing.count(tokens, from, next)?;

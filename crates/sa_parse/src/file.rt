@@ -4,10 +4,18 @@
 //! file = [class] {";" [class]}
 //! ```
 
-ghost use Rattle.std.specs.Prelude.{◌≡◌, ◌+◌, ◌<◌, ◌≤◌, [], All, IfErr, IfOk, OnOk, length};
+ghost use Rattle.std.specs.Prelude.{◌≡◌, ◌+◌, ◌<◌, ◌≤◌, [], ◌++◌, All, IfErr, IfOk, OnOk, length, map};
+ghost use Rattle.std.specs.List.{flat_map};
+ghost use Rattle.std.specs.Option.{option_to_list};
 ghost use Rattle.sa_lex.specs.Token.{IsWithin};
+ghost use Rattle.sa_tree.specs.declared.contract.Contract.TheVariants as contract;
+ghost use Rattle.sa_parse_expr.specs.Exactly.{given_as};
 ghost use Rattle.sa_parse_expr.specs.Level.{AreTaken};
 ghost use Rattle.sa_parse_expr.specs.Places.{IsFrom, IsUnexpected};
+ghost use Rattle.sa_parse.specs.ClassForms.{optional_class_form};
+ghost use Rattle.sa_parse.specs.Classes.{contracts_in, whole_of};
+ghost use Rattle.sa_parse.specs.Files.{FileReads, Parses};
+ghost use Rattle.sa_parse.specs.Made.{ReadsMade};
 ghost use Rattle.sa_parse.specs.Refusals.{IsRefusal};
 
 use crate::class::{WholeClass, class};
@@ -36,7 +44,7 @@ pub struct Parsed {
 
 impl Parsed {
     fn new(alloc: Global) -> Parsed
-        ensures { result.classes ≡ [] }
+        ensures { result ≡ record { classes = []; contracts = [] } }
     {
         Parsed {
             classes: Items::new(alloc),
@@ -46,7 +54,9 @@ impl Parsed {
 
     /// Puts the class with this place at the end, and its contracts.
     fn put(&mut self, place: u32, one: Option<WholeClass>) -> Result<(), AllocError>
-        ensures { OnOk result (length self.new.classes ≤ length self.old.classes + 1) }
+        ensures count { OnOk result (length self.new.classes ≤ length self.old.classes + 1) }
+        ensures classes { OnOk result (self.new.classes ≡ self.old.classes ++ map (λ one. one.class) (option_to_list one)) }
+        ensures contracts { OnOk result (self.new.contracts ≡ self.old.contracts ++ flat_map (contracts_in place) (option_to_list one)) }
     {
         let Some(
             WholeClass {
@@ -69,7 +79,9 @@ impl Parsed {
         clauses: Items<Contract>,
         invariant: Option<Condition>,
     ) -> Result<(), AllocError>
-        ensures { OnOk result (self.new.classes ≡ self.old.classes) }
+        ensures classes { OnOk result (self.new.classes ≡ self.old.classes) }
+        ensures contracts { OnOk result
+            (self.new.contracts ≡ self.old.contracts ++ clauses ++ map (contract.Invariant class) (option_to_list invariant)) }
     {
         self.contracts.append(clauses)?;
         match invariant {
@@ -99,6 +111,7 @@ pub fn parse(
     requires few { first + length tokens.now < 4294967295 }
     ensures taken { OnOk result (AreTaken tokens.now (length tokens.now)) }
     ensures refused { IfErr result (IsRefusal tokens.now file) }
+    ensures exact { Parses file src.now tokens.now file_kind first result }
 {
     scan(alloc, tokens, file)?;
     let tokens = Tokens {
@@ -117,7 +130,8 @@ fn classes(
     first: u32,
 ) -> Result<Parsed, FrontFault>
     requires { first + length tokens.now.list.now < 4294967295 }
-    ensures { IfErr result (IsUnexpected tokens.now.file) }
+    ensures refused { IfErr result (IsUnexpected tokens.now.file) }
+    ensures exact { FileReads tokens.now.file tokens.now.src.now tokens.now.list.now file_kind first result }
 {
     let mut sharing = Sharing::new();
     let mut parsed = Parsed::new(alloc);
@@ -147,6 +161,8 @@ fn optional_class(
     requires { from ≤ length tokens.now.list.now }
     ensures next { IfOk result (λ read. IsFrom tokens.now.list.now from read.1) }
     ensures refused { IfErr result (IsUnexpected tokens.now.file) }
+    ensures exact { ReadsMade (optional_class_form file_kind) (λ written. map (whole_of place) written) tokens.now from
+        (given_as option_to_list result) }
 {
     if !begins_class(tokens.kind(from)) {
         return Ok((None, from));

@@ -10,7 +10,12 @@
 //!
 //! F is a lower name or the name of an iter. Whether both names of a change are of one kind isn't decided here.
 
-ghost use Rattle.std.specs.Prelude.{◌≤◌, IfErr, IfOk, length};
+ghost use Rattle.std.specs.Prelude.{◌≡◌, ◌≤◌, IfErr, IfOk, length};
+ghost use Rattle.sa_parse.specs.FeatureForms.{change_form, changed_form, include_form, is_private, optional_changes_form, renamed};
+ghost use Rattle.sa_parse.specs.declared.member.Declaration.TheVariants as member;
+ghost use Rattle.sa_parse_expr.specs.Exactly.{ReadsAs, given_as};
+ghost use Rattle.sa_parse_expr.specs.Forms.{list};
+ghost use Rattle.sa_parse_expr.specs.Lexemes.{Lexeme};
 ghost use Rattle.sa_parse_expr.specs.Places.{IsBehind, IsFrom, IsUnexpected};
 
 use crate::names::feature_name;
@@ -27,7 +32,9 @@ struct NewName {
     name: Option<Name>,
 }
 
-fn change_of(left: Local, new: NewName) -> Change {
+fn change_of(left: Local, new: NewName) -> Change
+    ensures { result ≡ record { from = left; to = new.name; access = new.access } }
+{
     Change {
         from: left,
         to: new.name,
@@ -44,6 +51,7 @@ pub(crate) fn include(
 ) -> Result<(Include, u32), FrontFault>
     ensures next { IfOk result (λ read. IsBehind tokens.now.list.now from read.1) }
     ensures refused { IfErr result (IsUnexpected tokens.now.file) }
+    ensures exact { ReadsAs (include_form (is_private access)) tokens.now from (given_as member.Include result) }
 {
     let (ty, next) = read_type(alloc, tokens, from)?;
     let (changes, next) = optional_changes(alloc, tokens, next)?;
@@ -64,6 +72,7 @@ fn optional_changes(
     requires { from ≤ length tokens.now.list.now }
     ensures next { IfOk result (λ read. IsFrom tokens.now.list.now from read.1) }
     ensures refused { IfErr result (IsUnexpected tokens.now.file) }
+    ensures exact { ReadsAs optional_changes_form tokens.now from result }
 {
     if !tokens.is_feature_name(from) {
         return Ok((Items::new(alloc), from));
@@ -79,6 +88,7 @@ fn changes(
 ) -> Result<(Items<Change>, u32), FrontFault>
     ensures next { IfOk result (λ read. IsBehind tokens.now.list.now from read.1) }
     ensures refused { IfErr result (IsUnexpected tokens.now.file) }
+    ensures exact { ReadsAs (list change_form) tokens.now from result }
 {
     let (first, mut next) = change(alloc, tokens, from)?;
     let mut changes = Items::new(alloc);
@@ -95,6 +105,7 @@ fn changes(
 fn change(alloc: Global, tokens: &Tokens<'_>, from: u32) -> Result<(Change, u32), FrontFault>
     ensures next { IfOk result (λ read. IsBehind tokens.now.list.now from read.1) }
     ensures refused { IfErr result (IsUnexpected tokens.now.file) }
+    ensures exact { ReadsAs change_form tokens.now from result }
 {
     let (left, next) = feature_name(alloc, tokens, from)?;
     let next = tokens.after_sign(next, Sign::Arrow)?;
@@ -107,6 +118,7 @@ fn new_name(alloc: Global, tokens: &Tokens<'_>, from: u32) -> Result<(NewName, u
     requires { from ≤ length tokens.now.list.now }
     ensures next { IfOk result (λ read. IsFrom tokens.now.list.now from read.1) }
     ensures refused { IfErr result (IsUnexpected tokens.now.file) }
+    ensures exact { (f : Lexeme) → ReadsAs (changed_form f) tokens.now from (given_as (renamed f) result) }
 {
     let (access, next) = match tokens.kind(from) {
         Some(TokenKind::Lower | TokenKind::IterName) => (Access::Public, from),

@@ -13,9 +13,15 @@
 //! whole_body = "is" stmts "end"
 //! ```
 
-ghost use Rattle.std.specs.Prelude.{◌+◌, ◌≤◌, IfErr, IfOk, length};
-ghost use Rattle.sa_parse.specs.Features.{features_of};
-ghost use Rattle.sa_parse_expr.specs.Places.{IsBehind, IsUnexpected};
+ghost use Rattle.std.specs.Prelude.{◌+◌, ◌≡◌, ◌≤◌, Bool, IfErr, IfOk, length};
+ghost use Rattle.sa_parse.specs.Classes.{enclosing};
+ghost use Rattle.sa_parse.specs.FeatureForms.{MayStand, builtin_form, called_form, declared_or, member_form, open_form};
+ghost use Rattle.sa_parse.specs.FeatureForms.{routine_form, whole_body_form, without_clauses};
+ghost use Rattle.sa_parse.specs.Features.{feature_of, features_of};
+ghost use Rattle.sa_parse.specs.declared.member.Declaration.TheVariants as declaration;
+ghost use Rattle.sa_parse_expr.specs.Exactly.{ReadsAs, given_as};
+ghost use Rattle.sa_parse_expr.specs.Forms.{refuse};
+ghost use Rattle.sa_parse_expr.specs.Places.{IsBehind, IsUnexpected, kind_at};
 
 use crate::body::read_body;
 use crate::contract::{Clauses, feature_clauses, invariant};
@@ -53,7 +59,9 @@ pub(crate) enum Declaration {
 }
 
 /// The feature of a signature.
-pub(crate) fn of_sig(sig: Signature, access: Access, part: Part) -> Feature {
+pub(crate) fn of_sig(sig: Signature, access: Access, part: Part) -> Feature
+    ensures { result ≡ feature_of sig access part }
+{
     Feature {
         name: sig.name,
         access,
@@ -74,6 +82,8 @@ pub(crate) fn member(
     ensures count { IfOk result (λ read. from + length (features_of read.0) ≤ read.1) }
     ensures next { IfOk result (λ read. IsBehind tokens.now.list.now from read.1) }
     ensures refused { IfErr result (IsUnexpected tokens.now.file) }
+    ensures exact { (invariants : Bool) → MayStand class.entry.file_kind invariants (kind_at tokens.now.list.now from)
+        → ReadsAs (member_form (enclosing class.entry) invariants) tokens.now from result }
 {
     match tokens.kind(from) {
         Some(TokenKind::Word(Word::Private)) => {
@@ -103,6 +113,7 @@ fn after_access(
     ensures count { IfOk result (λ read. from + length (features_of read.0) ≤ read.1) }
     ensures next { IfOk result (λ read. IsBehind tokens.now.list.now from read.1) }
     ensures refused { IfErr result (IsUnexpected tokens.now.file) }
+    ensures exact { ReadsAs (open_form (enclosing class.entry) access) tokens.now from result }
 {
     match tokens.kind(from) {
         Some(TokenKind::Word(Word::Include)) => {
@@ -132,6 +143,7 @@ fn variables(
     ensures count { IfOk result (λ read. from + length read.0 ≤ read.1) }
     ensures next { IfOk result (λ read. IsBehind tokens.now.list.now from read.1) }
     ensures refused { IfErr result (IsUnexpected tokens.now.file) }
+    ensures exact { ReadsAs (declared_or access refuse) tokens.now from (given_as declaration.Variables result) }
 {
     match tokens.kind(from) {
         Some(TokenKind::Word(Word::Attr)) => attr(alloc, tokens, sharing, access, from + 1),
@@ -152,6 +164,7 @@ fn called(
     ensures count { IfOk result (λ read. from + length (features_of read.0) ≤ read.1) }
     ensures next { IfOk result (λ read. IsBehind tokens.now.list.now from read.1) }
     ensures refused { IfErr result (IsUnexpected tokens.now.file) }
+    ensures exact { ReadsAs (called_form (enclosing class.entry) access) tokens.now from result }
 {
     match tokens.kind(from) {
         Some(TokenKind::Word(Word::Stub)) if class.kind == Kind::Partial => {
@@ -178,6 +191,7 @@ fn builtin(
 ) -> Result<(Feature, u32), FrontFault>
     ensures next { IfOk result (λ read. IsBehind tokens.now.list.now from read.1) }
     ensures refused { IfErr result (IsUnexpected tokens.now.file) }
+    ensures exact { ReadsAs (builtin_form class.entry.name.now access) tokens.now from (given_as without_clauses result) }
 {
     let (sig, next) = sig(alloc, tokens, sharing, from)?;
     let of = class.name.copy(alloc)?;
@@ -197,6 +211,7 @@ fn routine(
     ensures count { IfOk result (λ read. from + length (features_of read.0) ≤ read.1) }
     ensures next { IfOk result (λ read. IsBehind tokens.now.list.now from read.1) }
     ensures refused { IfErr result (IsUnexpected tokens.now.file) }
+    ensures exact { ReadsAs (routine_form (enclosing class.entry) access) tokens.now from result }
 {
     let (sig, next) = sig(alloc, tokens, sharing, from)?;
     let (clauses, next) = feature_clauses(alloc, tokens, class.file_kind, next)?;
@@ -209,6 +224,7 @@ fn routine(
 fn whole_body(alloc: Global, tokens: &Tokens<'_>, from: u32) -> Result<(Body, u32), FrontFault>
     ensures next { IfOk result (λ read. IsBehind tokens.now.list.now from read.1) }
     ensures refused { IfErr result (IsUnexpected tokens.now.file) }
+    ensures exact { ReadsAs whole_body_form tokens.now from result }
 {
     let (body, next) = read_body(alloc, tokens, Word::Is, from)?;
     let next = tokens.after_word(next, Word::End)?;

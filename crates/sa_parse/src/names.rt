@@ -2,6 +2,7 @@
 
 ghost use Rattle.std.specs.Prelude.{◌≡◌, ◌+◌, ◌≤◌, IfErr, IfOk, vec_len};
 ghost use Rattle.sa_parse.specs.Classes.{IsAbstractName, IsClassName};
+ghost use Rattle.sa_parse.specs.ConditionForms.{is_bool, with_tree};
 ghost use Rattle.sa_parse.specs.Conditions.{IsBool};
 ghost use Rattle.sa_parse.specs.Names.{IsLower, IsName, IsNames, name_at};
 ghost use Rattle.sa_parse_expr.specs.Exactly.{ReadsAs, given_as};
@@ -103,6 +104,7 @@ pub(crate) fn after_bool(tokens: &Tokens<'_>, from: u32) -> Result<u32, FrontFau
     ensures alone { IfOk result (λ next. next ≡ from + 1) }
     ensures spelled { IfOk result (λ _. Stands IsBool tokens.now from) }
     ensures refused { IfErr result (IsUnexpected tokens.now.file) }
+    ensures exact { ReadsAs (name_as is_bool) tokens.now from (with_tree (name_at tokens.now from) result) }
 {
     match tokens.kind(from) {
         Some(TokenKind::ClassName) if tokens.bytes(from) == b"BOOL".as_slice() => Ok(from + 1),

@@ -1,6 +1,8 @@
 //! Types and initialisers that several names share.
 
 ghost use Rattle.std.specs.Prelude.{IfErr, IfOk};
+ghost use Rattle.sa_parse_expr.specs.Exactly.{ReadsAs};
+ghost use Rattle.sa_parse_expr.specs.Forms.{nest, type};
 ghost use Rattle.sa_parse_expr.specs.Places.{IsBehind, IsUnexpected};
 
 use sa_parse_expr::{Tokens, read_type};
@@ -48,6 +50,7 @@ pub(crate) fn counted_type(
 ) -> Result<(Ty, u32), FrontFault>
     ensures next { IfOk result (λ read. IsBehind tokens.now.list.now from read.1) }
     ensures refused { IfErr result (IsUnexpected tokens.now.file) }
+    ensures exact { ReadsAs (nest type) tokens.now from result }
 {
     let (ty, next) = read_type(alloc, tokens, from)?;
     sharing.count(tokens, from, next)?;

@@ -10,8 +10,11 @@
 //!
 //! F is a lower name or the name of an iter. `once` is a mode in the signatures of iters alone.
 
-ghost use Rattle.std.specs.Prelude.{◌≤◌, IfErr, IfOk, length};
-ghost use Rattle.sa_parse_expr.specs.Places.{IsBehind, IsFrom, IsUnexpected};
+ghost use Rattle.std.specs.Prelude.{◌≡◌, ◌≤◌, IfErr, IfOk, IfSome, length};
+ghost use Rattle.sa_parse.specs.SignatureForms.{arguments_form, formal_form, formals_form, sig_form, written_result_form};
+ghost use Rattle.sa_parse.specs.Signatures.{callable_of};
+ghost use Rattle.sa_parse_expr.specs.Exactly.{ReadsAs};
+ghost use Rattle.sa_parse_expr.specs.Places.{IsBehind, IsFrom, IsUnexpected, kind_at};
 
 use crate::names::{feature_name, lower_names};
 use crate::sharing::{Sharing, counted_type};
@@ -30,7 +33,9 @@ pub(crate) struct Signature {
 }
 
 /// What kind of callable a feature is of the name that stands there.
-fn callable_at(tokens: &Tokens<'_>, at: u32) -> CallableKind {
+fn callable_at(tokens: &Tokens<'_>, at: u32) -> CallableKind
+    ensures { IfSome (kind_at tokens.now.list.now at) (λ kind. result ≡ callable_of kind) }
+{
     match tokens.kind(at) {
         Some(TokenKind::IterName) => CallableKind::Iter,
         _ => CallableKind::Routine,
@@ -46,6 +51,7 @@ pub(crate) fn sig(
 ) -> Result<(Signature, u32), FrontFault>
     ensures next { IfOk result (λ read. IsBehind tokens.now.list.now from read.1) }
     ensures refused { IfErr result (IsUnexpected tokens.now.file) }
+    ensures exact { ReadsAs sig_form tokens.now from result }
 {
     let callable = callable_at(tokens, from);
     let (name, next) = feature_name(alloc, tokens, from)?;
@@ -70,6 +76,7 @@ fn arguments(
     requires { from ≤ length tokens.now.list.now }
     ensures next { IfOk result (λ read. IsFrom tokens.now.list.now from read.1) }
     ensures refused { IfErr result (IsUnexpected tokens.now.file) }
+    ensures exact { ReadsAs (arguments_form callable) tokens.now from result }
 {
     if !tokens.is_sign(from, Sign::LeftParen) {
         return Ok((Items::new(alloc), from));
@@ -88,6 +95,7 @@ fn formals(
 ) -> Result<(Items<Formal>, u32), FrontFault>
     ensures next { IfOk result (λ read. IsBehind tokens.now.list.now from read.1) }
     ensures refused { IfErr result (IsUnexpected tokens.now.file) }
+    ensures exact { ReadsAs (formals_form callable) tokens.now from result }
 {
     let (mut list, mut next) = formal(alloc, tokens, sharing, callable, from)?;
     'more: while tokens.is_sign(next, Sign::Comma) {
@@ -108,6 +116,7 @@ fn formal(
 ) -> Result<(Items<Formal>, u32), FrontFault>
     ensures next { IfOk result (λ read. IsBehind tokens.now.list.now from read.1) }
     ensures refused { IfErr result (IsUnexpected tokens.now.file) }
+    ensures exact { ReadsAs (formal_form callable) tokens.now from result }
 {
     let (mode, next) = read_mode(tokens, callable, from);
     let (names, next) = lower_names(alloc, tokens, next)?;
@@ -132,6 +141,7 @@ fn written_result(
     requires { from ≤ length tokens.now.list.now }
     ensures next { IfOk result (λ read. IsFrom tokens.now.list.now from read.1) }
     ensures refused { IfErr result (IsUnexpected tokens.now.file) }
+    ensures exact { ReadsAs written_result_form tokens.now from result }
 {
     if !tokens.is_sign(from, Sign::Colon) {
         return Ok((None, from));

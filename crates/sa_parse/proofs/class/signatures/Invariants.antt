@@ -1,9 +1,13 @@
 use Rattle.std.proofs.Common.{length, ◌-◌}
 use Rattle.sa_parse_expr.specs.Places.{IsFrom}
+use Rattle.sa_parse.proofs.ExactClasses.{SignaturesRead}
 use Rattle.sa_parse.proofs.class.signatures.Given as goal
 
 abbrev pub invariant-more : goal.invariant-more
-invariant-more l = IsFrom l.tokens.list.now l.from l.next
+invariant-more l = record {
+  behind : IsFrom l.tokens.list.now l.from l.next;
+  read : SignaturesRead l.tokens l.from l.features l.next;
+}
 
 abbrev pub decreases-more : goal.decreases-more
 decreases-more l = length l.tokens.list.now - l.next

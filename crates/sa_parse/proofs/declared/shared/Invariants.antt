@@ -1,10 +1,16 @@
-use Rattle.std.proofs.Common.{length, ◌+◌, ◌≤◌}
-use Rattle.std.specs.Vec.Iter.{into_iter_len}
+use Rattle.std.proofs.Common.{◌≡◌, ◌+◌, ◌≤◌, ◌++◌, length}
+use Rattle.std.specs.Vec.Iter.{into_iter_items, into_iter_len}
 use Rattle.sa_parse_expr.specs.Places.{IsBehind}
+use Rattle.sa_parse.specs.FeatureForms.{shared_of, shared_parts_form}
+use Rattle.sa_parse.proofs.ExactCopies.{CopiesRead}
 use Rattle.sa_parse.proofs.declared.shared.Given as goal
 
 abbrev pub invariant-more : goal.invariant-more
-invariant-more l =
-    (IsBehind l.tokens.list.now l.from l.end)
-    × (l.at ≤ l.end)
-    × (l.from + length l.features + into_iter_len l.name-iterator ≤ l.at)
+invariant-more l = record {
+  behind : IsBehind l.tokens.list.now l.from l.end;
+  at : l.at ≤ l.end;
+  count : l.from + length l.features + into_iter_len l.name-iterator ≤ l.at;
+  names : l.yielded ++ into_iter_items l.name-iterator ≡ into_iter_items l.initial.name-iterator;
+  left : into_iter_len l.name-iterator ≡ length (into_iter_items l.name-iterator);
+  read : CopiesRead l.tokens shared_parts_form (shared_of l.access) l.at l.yielded l.features l.end;
+}
