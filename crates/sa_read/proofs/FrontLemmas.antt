@@ -1,14 +1,21 @@
 -- The texts of a program, phase by phase.
-use Rattle.std.proofs.Common.{◌≡◌, ℕ, ◌+◌, ◌<◌, ◌≤◌, List, [], ◌∷◌, ◌++◌, length, slice_index_or, sym, subst, ◌∙◌, arith, inl, inr}
-use Rattle.std.proofs.lemmas.List.{get_or_append_left, get_or_default, get_or_push, length-append}
+use Rattle.std.proofs.Common.{◌≡◌, ℕ, ◌+◌, ◌<◌, List, [], ◌∷◌, ◌++◌, length, map, slice_index_or, sym, subst, ap, refl, ◌∙◌}
+use Rattle.std.proofs.Common.{append_assoc, arith, inl, inr}
+use Rattle.std.specs.List.{flat_map}
+use Rattle.std.proofs.lemmas.List.{flat_map_more, get_or_append_left, get_or_default, get_or_push, length-append, length-map, map-append}
 use Rattle.std.proofs.lemmas.Bool.{cases_lt}
 use Rattle.sa_lex.specs.declared.token.Token.{Token}
 use Rattle.sa_lex.specs.Tokens.{AreTokensOf, IsFaultOf, RefusesText}
 use Rattle.sa_parse_expr.specs.Level.{RefusesTokens}
-use Rattle.sa_parse.specs.Refusals.{IsRefusal}
+use Rattle.sa_parse.specs.declared.file.Parsed.{Parsed}
+use Rattle.sa_parse.specs.Classes.{Written, class_of, contracts_from, contracts_of, parsed_of}
+use Rattle.sa_parse.proofs.Appended.{appended, same_parsed}
+use Rattle.sa_tree.specs.declared.class.Class.{Class}
+use Rattle.sa_tree.specs.declared.contract.Contract.{Contract}
 use Rattle.sa_tree.specs.declared.refusal.FrontFault.{FrontFault}
 use Rattle.sa_tree.specs.declared.refusal.FrontFault.TheVariants.{Refused, NoMemory}
-use Rattle.sa_read.specs.Front.{AreTokensOfTexts, AreTokenizedUpTo, IsTakenUpTo, RefusesProgram}
+use Rattle.sa_read.specs.Front.{AreTokensOfTexts, AreTokenizedUpTo, IsParsedOf, IsParsedUpTo, IsSpelled, IsTakenUpTo, IsUnexpectedIn}
+use Rattle.sa_read.specs.Front.{RefusesFile, RefusesProgram}
 use Rattle.sa_read.specs.Program.{at}
 
 -- what holds up to a number and of it holds up to the next one
@@ -21,7 +28,8 @@ up_to_next P n before here k lt = elim (cases_lt k n) [
 ]
 
 -- one more list of tokens
-pub tokens_more : (texts : List (List ℕ)) (lists : List (List Token)) (tokens : List Token) (n : ℕ) → AreTokensOfTexts texts lists n → AreTokensOf (at texts n) tokens → AreTokensOfTexts texts (lists ++ tokens ∷ []) (n + 1)
+pub tokens_more : (texts : List (List ℕ)) (lists : List (List Token)) (tokens : List Token) (n : ℕ)
+    → AreTokensOfTexts texts lists n → AreTokensOf (at texts n) tokens → AreTokensOfTexts texts (lists ++ tokens ∷ []) (n + 1)
 tokens_more texts lists tokens n (count, each) here = (
   omega (arith, length-append lists (tokens ∷ []), count),
   up_to_next (λ k. AreTokensOf (at texts k) (slice_index_or (lists ++ tokens ∷ []) k [])) n
@@ -33,7 +41,8 @@ tokenized : (texts : List (List ℕ)) (lists : List (List Token)) (n : ℕ) → 
 tokenized texts lists n (count, each) k lt = (slice_index_or lists k [], each k lt)
 
 -- a text without tokens behind texts that have them
-pub lexical : (texts : List (List ℕ)) (lists : List (List Token)) (n : ℕ) (fault : FrontFault) → AreTokensOfTexts texts lists n → n < length texts → RefusesText (at texts n) n fault → RefusesProgram texts fault
+pub lexical : (texts : List (List ℕ)) (lists : List (List Token)) (n : ℕ) (fault : FrontFault)
+    → AreTokensOfTexts texts lists n → n < length texts → RefusesText (at texts n) n fault → RefusesProgram texts fault
 lexical texts lists n NoMemory each there refused = tt
 lexical texts lists n (Refused refusal) each there (fault, file) = inl (record {
   within = rw file there;
@@ -42,7 +51,9 @@ lexical texts lists n (Refused refusal) each there (fault, file) = inl (record {
 })
 
 -- a text whose tokens break a rule behind texts whose tokens don't
-pub breach : (texts : List (List ℕ)) (lists : List (List Token)) (n : ℕ) (fault : FrontFault) → AreTokensOfTexts texts lists (length texts) → n < length texts → IsTakenUpTo texts n → RefusesTokens (slice_index_or lists n []) n fault → RefusesProgram texts fault
+pub breach : (texts : List (List ℕ)) (lists : List (List Token)) (n : ℕ) (fault : FrontFault)
+    → AreTokensOfTexts texts lists (length texts) → n < length texts → IsTakenUpTo texts n
+    → RefusesTokens (slice_index_or lists n []) n fault → RefusesProgram texts fault
 breach texts lists n NoMemory each there before refused = tt
 breach texts lists n (Refused refusal) each there before (broken, file) = inr (inl (record {
   tokenized = tokenized texts lists (length texts) each;
@@ -53,19 +64,71 @@ breach texts lists n (Refused refusal) each there before (broken, file) = inr (i
   breach = broken;
 }))
 
--- a text that the grammar refuses
-pub grammar : (texts : List (List ℕ)) (lists : List (List Token)) (n : ℕ) (fault : FrontFault) → AreTokensOfTexts texts lists (length texts) → n < length texts → IsTakenUpTo texts (length texts) → IsRefusal (slice_index_or lists n []) n fault → RefusesProgram texts fault
-grammar texts lists n fault each there taken (inl broken) = breach texts lists n fault each there (λ k lt. taken k (omega arith)) broken
-grammar texts lists n NoMemory each there taken (inr (none, unexpected)) = tt
-grammar texts lists n (Refused refusal) each there taken (inr (none, (rule, file))) = inr (inr (record {
-  taken = taken;
-  within = rw file there;
-  rule = rule;
-}))
+abbrev file_of : FrontFault → ℕ
+file_of (Refused refusal) = refusal.pos.file
+file_of NoMemory = 0
 
--- the tokens of the text with a number, found in the lists
-pub of_text : (texts : List (List ℕ)) (lists : List (List Token)) (n : ℕ) (text : List ℕ) (tokens : List Token) → AreTokensOfTexts texts lists (length texts) → n < length texts → (d : List ℕ) (e : List Token) → text ≡ slice_index_or texts n d → tokens ≡ slice_index_or lists n e → AreTokensOf text tokens
-of_text texts lists n text tokens (count, each) there d e of_number list =
-    let the_text : at texts n ≡ text = get_or_default texts n [] d there ∙ sym of_number in
-    let the_tokens : slice_index_or lists n [] ≡ tokens = get_or_default lists n [] e (omega (arith, count)) ∙ sym list in
-    subst (λ text. AreTokensOf text tokens) the_text (subst (AreTokensOf (at texts n)) the_tokens (each n there))
+-- a text that is refused behind texts that spell classes
+pub grammar : (texts : List (List ℕ)) (lists : List (List Token)) (n : ℕ) (parsed : Parsed) (fault : FrontFault)
+    → AreTokensOfTexts texts lists (length texts) → n < length texts → IsTakenUpTo texts (length texts) → IsParsedUpTo texts n parsed
+    → RefusesFile (at texts n) n (slice_index_or lists n []) fault → RefusesProgram texts fault
+grammar texts lists n parsed NoMemory each there taken so_far refused = tt
+grammar texts lists n parsed (Refused refusal) each there taken so_far (inl broken) =
+    breach texts lists n (Refused refusal) each there (λ k lt. taken k (omega arith)) broken
+grammar texts lists n parsed (Refused refusal) each there taken so_far (inr unexpected) =
+    let file : refusal.pos.file ≡ n = ap file_of unexpected.fault in
+    inr (inr (record {
+      taken = taken;
+      within = rw file there;
+      before = rw file (λ k lt. (slice_index_or so_far.written k [], so_far.each k lt));
+      tokens = slice_index_or lists n [];
+      of_text = rw file (each.1 n there);
+      unexpected = subst (λ number. IsUnexpectedIn (at texts number) number (slice_index_or lists n []) refusal) (sym file) unexpected;
+    }))
+
+-- ---- the text with a number, and its tokens, which are found in the lists
+
+pub text_at : (texts : List (List ℕ)) (n : ℕ) (text d : List ℕ) → n < length texts → text ≡ slice_index_or texts n d → text ≡ at texts n
+text_at texts n text d there is = is ∙ get_or_default texts n d [] there
+
+pub tokens_at : (texts : List (List ℕ)) (lists : List (List Token)) (n : ℕ) (tokens d : List Token)
+    → AreTokensOfTexts texts lists (length texts) → n < length texts → tokens ≡ slice_index_or lists n d
+    → tokens ≡ slice_index_or lists n []
+tokens_at texts lists n tokens d (count, each) there is = is ∙ get_or_default lists n d [] (omega (arith, count))
+
+pub of_text : (texts : List (List ℕ)) (lists : List (List Token)) (n : ℕ) (text d : List ℕ) (tokens e : List Token)
+    → AreTokensOfTexts texts lists (length texts) → n < length texts → text ≡ slice_index_or texts n d
+    → tokens ≡ slice_index_or lists n e → AreTokensOf text tokens
+of_text texts lists n text d tokens e each there of_number list =
+    subst (λ text. AreTokensOf text tokens) (sym (text_at texts n text d there of_number))
+    (subst (AreTokensOf (at texts n)) (sym (tokens_at texts lists n tokens e each there list)) (each.1 n there))
+
+-- ---- one text more
+
+pub nothing_parsed : (texts : List (List ℕ)) (parsed : Parsed) → parsed.classes ≡ [] → parsed.contracts ≡ [] → IsParsedUpTo texts 0 parsed
+nothing_parsed texts parsed classes contracts = record {
+  written = [];
+  count = refl;
+  each = λ k lt. absurd (omega (arith, lt));
+  made = same_parsed parsed [] [] classes contracts;
+}
+
+from_first : {first n : ℕ} → first ≡ n → first ≡ 0 + n
+from_first same = omega (arith, same)
+
+pub parsed_more : (texts : List (List ℕ)) (n first : ℕ) (before file after : Parsed) → IsParsedUpTo texts n before
+    → first ≡ length before.classes → IsParsedOf texts n first file → after.classes ≡ before.classes ++ file.classes
+    → after.contracts ≡ before.contracts ++ file.contracts → IsParsedUpTo texts (n + 1) after
+parsed_more texts n first before file after so_far number (more, spelled, made) classes contracts = record {
+  written = so_far.written ++ more ∷ [];
+  count = omega (arith, length-append so_far.written (more ∷ []), so_far.count);
+  each = up_to_next (λ k. IsSpelled texts k (slice_index_or (so_far.written ++ more ∷ []) k [])) n
+      (λ k lt.
+      let kept = get_or_append_left so_far.written (more ∷ []) [] k (omega (arith, so_far.count)) in
+      subst (IsSpelled texts k) (sym kept) (so_far.each k lt))
+      (subst (IsSpelled texts n) (sym (get_or_push so_far.written more [] n so_far.count)) spelled);
+  made = appended 0 first (flat_map (λ classes. classes) so_far.written) more before after file.classes file.contracts so_far.made
+      (from_first number) (ap (λ (parsed : Parsed). parsed.classes) made) (ap (λ (parsed : Parsed). parsed.contracts) made)
+      classes contracts
+      ∙ ap (parsed_of 0) (flat_map_more (λ classes. classes) [] so_far.written more);
+}

@@ -1,3 +1,5 @@
+pub mod FileLemmas
 pub mod FrontLemmas
+pub mod OnlyLemmas
 pub mod ProgramLemmas
 pub mod ReadLemmas

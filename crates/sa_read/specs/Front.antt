@@ -1,12 +1,19 @@
--- Why the texts of a program give no classes and contracts.
-use Rattle.std.specs.Prelude.{◌≡◌, ◌⊎◌, ⊤, ℕ, ◌<◌, List, [], length, slice_index_or}
+-- Which classes and contracts the texts of a program give, and why they give none.
+use Rattle.std.specs.Prelude.{◌≡◌, ◌⊎◌, ⊤, ℕ, zero, suc, ◌<◌, List, [], length, take, drop, slice_index_or, Result, Ok, Err}
+use Rattle.std.specs.List.{flat_map}
 use Rattle.sa_lex.specs.declared.token.Token.{Token}
 use Rattle.sa_lex.specs.Tokens.{AreTokensOf, IsFaultOf}
-use Rattle.sa_parse_expr.specs.Level.{AreTaken, IsFirstBreach}
+use Rattle.sa_parse_expr.specs.Level.{AreTaken, IsFirstBreach, RefusesTokens}
+use Rattle.sa_parse_expr.specs.Lexemes.{Lexeme, lexemes_of}
+use Rattle.sa_parse_expr.specs.Places.{unexpected_at}
+use Rattle.sa_parse_expr.specs.Readings.{IsLongest}
+use Rattle.sa_parse.specs.declared.file.FileKind.{FileKind}
+use Rattle.sa_parse.specs.declared.file.FileKind.TheVariants.{Prelude, Program}
+use Rattle.sa_parse.specs.declared.file.Parsed.{Parsed}
+use Rattle.sa_parse.specs.Classes.{Written, IsFile, parsed_of}
 use Rattle.sa_tree.specs.declared.refusal.Refusal.{Refusal}
 use Rattle.sa_tree.specs.declared.refusal.FrontFault.{FrontFault}
 use Rattle.sa_tree.specs.declared.refusal.FrontFault.TheVariants.{Refused, NoMemory}
-use Rattle.sa_tree.specs.declared.rule.Rule.TheVariants.{UnexpectedToken}
 use Rattle.sa_read.specs.Program.{at}
 
 -- the text has tokens
@@ -29,6 +36,43 @@ IsTakenText text = (tokens : List Token) × AreTokensOf text tokens × AreTaken 
 abbrev pub IsTakenUpTo : List (List ℕ) → ℕ → Type 0
 IsTakenUpTo texts n = (k : ℕ) → k < n → IsTakenText (at texts k)
 
+-- the first text is the prelude's, and the others are the program's
+abbrev pub file_kind_of : ℕ → FileKind
+file_kind_of zero = Prelude
+file_kind_of (suc number) = Program
+
+-- the text with this number spells these classes: it has tokens, none of which breaks a rule, and their lexemes spell them
+pub record IsSpelled (texts : List (List ℕ)) (number : ℕ) (written : List Written) : Type 0 where
+  pub tokens : List Token
+  pub of_text : AreTokensOf (at texts number) tokens
+  pub taken : AreTaken tokens (length tokens)
+  pub spelled : IsFile (file_kind_of number) (lexemes_of number (at texts number) tokens) written
+
+-- what was parsed are the classes that this text spells, with their contracts. Its first class has the place `first`
+abbrev pub IsParsedOf : List (List ℕ) → ℕ → ℕ → Parsed → Type 0
+IsParsedOf texts number first parsed = (written : List Written) × IsSpelled texts number written × (parsed ≡ parsed_of first written)
+
+-- what was parsed are the classes that the first n texts spell, one behind the other, with their contracts
+pub record IsParsedUpTo (texts : List (List ℕ)) (n : ℕ) (parsed : Parsed) : Type 0 where
+  pub written : List (List Written)
+  pub count : length written ≡ n
+  pub each : (k : ℕ) → k < n → IsSpelled texts k (slice_index_or written k [])
+  pub made : parsed ≡ parsed_of 0 (flat_map (λ classes. classes) written)
+
+-- what was parsed are the classes of all texts, with their contracts
+abbrev pub IsProgramOf : List (List ℕ) → Parsed → Type 0
+IsProgramOf texts parsed = IsParsedUpTo texts (length texts) parsed
+
+-- all texts spell classes
+abbrev pub AreSpelled : List (List ℕ) → Type 0
+AreSpelled texts = (parsed : Parsed) × IsProgramOf texts parsed
+
+-- what comes of texts that are this program: it, unless memory runs out
+abbrev pub GivesProgram : Parsed → Result Parsed FrontFault → Type 0
+GivesProgram parsed (Ok found) = found ≡ parsed
+GivesProgram parsed (Err (Refused refusal)) = ⊥
+GivesProgram parsed (Err NoMemory) = ⊤
+
 -- the refusal is the first lexical fault of the first text that has no tokens
 pub record IsLexicalFault (texts : List (List ℕ)) (refusal : Refusal) : Type 0 where
   pub within : refusal.pos.file < length texts
@@ -44,11 +88,25 @@ pub record IsBreach (texts : List (List ℕ)) (refusal : Refusal) : Type 0 where
   pub of_text : AreTokensOf (at texts refusal.pos.file) tokens
   pub breach : IsFirstBreach tokens refusal
 
--- all texts may be parsed, and the refusal is that of the grammar in one of them
+-- at this place stands the first lexeme with which those up to it begin no file; or it is their end, and they begin one but are none
+pub record IsFirstUnexpected (file_kind : FileKind) (ls : List Lexeme) (place : ℕ) : Type 0 where
+  pub longest : IsLongest (IsFile file_kind) ls (take place ls) (drop place ls)
+  pub unended : drop place ls ≡ [] → (written : List Written) → IsFile file_kind ls written → ⊥
+
+-- E06 at the first of these tokens with which those up to it begin no file, or at the end of their text
+pub record IsUnexpectedIn (text : List ℕ) (number : ℕ) (tokens : List Token) (refusal : Refusal) : Type 0 where
+  pub place : ℕ
+  pub first : IsFirstUnexpected (file_kind_of number) (lexemes_of number text tokens) place
+  pub fault : Refused refusal ≡ unexpected_at number text tokens place
+
+-- all texts may be parsed, each one before that of the refusal spells classes, and the refusal is E06 where no file goes on as this text
 pub record IsGrammarFault (texts : List (List ℕ)) (refusal : Refusal) : Type 0 where
   pub taken : IsTakenUpTo texts (length texts)
   pub within : refusal.pos.file < length texts
-  pub rule : refusal.rule ≡ UnexpectedToken
+  pub before : (k : ℕ) → k < refusal.pos.file → (written : List Written) × IsSpelled texts k written
+  pub tokens : List Token
+  pub of_text : AreTokensOf (at texts refusal.pos.file) tokens
+  pub unexpected : IsUnexpectedIn (at texts refusal.pos.file) refusal.pos.file tokens refusal
 
 -- the refusal is the first of these texts
 abbrev pub IsRefusalOf : List (List ℕ) → Refusal → Type 0
@@ -57,3 +115,9 @@ IsRefusalOf texts refusal = IsLexicalFault texts refusal ⊎ (IsBreach texts ref
 abbrev pub RefusesProgram : List (List ℕ) → FrontFault → Type 0
 RefusesProgram texts (Refused refusal) = IsRefusalOf texts refusal
 RefusesProgram texts NoMemory = ⊤
+
+-- a text is refused for the first of its tokens that breaks a rule, or else for the first with which no file goes on
+abbrev pub RefusesFile : List ℕ → ℕ → List Token → FrontFault → Type 0
+RefusesFile text number tokens (Refused refusal) =
+    RefusesTokens tokens number (Refused refusal) ⊎ IsUnexpectedIn text number tokens refusal
+RefusesFile text number tokens NoMemory = ⊤

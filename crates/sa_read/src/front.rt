@@ -1,8 +1,9 @@
 //! The classes and the contracts of a program.
 
-ghost use Rattle.std.specs.Prelude.{◌≡◌, ◌+◌, ◌<◌, [], length, slice_index_or, All, IfOk, IfErr};
-ghost use Rattle.sa_parse.specs.Refusals.{IsRefusal};
-ghost use Rattle.sa_read.specs.Front.{AreTokensOfTexts, IsTakenUpTo, RefusesProgram};
+ghost use Rattle.std.specs.Prelude.{◌≡◌, ◌+◌, ◌<◌, [], ◌++◌, length, slice_index_or, All, IfOk, IfErr, OnOk};
+ghost use Rattle.sa_parse.specs.declared.file.Parsed.{Parsed};
+ghost use Rattle.sa_read.specs.Front.{AreTokensOfTexts, GivesProgram, IsParsedOf, IsProgramOf, IsTakenUpTo, RefusesFile, RefusesProgram};
+ghost use Rattle.sa_read.specs.Program.{at};
 
 use crate::tokens::{lex_all, scan_all};
 use sa_lex::Token;
@@ -18,12 +19,14 @@ const MOST_PLACES: usize = u32::MAX as usize;
 ///
 /// # Errors
 ///
-/// The first refusal, by the tokens of all texts, then by their words and levels, then by the grammar; or `NoMemory`, also
+/// The first refusal, by the tokens of all texts, then by their words and levels, then by the grammar: in the first text
+/// that is no file, at the first token with which those up to it begin none, or at the end of the text. Or `NoMemory`, also
 /// where the classes can't be numbered.
 pub fn parse_program(alloc: Global, texts: &[Items<u8>]) -> Result<Parsed, FrontFault>
     requires short { All (λ text. length text < 4294967295) texts.now }
     requires few { length texts.now < 4294967295 }
-    ensures taken { IfOk result (λ _. IsTakenUpTo texts.now (length texts.now)) }
+    ensures classes { IfOk result (IsProgramOf texts.now) }
+    ensures only { (parsed : Parsed) → IsProgramOf texts.now parsed → GivesProgram parsed result }
     ensures refused { IfErr result (RefusesProgram texts.now) }
 {
     let lists = lex_all(alloc, texts)?;
@@ -41,6 +44,7 @@ fn parse_all(
     requires few { length texts.now < 4294967295 }
     requires tokens { AreTokensOfTexts texts.now lists.now (length texts.now) }
     requires taken { IsTakenUpTo texts.now (length texts.now) }
+    ensures classes { IfOk result (IsProgramOf texts.now) }
     ensures refused { IfErr result (RefusesProgram texts.now) }
 {
     let mut parsed = Parsed {
@@ -56,7 +60,10 @@ fn parse_all(
 }
 
 /// Puts what a file declares behind what is there.
-fn append(parsed: &mut Parsed, file: Parsed) -> Result<(), AllocError> {
+fn append(parsed: &mut Parsed, file: Parsed) -> Result<(), AllocError>
+    ensures classes { OnOk result (parsed.new.classes ≡ parsed.old.classes ++ file.classes) }
+    ensures contracts { OnOk result (parsed.new.contracts ≡ parsed.old.contracts ++ file.contracts) }
+{
     let Parsed { classes, contracts } = file;
     parsed.classes.append(classes)?;
     parsed.contracts.append(contracts)
@@ -85,7 +92,8 @@ fn parse_text(
     requires tokens { AreTokensOfTexts texts.now lists.now (length texts.now) }
     requires there { number < length texts.now }
     requires places { first + length (slice_index_or lists.now number []) < 4294967295 }
-    ensures refused { IfErr result (IsRefusal (slice_index_or lists.now number []) number) }
+    ensures classes { IfOk result (IsParsedOf texts.now number first) }
+    ensures refused { IfErr result (RefusesFile (at texts.now number) number (slice_index_or lists.now number [])) }
 {
     let tokens = lists[number].as_slice();
     let text = texts[number].as_slice();
