@@ -6,7 +6,7 @@ use Rattle.sa_outside.specs.Files.{Files, Writes}
 use Rattle.sa_outside.proofs.Counts.{Rose-earlier}
 use Rattle.sa_tree.specs.declared.pos.Pos.{Pos}
 use Rattle.sa_tree.specs.declared.pos.Sources.{Sources}
-use Rattle.sa_read.specs.Front.{IsTakenUpTo}
+use Rattle.sa_read.specs.Front.{AreSpelled}
 use Rattle.sa_read.specs.Program.{IsReadAs}
 use Rattle.sa_read.specs.declared.program.Program.{Program}
 use Rattle.sa_statement.specs.Confined.{IsConfined}
@@ -20,7 +20,7 @@ use Rattle.sa_words.specs.declared.command.Extent.TheVariants.{All, Needed}
 use Rattle.sa_drive.specs.Answer.{GivesNone, TellsOne}
 use Rattle.sa_drive.specs.Built.{IsTried}
 use Rattle.sa_drive.specs.Ends.{AreWritten, IsWritten, PrintEnds, WriteEnds, since}
-use Rattle.sa_drive.specs.Files.{ComesOfFiles, ComesOfGenerated, Explains, ExplainsProgram, IsTakenGenerated, IsTakenProgram, generated_sources}
+use Rattle.sa_drive.specs.Files.{ComesOfFiles, ComesOfGenerated, Explains, ExplainsProgram, IsSpelledGenerated, IsSpelledProgram, generated_sources}
 use Rattle.sa_drive.specs.Lines.{IsPlaced}
 use Rattle.sa_drive.specs.Seen.{Failed, Part}
 use Rattle.sa_drive.specs.Sites.{WritesModule, sites_text}
@@ -48,7 +48,7 @@ explained files failed names sources cause.NoMemory read explains = tt
 explained files failed names sources _ read explains = absurd explains
 
 -- what is made of a program that was read
-pub of_program : {X : Type 0} (files : Option Files) (failed : Type 0) (names : List (List ℕ)) (program : Program) (made : Result X Cause) → IsReadAs files names program.sources program.cut → IfOk made (λ _. (program.cut ≡ None) × IsTakenUpTo program.sources.texts (length program.sources.texts)) → IfErr made (ExplainsProgram program) → MatchResult made (λ _. IsTakenProgram files names program.sources) (ComesOfFiles files failed names program.sources)
+pub of_program : {X : Type 0} (files : Option Files) (failed : Type 0) (names : List (List ℕ)) (program : Program) (made : Result X Cause) → IsReadAs files names program.sources program.cut → IfOk made (λ _. (program.cut ≡ None) × AreSpelled program.sources.texts) → IfErr made (ExplainsProgram program) → MatchResult made (λ _. IsSpelledProgram files names program.sources) (ComesOfFiles files failed names program.sources)
 of_program files failed names program (Ok module_bytes) read whole fault = (subst (IsReadAs files names program.sources) whole.0 read, whole.1)
 of_program files failed names program (Err ends) read whole (inl (refusal, cut, is)) = subst (ComesOfFiles files failed names program.sources) (sym is) (inl (subst (IsReadAs files names program.sources) cut read))
 of_program files failed names program (Err ends) read whole (inr (none, explains)) = explained files failed names program.sources ends (subst (IsReadAs files names program.sources) none read) explains
@@ -74,9 +74,9 @@ pub of_err : {X : Type 0} (Taken : Type 0) (Early : Cause → Type 0) (made : Re
 of_err Taken Early made ends is match = subst (λ made. MatchResult made (λ _. Taken) Early) is match
 
 -- the files give a module, and these are the texts of the report
-pub taken_of : {X : Type 0} (files : Option Files) (failed : Type 0) (names : List (List ℕ)) (made : Result X Cause) (value : X) (sources told : Sources) → made ≡ Ok value → MatchResult made (λ _. IsTakenProgram files names sources) (ComesOfFiles files failed names sources) → told ≡ sources → IsTakenProgram files names told
+pub taken_of : {X : Type 0} (files : Option Files) (failed : Type 0) (names : List (List ℕ)) (made : Result X Cause) (value : X) (sources told : Sources) → made ≡ Ok value → MatchResult made (λ _. IsSpelledProgram files names sources) (ComesOfFiles files failed names sources) → told ≡ sources → IsSpelledProgram files names told
 taken_of files failed names made value sources told is match same =
-    rw same (of_ok (IsTakenProgram files names sources) (ComesOfFiles files failed names sources) made value is match)
+    rw same (of_ok (IsSpelledProgram files names sources) (ComesOfFiles files failed names sources) made value is match)
 
 -- what is said of a module that is made, where it is
 pub made_is : (made : Result Built Cause) (built : Built) (Is : Built → Type 0) → made ≡ Ok built → IfOk made Is → Is built
@@ -98,15 +98,15 @@ spells_of made built bytes room is tried confined same =
     }
 
 -- the files give no module, and this outcome says why
-pub given_none : {X : Type 0} (store : Part Files) (names : List (List ℕ)) (made : Result X Cause) (sources : Sources) (ends : Cause) (outcome : Outcome) → made ≡ Err ends → MatchResult made (λ _. IsTakenProgram store.before names sources) (ComesOfFiles store.before (Failed store) names sources) → store.after ≡ store.before → outcome.sources ≡ sources → outcome.cause ≡ ends → outcome.«module».items ≡ [] → GivesNone store names outcome
+pub given_none : {X : Type 0} (store : Part Files) (names : List (List ℕ)) (made : Result X Cause) (sources : Sources) (ends : Cause) (outcome : Outcome) → made ≡ Err ends → MatchResult made (λ _. IsSpelledProgram store.before names sources) (ComesOfFiles store.before (Failed store) names sources) → store.after ≡ store.before → outcome.sources ≡ sources → outcome.cause ≡ ends → outcome.«module».items ≡ [] → GivesNone store names outcome
 given_none store names made sources ends outcome is match files same cause bytes = record {
-  comes = rw (same, cause) (of_err (IsTakenProgram store.before names sources) (ComesOfFiles store.before (Failed store) names sources) made ends is match);
+  comes = rw (same, cause) (of_err (IsSpelledProgram store.before names sources) (ComesOfFiles store.before (Failed store) names sources) made ends is match);
   bytes = bytes;
   files = files;
 }
 
 -- the same where memory may have run out meanwhile
-pub given_none_or : {X : Type 0} (store : Part Files) (names : List (List ℕ)) (made : Result X Cause) (sources : Sources) (ends : Cause) (outcome : Outcome) → made ≡ Err ends → MatchResult made (λ _. IsTakenProgram store.before names sources) (ComesOfFiles store.before (Failed store) names sources) → store.after ≡ store.before → outcome.sources ≡ sources → (outcome.cause ≡ ends) ⊎ (outcome.cause ≡ cause.NoMemory) → outcome.«module».items ≡ [] → GivesNone store names outcome
+pub given_none_or : {X : Type 0} (store : Part Files) (names : List (List ℕ)) (made : Result X Cause) (sources : Sources) (ends : Cause) (outcome : Outcome) → made ≡ Err ends → MatchResult made (λ _. IsSpelledProgram store.before names sources) (ComesOfFiles store.before (Failed store) names sources) → store.after ≡ store.before → outcome.sources ≡ sources → (outcome.cause ≡ ends) ⊎ (outcome.cause ≡ cause.NoMemory) → outcome.«module».items ≡ [] → GivesNone store names outcome
 given_none_or store names made sources ends outcome is match files same (inl cause) bytes = given_none store names made sources ends outcome is match files same cause bytes
 given_none_or store names made sources ends outcome is match files same (inr memory) bytes = record {
   comes = subst (ComesOfFiles store.before (Failed store) names outcome.sources) (sym memory) tt;
@@ -175,7 +175,7 @@ generated_explained classes sources cause.NoMemory same explains = tt
 generated_explained classes sources _ same explains = absurd explains
 
 -- what is made of the generated program
-pub of_generated : {X : Type 0} (classes : ℕ) (program : Program) (made : Result X Cause) → program.sources ≡ generated_sources classes → program.cut ≡ None → IfOk made (λ _. (program.cut ≡ None) × IsTakenUpTo program.sources.texts (length program.sources.texts)) → IfErr made (ExplainsProgram program) → MatchResult made (λ _. IsTakenGenerated classes program.sources) (ComesOfGenerated classes program.sources)
+pub of_generated : {X : Type 0} (classes : ℕ) (program : Program) (made : Result X Cause) → program.sources ≡ generated_sources classes → program.cut ≡ None → IfOk made (λ _. (program.cut ≡ None) × AreSpelled program.sources.texts) → IfErr made (ExplainsProgram program) → MatchResult made (λ _. IsSpelledGenerated classes program.sources) (ComesOfGenerated classes program.sources)
 of_generated classes program (Ok built) same none whole fault = (same, whole.1)
 of_generated classes program (Err ends) same none whole (inl (refusal, cut, is)) = cc
 of_generated classes program (Err ends) same none whole (inr (uncut, explains)) = generated_explained classes program.sources ends same explains

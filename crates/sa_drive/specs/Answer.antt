@@ -17,7 +17,7 @@ use Rattle.sa_words.specs.declared.command.Extent.TheVariants as extent
 use Rattle.sa_words.specs.declared.command.Trace.TheVariants as tracing
 use Rattle.sa_drive.specs.Built.{IsSound, core_sites}
 use Rattle.sa_drive.specs.Ends.{IsOfModule, IsPrinted}
-use Rattle.sa_drive.specs.Files.{ComesOfFiles, ComesOfGenerated, IsTakenGenerated, IsTakenProgram}
+use Rattle.sa_drive.specs.Files.{ComesOfFiles, ComesOfGenerated, IsSpelledGenerated, IsSpelledProgram}
 use Rattle.sa_drive.specs.Further.{MayTellFurther}
 use Rattle.sa_drive.specs.Lines.{selftest_line}
 use Rattle.sa_drive.specs.Listings.{Assembles, ListsModule}
@@ -42,7 +42,7 @@ pub record GivesNone (store : Part Files) (names : List (List ℕ)) (outcome : O
 abbrev pub IsRun : Part Files → Part Input → Part (List ℕ) → (room fuel : ℕ) → List (List ℕ) → Outcome → Type 0
 IsRun store input out room fuel names outcome =
     (GivesNone store names outcome × IsKept input × IsKept out)
-    ⊎ ((core : Core) × IsSound core × IsTakenProgram store.before names outcome.sources
+    ⊎ ((core : Core) × IsSound core × IsSpelledProgram store.before names outcome.sources
     × RanBuilt input out room fuel (IsOfModule (core_positions core) outcome.sources) outcome)
 
 -- err has taken nothing, and takes the lines of the end
@@ -53,7 +53,7 @@ IsSilent err outcome = IsUntouched err × (outcome.listening ≡ listening.Yes)
 abbrev pub IsTraced : Outside → (room fuel : ℕ) → List (List ℕ) → Outcome → Type 0
 IsTraced outside room fuel names outcome =
     (GivesNone outside.store names outcome × IsKept outside.input × IsKept outside.out × IsSilent outside.err outcome)
-    ⊎ ((core : Core) × IsSound core × IsTakenProgram outside.store.before names outcome.sources
+    ⊎ ((core : Core) × IsSound core × IsSpelledProgram outside.store.before names outcome.sources
     × RanTraced outside.input outside.out outside.err room fuel (IsOfModule (core_positions core) outcome.sources)
     (core_sites core) outcome)
 
@@ -62,7 +62,7 @@ IsTraced outside room fuel names outcome =
 abbrev pub IsBuilt : Part Files → (room : ℕ) → List ℕ → (sites : Option (List ℕ)) → List (List ℕ) → Outcome → Type 0
 IsBuilt store room name sites names outcome =
     GivesNone store names outcome
-    ⊎ ((core : Core) × IsSound core × IsTakenProgram store.before names outcome.sources
+    ⊎ ((core : Core) × IsSound core × IsSpelledProgram store.before names outcome.sources
     × SpellsRunnable room outcome.«module».items
     × WritesModule store name outcome.«module».items sites outcome.sources (core_positions core) outcome.cause)
 
@@ -70,7 +70,7 @@ IsBuilt store room name sites names outcome =
 abbrev pub IsChecked : Part Files → Part (List ℕ) → Extent → List (List ℕ) → Outcome → Type 0
 IsChecked store out extent names outcome =
     (GivesNone store names outcome × IsKept out × MayTellFurther extent outcome)
-    ⊎ (IsTakenProgram store.before names outcome.sources × HasNoModule outcome × IsPrinted out (codes "accepted\n") outcome.cause)
+    ⊎ (IsSpelledProgram store.before names outcome.sources × HasNoModule outcome × IsPrinted out (codes "accepted\n") outcome.cause)
 
 -- how many bytes a module has at most: 64 MiB
 abbrev pub most_module_bytes : ℕ
@@ -161,7 +161,7 @@ default_room = 65536
 -- the generated program was run with the greatest fuel, apart from the input and out of the call, and reported; a stop of its module is
 -- at a position of its typed tree
 pub record IsRunApart (out : Part (List ℕ)) (classes : ℕ) (outcome : Outcome) : Type 0 where
-  pub taken : IsTakenGenerated classes outcome.sources
+  pub taken : IsSpelledGenerated classes outcome.sources
   pub core : Core
   pub sound : IsSound core
   pub ran : Outcome

@@ -9,15 +9,15 @@ use Rattle.sa_tree.specs.declared.rule.Rule.{Rule}
 use Rattle.sa_tree.specs.declared.rule.Rule.TheVariants as rule
 use Rattle.sa_outside.specs.Files.{Files}
 use Rattle.sa_prelude.specs.PreludeText.{prelude_text}
-use Rattle.sa_read.specs.Front.{IsRefusalOf, IsTakenUpTo}
+use Rattle.sa_read.specs.Front.{AreSpelled, IsRefusalOf}
 use Rattle.sa_read.specs.Program.{IsReadAs, LacksOneOf}
 use Rattle.sa_read.specs.declared.program.Program.{Program}
 use Rattle.sa_drive.specs.declared.cause.Cause.{Cause}
 use Rattle.sa_drive.specs.declared.cause.Cause.TheVariants as cause
 
--- these are the texts of the files, and a parser may go over the tokens of each
-abbrev pub IsTakenProgram : Option Files → List (List ℕ) → Sources → Type 0
-IsTakenProgram files names sources = IsReadAs files names sources None × IsTakenUpTo sources.texts (length sources.texts)
+-- these are the texts of the files, and they spell classes
+abbrev pub IsSpelledProgram : Option Files → List (List ℕ) → Sources → Type 0
+IsSpelledProgram files names sources = IsReadAs files names sources None × AreSpelled sources.texts
 
 -- the place is in one of these texts, or at its end
 pub record IsPlaceIn (texts : List (List ℕ)) (pos : Pos) : Type 0 where
@@ -37,9 +37,9 @@ is_of_checker rule.WordNotTaken = false
 is_of_checker rule.SourceTooLarge = false
 is_of_checker _ = true
 
--- the refusal can be the checker's of these texts
+-- the refusal can be the checker's of these texts, which spell classes
 abbrev pub IsByChecker : List (List ℕ) → Refusal → Type 0
-IsByChecker texts refusal = IsTakenUpTo texts (length texts) × IsTrue (is_of_checker refusal.rule)
+IsByChecker texts refusal = AreSpelled texts × IsTrue (is_of_checker refusal.rule)
 
 -- the refusal is that of these texts, at a place in one of them: the first by tokens and grammar, or else the checker's
 abbrev pub IsRefusalFor : List (List ℕ) → Refusal → Type 0
@@ -76,9 +76,9 @@ generated_sources classes = record {
   texts = prelude_text ∷ generated classes ∷ [];
 }
 
--- these are the texts of the generated program, and a parser may go over the tokens of each
-abbrev pub IsTakenGenerated : ℕ → Sources → Type 0
-IsTakenGenerated classes sources = (sources ≡ generated_sources classes) × IsTakenUpTo sources.texts (length sources.texts)
+-- these are the texts of the generated program, and they spell classes
+abbrev pub IsSpelledGenerated : ℕ → Sources → Type 0
+IsSpelledGenerated classes sources = (sources ≡ generated_sources classes) × AreSpelled sources.texts
 
 -- why the generated program gives no module
 abbrev pub ComesOfGenerated : ℕ → Sources → Cause → Type 0

@@ -2,12 +2,12 @@
 
 ghost use Rattle.std.specs.Prelude.{◌≡◌, ◌≤◌, ◌<◌, ◌⊎◌, All, length, map, Err, None, IfErr, IfOk, IfSome, MatchResult};
 ghost use Rattle.sa_outside.specs.Faults.{Rose};
-ghost use Rattle.sa_read.specs.Front.{IsRefusalOf, IsTakenUpTo};
+ghost use Rattle.sa_read.specs.Front.{AreSpelled, IsRefusalOf};
 ghost use Rattle.sa_statement.specs.Confined.{IsConfined};
 ghost use Rattle.sa_drive.specs.Answer.{default_room};
 ghost use Rattle.sa_drive.specs.Built.{IsMade, IsNumbered, IsTried};
 ghost use Rattle.sa_drive.specs.Files.{ComesOfFiles, ComesOfGenerated, Explains, ExplainsProgram, IsByChecker};
-ghost use Rattle.sa_drive.specs.Files.{IsPlaceIn, IsTakenGenerated, IsTakenProgram, generated_sources};
+ghost use Rattle.sa_drive.specs.Files.{IsPlaceIn, IsSpelledGenerated, IsSpelledProgram, generated_sources};
 ghost use Rattle.sa_drive.specs.Lines.{IsInText, IsPlaced};
 ghost use Rattle.sa_well.specs.Well.{IsWell};
 
@@ -50,7 +50,7 @@ pub fn check_files<S: ReadFiles>(
     extent: Extent,
 ) -> Checked
     ensures core { MatchResult result.core
-        (λ _. IsTakenProgram (S.files store.old) (map (λ file. file.now) files.now) result.sources)
+        (λ _. IsSpelledProgram (S.files store.old) (map (λ file. file.now) files.now) result.sources)
         (ComesOfFiles (S.files store.old) (Rose (S.faults store.old) (S.faults store.new))
         (map (λ file. file.now) files.now) result.sources) }
     ensures placed { IfErr result.core (IsPlaced result.sources) }
@@ -77,7 +77,7 @@ pub fn compile_files<S: ReadFiles>(
     trace: Trace,
 ) -> Compiled
     ensures module { MatchResult result.«module»
-        (λ _. IsTakenProgram (S.files store.old) (map (λ file. file.now) files.now) result.sources)
+        (λ _. IsSpelledProgram (S.files store.old) (map (λ file. file.now) files.now) result.sources)
         (ComesOfFiles (S.files store.old) (Rose (S.faults store.old) (S.faults store.new))
         (map (λ file. file.now) files.now) result.sources) }
     ensures built { IfOk result.«module» IsTried }
@@ -93,7 +93,7 @@ pub fn compile_files<S: ReadFiles>(
 
 /// Compiles the generated program of so many classes, with the room of a run for which none is given.
 pub fn compile_generated(alloc: Global, classes: u32) -> Compiled
-    ensures module { MatchResult result.«module» (λ _. IsTakenGenerated classes result.sources) (ComesOfGenerated classes result.sources) }
+    ensures module { MatchResult result.«module» (λ _. IsSpelledGenerated classes result.sources) (ComesOfGenerated classes result.sources) }
     ensures built { IfOk result.«module» IsTried }
     ensures confined { IfOk result.«module» (λ built. IsConfined default_room built.«module») }
     ensures tree { IfOk result.«module» IsMade }
@@ -138,7 +138,7 @@ fn made(alloc: Global, core: Result<Core, Cause>, room: u32, trace: Trace) -> Re
 
 /// Checks the generated program of so many classes.
 fn check_generated(alloc: Global, classes: u32) -> Checked
-    ensures core { MatchResult result.core (λ _. IsTakenGenerated classes result.sources) (ComesOfGenerated classes result.sources) }
+    ensures core { MatchResult result.core (λ _. IsSpelledGenerated classes result.sources) (ComesOfGenerated classes result.sources) }
     ensures placed { IfErr result.core (IsPlaced result.sources) }
 {
     match generated_sources(alloc, classes) {
@@ -160,7 +160,7 @@ fn check_program(alloc: Global, program: Program, contracts: Contracts, extent: 
     requires few { length program.sources.texts ≤ 65536 }
     requires placed { IfSome program.cut (λ refusal. refusal.pos.file < length program.sources.texts) }
     ensures same { result.sources ≡ program.sources }
-    ensures whole { IfOk result.core (λ _. (program.cut ≡ None) × IsTakenUpTo program.sources.texts (length program.sources.texts)) }
+    ensures whole { IfOk result.core (λ _. (program.cut ≡ None) × AreSpelled program.sources.texts) }
     ensures fault { IfErr result.core (ExplainsProgram program) }
     ensures placed { IfErr result.core (IsPlaced result.sources) }
 {
@@ -214,7 +214,7 @@ fn check_texts(alloc: Global, sources: Sources, contracts: Contracts, extent: Ex
     requires short { All (λ text. length text < 4294967295) sources.texts }
     requires few { length sources.texts < 4294967295 }
     ensures same { result.sources ≡ sources }
-    ensures made { IfOk result.core (λ _. IsTakenUpTo sources.texts (length sources.texts)) }
+    ensures made { IfOk result.core (λ _. AreSpelled sources.texts) }
     ensures fault { IfErr result.core (Explains sources.texts) }
 {
     let mut further = Vec::new(alloc);
@@ -244,7 +244,7 @@ pub(crate) fn typed(
 ) -> Result<Core, Cause>
     requires short { All (λ text. length text < 4294967295) texts.now }
     requires few { length texts.now < 4294967295 }
-    ensures made { IfOk result (λ _. IsTakenUpTo texts.now (length texts.now)) }
+    ensures made { IfOk result (λ _. AreSpelled texts.now) }
     ensures fault { IfErr result (Explains texts.now) }
 {
     let declared = match parse_program(alloc, texts) {

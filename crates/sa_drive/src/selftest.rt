@@ -7,7 +7,7 @@ ghost use Rattle.sa_statement.specs.Confined.{IsConfined};
 ghost use Rattle.sa_drive.specs.Answer.{IsRunApart, IsTested, default_room};
 ghost use Rattle.sa_drive.specs.Built.{IsMade, IsTried};
 ghost use Rattle.sa_drive.specs.Ends.{ComesBeforeOutput, IsPrinted};
-ghost use Rattle.sa_drive.specs.Files.{IsTakenGenerated};
+ghost use Rattle.sa_drive.specs.Files.{IsSpelledGenerated};
 ghost use Rattle.sa_drive.specs.Lines.{IsPlaced, selftest_line};
 ghost use Rattle.sa_drive.specs.Seen.{part};
 
@@ -53,7 +53,7 @@ fn run_apart<'a, O: Sink>(
     requires tried { IsTried built }
     requires confined { IsConfined default_room built.«module» }
     requires tree { IsMade built }
-    requires taken { IsTakenGenerated classes sources }
+    requires taken { IsSpelledGenerated classes sources }
     ensures ran { IsRunApart (part O.output O.faults out.old out.new) classes result }
     ensures placed { IsPlaced result.sources result.cause }
     ensures steps { is_some result.steps ≡ false }

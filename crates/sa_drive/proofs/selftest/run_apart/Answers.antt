@@ -1,6 +1,6 @@
 use Rattle.std.proofs.Common.{◌∙◌, length, refl, rules, subst, sym}
 use Rattle.sa_drive.specs.Ends.{IsPrinted}
-use Rattle.sa_drive.specs.Files.{IsTakenGenerated}
+use Rattle.sa_drive.specs.Files.{IsSpelledGenerated}
 use Rattle.sa_drive.specs.Lines.{IsPlaced, selftest_line}
 use Rattle.sa_drive.specs.Seen.{part}
 use Rattle.sa_drive.proofs.EndLemmas.{placed_print}
@@ -9,7 +9,7 @@ use Rattle.sa_drive.proofs.selftest.run_apart.Goals as goal
 
 pub returns-in-Done-clause-ran : goal.returns-in-Done-clause-ran
 returns-in-Done-clause-ran g c = record {
-  taken = subst (IsTakenGenerated c.args.classes) (sym (c.without_run.ensures.sources ∙ c.run_built-ran.ensures.sources)) c.requires.taken;
+  taken = subst (IsSpelledGenerated c.args.classes) (sym (c.without_run.ensures.sources ∙ c.run_built-ran.ensures.sources)) c.requires.taken;
   core = c.requires.tree.core;
   sound = c.requires.tree.sound;
   ran = c.run_built-ran.result;
@@ -30,7 +30,7 @@ returns-in-Done-clause-placed g c =
 
 pub returns-clause-ran : goal.returns-clause-ran
 returns-clause-ran g c = record {
-  taken = subst (IsTakenGenerated c.args.classes) (sym c.run_built-ran.ensures.sources) c.requires.taken;
+  taken = subst (IsSpelledGenerated c.args.classes) (sym c.run_built-ran.ensures.sources) c.requires.taken;
   core = c.requires.tree.core;
   sound = c.requires.tree.sound;
   ran = c.run_built-ran.result;

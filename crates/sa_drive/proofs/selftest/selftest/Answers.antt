@@ -1,5 +1,5 @@
 use Rattle.std.proofs.Common.{inl, inr, refl}
-use Rattle.sa_drive.specs.Files.{ComesOfGenerated, IsTakenGenerated}
+use Rattle.sa_drive.specs.Files.{ComesOfGenerated, IsSpelledGenerated}
 use Rattle.sa_drive.proofs.EndLemmas.{of_err, of_ok, confined_of}
 use Rattle.sa_drive.proofs.selftest.selftest.Goals as goal
 
@@ -7,7 +7,7 @@ pub returns-in-Ok-clause-does : goal.returns-in-Ok-clause-does
 returns-in-Ok-clause-does g c = inr c.run_apart.ensures.ran
 
 pub run_apart-requires-clause-taken : goal.run_apart-requires-clause-taken
-run_apart-requires-clause-taken g c = of_ok (IsTakenGenerated c.args.classes c.compile_generated-sources.result.sources) (ComesOfGenerated c.args.classes c.compile_generated-sources.result.sources) _ _ c.in-Ok.is c.compile_generated-sources.ensures.«module»
+run_apart-requires-clause-taken g c = of_ok (IsSpelledGenerated c.args.classes c.compile_generated-sources.result.sources) (ComesOfGenerated c.args.classes c.compile_generated-sources.result.sources) _ _ c.in-Ok.is c.compile_generated-sources.ensures.«module»
 
 pub run_apart-requires-clause-confined : goal.run_apart-requires-clause-confined
 run_apart-requires-clause-confined g c = confined_of _ _ _ c.in-Ok.is c.compile_generated-sources.ensures.confined
@@ -15,7 +15,7 @@ run_apart-requires-clause-confined g c = confined_of _ _ _ c.in-Ok.is c.compile_
 pub returns-in-Err-clause-does : goal.returns-in-Err-clause-does
 returns-in-Err-clause-does g c =
     inl (
-      rw (c.without_module.ensures.sources, c.without_module.ensures.cause) (of_err (IsTakenGenerated c.args.classes c.compile_generated-sources.result.sources) (ComesOfGenerated c.args.classes c.compile_generated-sources.result.sources) _ _ c.in-Err.is c.compile_generated-sources.ensures.«module»),
+      rw (c.without_module.ensures.sources, c.without_module.ensures.cause) (of_err (IsSpelledGenerated c.args.classes c.compile_generated-sources.result.sources) (ComesOfGenerated c.args.classes c.compile_generated-sources.result.sources) _ _ c.in-Err.is c.compile_generated-sources.ensures.«module»),
       c.without_module.ensures.bytes,
       refl,
     )
