@@ -1,5 +1,5 @@
 -- The ends of commands.
-use Rattle.std.proofs.Common.{◌≡◌, ◌∙◌, ◌≤◌, ◌⊎◌, ℕ, List, [], length, Option, None, Some, Result, Ok, Err, IfOk, inl, inr, refl, subst, sym}
+use Rattle.std.proofs.Common.{◌≡◌, ◌∙◌, ◌≤◌, ◌⊎◌, ℕ, List, [], Option, None, Some, Result, Ok, Err, IfOk, inl, inr, refl, subst, sym}
 use Rattle.std.specs.Prelude.{IfErr, MatchResult}
 use Rattle.sa_outside.specs.Faults.{Rose}
 use Rattle.sa_outside.specs.Files.{Files, Writes}

@@ -1,6 +1,5 @@
 -- The forms of statements are sound.
-use Rattle.std.proofs.Common.{◌≡◌, ℕ, true, List, [], ◌∷◌, ◌++◌, refl, ap, subst, ◌∙◌, append_assoc, append-nil, Option, Some, None}
-use Rattle.sa_lex.specs.declared.token.TokenKind.{TokenKind}
+use Rattle.std.proofs.Common.{ℕ, true, List, [], ◌∷◌, ◌++◌, refl, ap, subst, ◌∙◌, append_assoc, append-nil, Option, Some, None}
 use Rattle.sa_lex.specs.declared.token.TokenKind.TheVariants as token
 use Rattle.sa_lex.specs.declared.sign.Sign.TheVariants as sign
 use Rattle.sa_lex.specs.declared.word.Word.{Word}
@@ -22,10 +21,9 @@ use Rattle.sa_parse_expr.specs.Types.{IsType}
 use Rattle.sa_parse_expr.specs.Expressions as exprs
 use Rattle.sa_parse_expr.specs.Expressions.{IsExpr}
 use Rattle.sa_parse_expr.specs.Arounds.{outside, around_of}
-use Rattle.sa_parse_expr.specs.Tests.{is_word, is_sign, is_lower, is_lower_kind}
+use Rattle.sa_parse_expr.specs.Tests.{is_word, is_sign}
 use Rattle.sa_parse_expr.specs.Forms.{Reader, Nested, Tree, make, run, type, expr, stmts}
-use Rattle.sa_parse_expr.specs.ExpressionForms.{named_form, first_form, placed_post_form, post_form, power_form, unary_form}
-use Rattle.sa_parse_expr.specs.ExpressionForms.{operation_form, product_form, sum_form, comparison_form, expr_form}
+use Rattle.sa_parse_expr.specs.ExpressionForms.{expr_form}
 use Rattle.sa_parse_expr.specs.StatementForms.{value_form, assigned_form, optional_value_form, name_form, typed_form, assign_form, behind_name_form, simple_form}
 use Rattle.sa_parse_expr.specs.StatementForms.{body_form, ending_form, arm_form, case_arm_form, branch_form, case_arms_form, branches_form, stmt_form, optional_stmt_form, joined, stmts_form}
 use Rattle.sa_parse_expr.proofs.BehindNames.{same_behind}

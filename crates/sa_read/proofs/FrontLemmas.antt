@@ -1,17 +1,15 @@
 -- The texts of a program, phase by phase.
-use Rattle.std.proofs.Common.{◌≡◌, ℕ, ◌+◌, ◌<◌, List, [], ◌∷◌, ◌++◌, length, map, slice_index_or, sym, subst, ap, refl, ◌∙◌}
-use Rattle.std.proofs.Common.{append_assoc, arith, inl, inr}
+use Rattle.std.proofs.Common.{◌≡◌, ℕ, ◌+◌, ◌<◌, List, [], ◌∷◌, ◌++◌, length, slice_index_or, sym, subst, ap, refl, ◌∙◌}
+use Rattle.std.proofs.Common.{arith, inl, inr}
 use Rattle.std.specs.List.{flat_map}
-use Rattle.std.proofs.lemmas.List.{flat_map_more, get_or_append_left, get_or_default, get_or_push, length-append, length-map, map-append}
+use Rattle.std.proofs.lemmas.List.{flat_map_more, get_or_append_left, get_or_default, get_or_push, length-append}
 use Rattle.std.proofs.lemmas.Bool.{cases_lt}
 use Rattle.sa_lex.specs.declared.token.Token.{Token}
 use Rattle.sa_lex.specs.Tokens.{AreTokensOf, IsFaultOf, RefusesText}
 use Rattle.sa_parse_expr.specs.Level.{RefusesTokens}
 use Rattle.sa_parse.specs.declared.file.Parsed.{Parsed}
-use Rattle.sa_parse.specs.Classes.{Written, class_of, contracts_from, contracts_of, parsed_of}
+use Rattle.sa_parse.specs.Classes.{parsed_of}
 use Rattle.sa_parse.proofs.Appended.{appended, same_parsed}
-use Rattle.sa_tree.specs.declared.class.Class.{Class}
-use Rattle.sa_tree.specs.declared.contract.Contract.{Contract}
 use Rattle.sa_tree.specs.declared.refusal.FrontFault.{FrontFault}
 use Rattle.sa_tree.specs.declared.refusal.FrontFault.TheVariants.{Refused, NoMemory}
 use Rattle.sa_read.specs.Front.{AreTokensOfTexts, AreTokenizedUpTo, IsParsedOf, IsParsedUpTo, IsSpelled, IsTakenUpTo, IsUnexpectedIn}
