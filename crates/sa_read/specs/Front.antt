@@ -99,7 +99,7 @@ pub record IsUnexpectedIn (text : List ℕ) (number : ℕ) (tokens : List Token)
   pub first : IsFirstUnexpected (file_kind_of number) (lexemes_of number text tokens) place
   pub fault : Refused refusal ≡ unexpected_at number text tokens place
 
--- all texts may be parsed, each one before that of the refusal spells classes, and the refusal is E06 where no file goes on as this text
+-- all texts may be parsed, each one before that of the refusal spells classes, and the refusal is E06 where this one goes on as no file
 pub record IsGrammarFault (texts : List (List ℕ)) (refusal : Refusal) : Type 0 where
   pub taken : IsTakenUpTo texts (length texts)
   pub within : refusal.pos.file < length texts
