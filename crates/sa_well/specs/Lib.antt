@@ -9,6 +9,7 @@ pub mod Passing
 pub mod Places
 pub mod Layout
 pub mod Rows
+pub mod Seen
 pub mod Shapes
 pub mod Signatures
 pub mod Sites

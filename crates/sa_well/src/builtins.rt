@@ -8,15 +8,15 @@ use crate::view::View;
 use sa_prelude::BuiltinFeature;
 
 /// The numbers of the types that are the same in each program.
-pub(crate) const OB: u32 = 0;
+pub const OB: u32 = 0;
 
-pub(crate) const BOOL: u32 = 3;
+pub const BOOL: u32 = 3;
 
-pub(crate) const INT: u32 = 4;
+pub const INT: u32 = 4;
 
-pub(crate) const CHAR: u32 = 5;
+pub const CHAR: u32 = 5;
 
-pub(crate) const STR: u32 = 6;
+pub const STR: u32 = 6;
 
 pub(crate) const FAULT: u32 = 7;
 

@@ -78,7 +78,7 @@ fn shape_arity(list: &[Option<Shape>], at: usize) -> Option<usize>
 }
 
 /// A parameter of it.
-pub(crate) fn parameter(view: &View<'_>, reached: Reached, place: usize) -> Option<Param>
+pub fn parameter(view: &View<'_>, reached: Reached, place: usize) -> Option<Param>
     ensures { result ≡ parameter (rows view.now) reached place }
 {
     match reached {
@@ -98,7 +98,7 @@ fn shape_parameter(list: &[Option<Shape>], at: usize, place: usize) -> Option<Pa
 }
 
 /// The number of the type of what it gives, if it gives something.
-pub(crate) fn result_type(view: &View<'_>, reached: Reached) -> Option<u32>
+pub fn result_type(view: &View<'_>, reached: Reached) -> Option<u32>
     ensures { result ≡ result_type (rows view.now) reached }
 {
     match reached {

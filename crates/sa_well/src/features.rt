@@ -62,7 +62,7 @@ fn has_shape(view: &View<'_>, feature: &FeatureCore) -> bool
 }
 
 /// A feature, as something stands in it.
-fn scope_of<'a>(view: &View<'a>, feature: &'a FeatureCore) -> Scope<'a>
+pub fn scope_of<'a>(view: &View<'a>, feature: &'a FeatureCore) -> Scope<'a>
     ensures frame { frame result ≡ feature_frame (rows view.now) feature.now }
     ensures sites { result.sites.now ≡ feature.now.sites }
 {
@@ -208,18 +208,25 @@ fn well_shared(view: &View<'_>, shared: &SharedCore) -> bool
         && starts_well(view, shared.class, shared.ty, &shared.start)
 }
 
-/// Whether the initialiser of a shared of this class and this type, if it has one, is of the type.
-fn starts_well(view: &View<'_>, class: u32, ty: u32, start: &Option<ExprCore>) -> bool
-    ensures { result ≡ starts_well (rows view.now) class ty (option_expr_of start.now) }
+/// The initialiser of a shared of this class, as something stands in it.
+pub fn scope_of_start<'a>(view: &View<'a>, class: u32) -> Scope<'a>
+    ensures { frame result ≡ shared_frame (rows view.now) class }
 {
-    let scope = Scope {
+    Scope {
         view: *view,
         class,
         vars: &[],
         sites: &[],
         iter: false,
         gives: None,
-    };
+    }
+}
+
+/// Whether the initialiser of a shared of this class and this type, if it has one, is of the type.
+fn starts_well(view: &View<'_>, class: u32, ty: u32, start: &Option<ExprCore>) -> bool
+    ensures { result ≡ starts_well (rows view.now) class ty (option_expr_of start.now) }
+{
+    let scope = scope_of_start(view, class);
     match start {
         Some(value) => goes(&scope, Place::outside(), ty, value),
         None => true,

@@ -20,4 +20,12 @@ mod types;
 mod view;
 mod well;
 
-pub use well::is_well;
+pub use builtins::{BOOL, CHAR, INT, OB, STR};
+pub use called::{parameter, result_type};
+pub use features::{scope_of, scope_of_start};
+pub use given::{Given, Param, Reached};
+pub use place::{Place, Scope};
+pub use shape::Shape;
+pub use targets::{is_target_iter, target_parameter, target_result};
+pub use view::View;
+pub use well::{Shapes, is_well};

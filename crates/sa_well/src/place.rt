@@ -35,7 +35,7 @@ pub struct Place {
 
 impl Place {
     /// A place outside any loop and any protect.
-    pub(crate) fn outside() -> Place
+    pub fn outside() -> Place
         ensures { result ≡ outside }
     {
         Place {
@@ -47,7 +47,7 @@ impl Place {
     }
 
     /// The same in a loop.
-    pub(crate) fn in_loop(self, number: u32) -> Place
+    pub fn in_loop(self, number: u32) -> Place
         ensures { result ≡ in_loop number self }
     {
         Place {
@@ -59,7 +59,7 @@ impl Place {
     }
 
     /// The same in a protect.
-    pub(crate) fn guarded(self) -> Place
+    pub fn guarded(self) -> Place
         ensures { result ≡ guarded self }
     {
         Place {
@@ -71,7 +71,7 @@ impl Place {
     }
 
     /// The same in a branch of a protect for this type.
-    pub(crate) fn in_branch(self, ty: u32) -> Place
+    pub fn in_branch(self, ty: u32) -> Place
         ensures { result ≡ in_branch ty self }
     {
         Place {

@@ -52,12 +52,7 @@ fn shared_type(view: &View<'_>, number: u32) -> Option<u32>
 }
 
 /// A parameter of a target of a class.
-pub(crate) fn target_parameter(
-    view: &View<'_>,
-    class: u32,
-    target: Target,
-    place: usize,
-) -> Option<Param>
+pub fn target_parameter(view: &View<'_>, class: u32, target: Target, place: usize) -> Option<Param>
     ensures { result ≡ target_parameter (rows view.now) class target place }
 {
     match target {
@@ -115,7 +110,7 @@ fn in_parameter(ty: Option<u32>) -> Option<Param>
 }
 
 /// The number of the type of what a target of a class gives, if it gives something.
-pub(crate) fn target_result(view: &View<'_>, class: u32, target: Target) -> Option<u32>
+pub fn target_result(view: &View<'_>, class: u32, target: Target) -> Option<u32>
     ensures { result ≡ target_result (rows view.now) class target }
 {
     match target {
@@ -149,7 +144,7 @@ fn set_result(view: &View<'_>, class: u32) -> Option<u32>
 }
 
 /// Whether a target is an iter.
-pub(crate) fn is_target_iter(view: &View<'_>, target: Target) -> bool
+pub fn is_target_iter(view: &View<'_>, target: Target) -> bool
     ensures { result ≡ is_target_iter (rows view.now) target }
 {
     match target {

@@ -31,7 +31,8 @@ impl View<'_> {
         self.types.get(ty as usize).is_some()
     }
 
-    pub(crate) fn is_abstract(&self, ty: u32) -> bool
+    /// Whether a type is abstract.
+    pub fn is_abstract(&self, ty: u32) -> bool
         ensures { result ≡ is_abstract (rows self.now) ty }
     {
         match self.types.get(ty as usize) {
@@ -40,7 +41,8 @@ impl View<'_> {
         }
     }
 
-    pub(crate) fn is_immutable(&self, ty: u32) -> bool
+    /// Whether a type is an immutable class.
+    pub fn is_immutable(&self, ty: u32) -> bool
         ensures { result ≡ is_immutable (rows self.now) ty }
     {
         match self.types.get(ty as usize) {
@@ -106,7 +108,7 @@ impl View<'_> {
     }
 
     /// Whether the first type is the other one, or above it.
-    pub(crate) fn holds(&self, ty: u32, other: u32) -> bool
+    pub fn holds(&self, ty: u32, other: u32) -> bool
         ensures { result ≡ holds (rows self.now) ty other }
     {
         ty == other || self.is_above(ty, other)

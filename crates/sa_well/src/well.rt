@@ -4,6 +4,7 @@ ghost use Rattle.std.specs.Prelude.{◌≡◌, ◌↔◌, IfOk, IsTrue, map};
 ghost use Rattle.sa_well.specs.Rows.{rows};
 ghost use Rattle.sa_well.specs.Shapes.{characters_in, signature_shape, type_shape};
 ghost use Rattle.sa_well.specs.Well.{AreWell, IsWell, rows_of};
+ghost use Rattle.sa_well.specs.Seen.{AreShapes};
 
 use crate::features::{well_features, well_main, well_shareds};
 use crate::layout::is_flat;
@@ -24,35 +25,53 @@ use std::alloc::Global;
 pub fn is_well(alloc: Global, core: &Core) -> Result<bool, NoMemory>
     ensures { IfOk result (λ well. IsTrue well ↔ IsWell core.now) }
 {
-    let types = core.types.as_slice();
-    let numbers = Numbers::make(alloc, types)?;
-    let bound = numbers.bound_shapes(alloc)?;
-    let shapes = numbers.signature_shapes(alloc, core.sigs.as_slice())?;
-    let characters = characters_of(types)?;
-    let view = view_of(core, bound.as_slice(), shapes.as_slice(), characters);
-    are_well(alloc, &view, core.main)
+    let shapes = Shapes::of(alloc, core)?;
+    are_well(alloc, &shapes.view(core), core.main)
 }
 
-/// A tree by its rows, with the shapes of its bound types and signatures and the number of ARRAY{CHAR}.
-fn view_of<'a>(
-    core: &'a Core,
-    bound: &'a [Option<Shape>],
-    shapes: &'a [Option<Shape>],
-    characters: Option<u32>,
-) -> View<'a>
-    requires bound { bound.now ≡ map (type_shape core.now.types) core.now.types }
-    requires shapes { shapes.now ≡ map (signature_shape core.now.types) core.now.sigs }
-    requires characters { characters ≡ characters_in 0 core.now.types }
-    ensures { rows result ≡ rows_of core.now }
-{
-    View {
-        types: core.types.as_slice(),
-        features: core.features.as_slice(),
-        shareds: core.shareds.as_slice(),
-        signatures: core.sigs.as_slice(),
-        bound,
-        shapes,
-        characters,
+/// What calls of the bound types and the signatures of a tree take and give.
+#[derive(Drop)]
+pub struct Shapes {
+    /// By type, where it is a bound type.
+    pub bound: Vec<Option<Shape>>,
+    /// By signature.
+    pub signatures: Vec<Option<Shape>>,
+    /// The number of ARRAY{CHAR}, where it is a type of the tree.
+    pub characters: Option<u32>,
+}
+
+impl Shapes {
+    /// Those of a tree.
+    ///
+    /// # Errors
+    ///
+    /// `NoMemory`.
+    pub fn of(alloc: Global, core: &Core) -> Result<Shapes, NoMemory>
+        ensures { IfOk result (AreShapes core.now) }
+    {
+        let types = core.types.as_slice();
+        let numbers = Numbers::make(alloc, types)?;
+        Ok(Shapes {
+            bound: numbers.bound_shapes(alloc)?,
+            signatures: numbers.signature_shapes(alloc, core.sigs.as_slice())?,
+            characters: characters_of(types)?,
+        })
+    }
+
+    /// The tree by its rows.
+    pub fn view<'a>(&'a self, core: &'a Core) -> View<'a>
+        requires { AreShapes core.now self.now }
+        ensures { rows result ≡ rows_of core.now }
+    {
+        View {
+            types: core.types.as_slice(),
+            features: core.features.as_slice(),
+            shareds: core.shareds.as_slice(),
+            signatures: core.sigs.as_slice(),
+            bound: self.bound.as_slice(),
+            shapes: self.signatures.as_slice(),
+            characters: self.characters,
+        }
     }
 }
 
