@@ -4,21 +4,21 @@
 
 use crate::adapter_iter::adapter_iter;
 use crate::arguments::{Arguments, pass_all, widen_back, widened_value};
-use crate::giving::given;
 use crate::passing::widened_result;
-use crate::signatures::{Implemented, SignatureTypes};
+use crate::signatures::{Implemented, formals_of};
 use sa_core::Target;
 use sa_flat::{CallPlan, Fail, FlatBody, FlatExit, FlatStep};
 use sa_lower_draft::{BodyHead, Inside, OpenBody};
-use sa_lower_expr::{callee_of, feature_at, is_immutable};
+use sa_lower_expr::callee_of;
 use sa_tree::{NoMemory, held};
+use sa_well::{Param, is_target_iter};
 use sqlite_items::Items;
 use std::alloc::Global;
 
 /// The adapter of an implementation of a signature.
 pub(crate) fn adapter(alloc: Global, implemented: Implemented<'_>) -> Result<FlatBody, NoMemory> {
-    let iter = iter_number(implemented)?;
-    let head = head(alloc, iter, implemented.types)?;
+    let iter = iter_number(implemented);
+    let head = head(alloc, iter, implemented.params())?;
     let mut body = OpenBody::begin(alloc, head)?;
     if let Some(iter) = iter {
         return adapter_iter(alloc, implemented, iter, &mut body);
@@ -28,8 +28,8 @@ pub(crate) fn adapter(alloc: Global, implemented: Implemented<'_>) -> Result<Fla
 }
 
 /// What is known of a body before its blocks, where an iter with this number or something else implements the signature.
-fn head(alloc: Global, iter: Option<u32>, types: &SignatureTypes) -> Result<BodyHead, NoMemory> {
-    let formals = Items::from_slice(alloc, types.formals.as_slice())?;
+fn head(alloc: Global, iter: Option<u32>, params: &[Param]) -> Result<BodyHead, NoMemory> {
+    let formals = formals_of(alloc, params)?;
     let own = held(u32::try_from(formals.len()).ok())?;
     Ok(BodyHead {
         feature: None,
@@ -50,14 +50,12 @@ pub(crate) fn no_position() -> Fail {
 }
 
 /// The iter that implements the signature, if it is one.
-fn iter_number(implemented: Implemented<'_>) -> Result<Option<u32>, NoMemory> {
-    let Target::Feature(number) = implemented.implementation.target else {
-        return Ok(None);
-    };
-    if feature_at(implemented.core, number)?.iter {
-        return Ok(Some(number));
+fn iter_number(implemented: Implemented<'_>) -> Option<u32> {
+    let target = implemented.implementation.target;
+    match target {
+        Target::Feature(number) if is_target_iter(implemented.view, target) => Some(number),
+        _ => None,
     }
-    Ok(None)
 }
 
 /// The call with all that is widened before and behind it, and the variable that holds the result of the signature.
@@ -79,7 +77,7 @@ fn call(
             fail: no_position(),
         },
     })?;
-    let value = widened_value(value, widened_result(implemented)?, body)?;
+    let value = widened_value(value, widened_result(implemented), body)?;
     widen_back(backs.as_slice(), body)?;
     Ok(value)
 }
@@ -89,7 +87,7 @@ pub(crate) fn receiver(implemented: Implemented<'_>, body: &mut OpenBody) -> Res
     let me = body.temporary()?;
     body.step(FlatStep::Me { to: me })?;
     let ty = implemented.implementation.ty;
-    if !is_immutable(implemented.core, ty)? {
+    if !implemented.view.is_immutable(ty) {
         return Ok(me);
     }
     let to = body.temporary()?;
@@ -102,7 +100,7 @@ pub(crate) fn value_of(
     implemented: Implemented<'_>,
     body: &mut OpenBody,
 ) -> Result<Option<u32>, NoMemory> {
-    match given(implemented.core, implemented.implementation)? {
+    match implemented.result() {
         Some(_) => Ok(Some(body.temporary()?)),
         None => Ok(None),
     }

@@ -6,9 +6,10 @@ use crate::adapter::{receiver, value_of};
 use crate::arguments::{Arguments, pass, widen_back, widened, widened_value};
 use crate::passing::{Passing, passing_of, widened_result};
 use crate::signatures::Implemented;
-use sa_flat::{FlatArg, FlatBody, FlatExit, FlatFormal, FlatStep};
+use sa_flat::{FlatArg, FlatBody, FlatExit, FlatStep};
 use sa_lower_draft::OpenBody;
 use sa_tree::{Mode, NoMemory, held};
+use sa_well::Param;
 use sqlite_items::Items;
 use std::alloc::Global;
 
@@ -40,8 +41,7 @@ pub(crate) fn adapter_iter(
         quit,
     })?;
     end_or_go_on(alloc, body, quit)?;
-    let result = widened_result(implemented)?;
-    let value = widened_value(value, result, body)?;
+    let value = widened_value(value, widened_result(implemented), body)?;
     widen_back(backs.as_slice(), body)?;
     let exit = FlatExit::Suspend {
         value,
@@ -79,8 +79,8 @@ fn once_arguments(
     body: &mut OpenBody,
 ) -> Result<Items<u32>, NoMemory> {
     let mut vars = Items::new(alloc);
-    for (place, formal) in implemented.formals().iter().enumerate() {
-        vars.push(once_argument(implemented, place, *formal, body)?)?;
+    for (place, param) in implemented.params().iter().enumerate() {
+        vars.push(once_argument(implemented, place, *param, body)?)?;
     }
     Ok(vars)
 }
@@ -89,14 +89,14 @@ fn once_arguments(
 fn once_argument(
     implemented: Implemented<'_>,
     place: usize,
-    formal: FlatFormal,
+    param: Param,
     body: &mut OpenBody,
 ) -> Result<u32, NoMemory> {
     let var = held(u32::try_from(place).ok())?;
-    if formal.mode != Mode::Once {
+    if param.mode != Mode::Once {
         return Ok(var);
     }
-    match passing_of(implemented, place, formal)? {
+    match passing_of(implemented, place, param) {
         Passing::WidenedIn(ty) => widened(var, ty, body),
         _ => Ok(var),
     }
@@ -110,19 +110,19 @@ fn pass_all(
     body: &mut OpenBody,
 ) -> Result<Arguments, NoMemory> {
     let mut passed = Arguments::none(alloc);
-    for (place, formal) in implemented.formals().iter().enumerate() {
-        if formal.mode == Mode::Once {
-            pass_begun(place, begun, &mut passed)?;
+    let vars = begun.vars.as_slice();
+    for (place, (param, var)) in implemented.params().iter().zip(vars.iter()).enumerate() {
+        if param.mode == Mode::Once {
+            pass_begun(*var, &mut passed)?;
         } else {
-            pass(implemented, place, *formal, body, &mut passed)?;
+            pass(implemented, place, *param, body, &mut passed)?;
         }
     }
     Ok(passed)
 }
 
 /// One more argument, which was taken at the start.
-fn pass_begun(place: usize, begun: &Begun, passed: &mut Arguments) -> Result<(), NoMemory> {
-    let var = held(begun.vars.get(place).copied())?;
+fn pass_begun(var: u32, passed: &mut Arguments) -> Result<(), NoMemory> {
     passed.args.push(FlatArg {
         mode: Mode::Once,
         var: Some(var),

@@ -4,9 +4,10 @@
 use crate::adapter::no_position;
 use crate::passing::{Passing, passing_of};
 use crate::signatures::Implemented;
-use sa_flat::{FlatArg, FlatFormal, FlatStep};
+use sa_flat::{FlatArg, FlatStep};
 use sa_lower_draft::OpenBody;
 use sa_tree::{NoMemory, held};
+use sa_well::Param;
 use sqlite_items::Items;
 use std::alloc::Global;
 
@@ -42,8 +43,8 @@ pub(crate) fn pass_all(
     body: &mut OpenBody,
 ) -> Result<Arguments, NoMemory> {
     let mut passed = Arguments::none(alloc);
-    for (place, formal) in implemented.formals().iter().enumerate() {
-        pass(implemented, place, *formal, body, &mut passed)?;
+    for (place, param) in implemented.params().iter().enumerate() {
+        pass(implemented, place, *param, body, &mut passed)?;
     }
     Ok(passed)
 }
@@ -52,15 +53,15 @@ pub(crate) fn pass_all(
 pub(crate) fn pass(
     implemented: Implemented<'_>,
     place: usize,
-    formal: FlatFormal,
+    param: Param,
     body: &mut OpenBody,
     passed: &mut Arguments,
 ) -> Result<(), NoMemory> {
-    let how = passing_of(implemented, place, formal)?;
+    let how = passing_of(implemented, place, param);
     let to = held(u32::try_from(place).ok())?;
     let var = variable(how, to, body, &mut passed.backs)?;
     passed.args.push(FlatArg {
-        mode: formal.mode,
+        mode: param.mode,
         var: Some(var),
     })?;
     Ok(())

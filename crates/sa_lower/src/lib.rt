@@ -1,4 +1,4 @@
-//! A typed program as a flat one: a body for each feature, bodies for the implementations of signatures that have to widen
+//! A well-typed program as a flat one: a body for each feature, bodies for the implementations of signatures that have to widen
 //! what goes in or comes out, and the body that a run begins with.
 #![tactic(auto)]
 
@@ -6,7 +6,6 @@ mod adapter;
 mod adapter_iter;
 mod arguments;
 mod features;
-mod giving;
 mod lines;
 mod passing;
 mod run;

@@ -1,12 +1,10 @@
 //! What is widened between a signature and an implementation of it: an immutable value that goes in where the implementation
 //! has an abstract type, and one that comes out where the signature has one.
 
-use crate::giving::given;
 use crate::signatures::Implemented;
-use sa_core::Target;
-use sa_flat::FlatFormal;
-use sa_lower_expr::{is_abstract, is_immutable, takes_abstract, variable_type};
-use sa_tree::{Mode, NoMemory};
+use sa_lower_expr::takes_abstract;
+use sa_tree::Mode;
+use sa_well::{Param, View};
 
 /// What is done with an argument between a signature and an implementation.
 #[derive(Clone, Copy, Debug, PartialEq, Eq)]
@@ -19,53 +17,46 @@ pub(crate) enum Passing {
     WidenedOut(u32),
 }
 
-/// What is done with the argument at a place.
-pub(crate) fn passing_of(
-    implemented: Implemented<'_>,
-    place: usize,
-    formal: FlatFormal,
-) -> Result<Passing, NoMemory> {
-    match formal.mode {
-        Mode::In => passing_in(implemented, place, formal.ty),
-        Mode::Once => passing_in(implemented, place, formal.ty),
-        Mode::Out => passing_out(implemented, place, formal.ty),
-        Mode::Inout => Ok(Passing::Plain),
+/// What is done with the argument at a place, where the signature has this parameter.
+pub(crate) fn passing_of(implemented: Implemented<'_>, place: usize, param: Param) -> Passing {
+    match param.mode {
+        Mode::In => passing_in(implemented, place, param.ty),
+        Mode::Once => passing_in(implemented, place, param.ty),
+        Mode::Out => passing_out(implemented, place, param.ty),
+        Mode::Inout => Passing::Plain,
     }
 }
 
 /// An argument that goes in.
-fn passing_in(implemented: Implemented<'_>, place: usize, ty: u32) -> Result<Passing, NoMemory> {
-    if !is_immutable(implemented.core, ty)? {
-        return Ok(Passing::Plain);
+fn passing_in(implemented: Implemented<'_>, place: usize, ty: u32) -> Passing {
+    let Implemented {
+        view,
+        implementation,
+        ..
+    } = implemented;
+    if view.is_immutable(ty) && takes_abstract(view, implementation, place) {
+        return Passing::WidenedIn(ty);
     }
-    if takes_abstract(implemented.core, implemented.implementation, place)? {
-        return Ok(Passing::WidenedIn(ty));
-    }
-    Ok(Passing::Plain)
+    Passing::Plain
 }
 
-/// An argument that comes out. Only features have such arguments.
-fn passing_out(implemented: Implemented<'_>, place: usize, ty: u32) -> Result<Passing, NoMemory> {
-    let Target::Feature(number) = implemented.implementation.target else {
-        return Ok(Passing::Plain);
-    };
-    let core = implemented.core;
-    let own = variable_type(core, number, place)?;
-    if is_abstract(core, ty)? && is_immutable(core, own)? {
-        return Ok(Passing::WidenedOut(own));
+/// An argument that comes out.
+fn passing_out(implemented: Implemented<'_>, place: usize, ty: u32) -> Passing {
+    match implemented.parameter(place) {
+        Some(own) if is_widened(implemented.view, own.ty, ty) => Passing::WidenedOut(own.ty),
+        _ => Passing::Plain,
     }
-    Ok(Passing::Plain)
 }
 
 /// The immutable class of which an implementation gives a value that has to be widened to the result of the signature.
-pub(crate) fn widened_result(implemented: Implemented<'_>) -> Result<Option<u32>, NoMemory> {
-    let core = implemented.core;
-    let own = given(core, implemented.implementation)?;
-    let (Some(wanted), Some(own)) = (implemented.types.result, own) else {
-        return Ok(None);
-    };
-    if is_abstract(core, wanted)? && is_immutable(core, own)? {
-        return Ok(Some(own));
+pub(crate) fn widened_result(implemented: Implemented<'_>) -> Option<u32> {
+    match (implemented.result(), implemented.shape.result) {
+        (Some(own), Some(ty)) if is_widened(implemented.view, own, ty) => Some(own),
+        _ => None,
     }
-    Ok(None)
+}
+
+/// Whether a value of the first type is widened to be one of the other.
+fn is_widened(view: &View<'_>, own: u32, ty: u32) -> bool {
+    view.is_abstract(ty) && view.is_immutable(own)
 }

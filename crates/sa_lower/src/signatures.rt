@@ -1,74 +1,47 @@
-//! The types of signatures, by their numbers, and an implementation of one.
+//! An implementation of a signature, and the arguments that its adapter has.
 
-use indexmap::IndexMap;
-use sa_core::{Core, ImplCore, SigCore, TypeInfo};
+use sa_core::ImplCore;
 use sa_flat::FlatFormal;
-use sa_lower_draft::Tables;
-use sa_tree::{ModeTy, NoMemory, Ty, held};
+use sa_tree::NoMemory;
+use sa_well::{Param, Shape, View, target_parameter, target_result};
 use sqlite_items::Items;
 use std::alloc::Global;
 
-/// The arguments and the result of a signature, with the numbers of their types.
-#[derive(Drop)]
-pub(crate) struct SignatureTypes {
-    pub formals: Items<FlatFormal>,
-    pub result: Option<u32>,
-}
-
-/// A signature of a program as it is implemented: by what, and with which arguments and which result.
+/// A signature of a program as it is implemented: by what, and with which parameters and which result.
 #[derive(Clone, Copy)]
 pub(crate) struct Implemented<'a> {
-    pub core: &'a Core,
+    pub view: &'a View<'a>,
     pub implementation: &'a ImplCore,
-    pub types: &'a SignatureTypes,
+    pub shape: &'a Shape,
 }
 
 impl<'a> Implemented<'a> {
-    /// The arguments of the signature.
-    pub fn formals(&self) -> &'a [FlatFormal] {
-        self.types.formals.as_slice()
+    /// The parameters of the signature.
+    pub fn params(&self) -> &'a [Param] {
+        self.shape.params.as_slice()
+    }
+
+    /// The parameter at this place, as the implementation has it.
+    pub fn parameter(&self, place: usize) -> Option<Param> {
+        let ImplCore { ty, target } = *self.implementation;
+        target_parameter(self.view, ty, target, place)
+    }
+
+    /// The type of what the implementation gives, if it gives anything.
+    pub fn result(&self) -> Option<u32> {
+        let ImplCore { ty, target } = *self.implementation;
+        target_result(self.view, ty, target)
     }
 }
 
-/// The types of a program with their numbers.
-pub(crate) fn type_numbers(
-    alloc: Global,
-    types: &[TypeInfo],
-) -> Result<IndexMap<Ty, u32>, NoMemory> {
-    let mut numbers = IndexMap::new(alloc);
-    for (number, info) in types.iter().enumerate() {
-        let number = held(u32::try_from(number).ok())?;
-        numbers.insert(info.ty.copy(alloc)?, number)?;
-    }
-    Ok(numbers)
-}
-
-/// The types of a signature, which are types of the program.
-pub(crate) fn signature_types(
-    alloc: Global,
-    tables: &Tables,
-    signature: &SigCore,
-) -> Result<SignatureTypes, NoMemory> {
-    let sig = &signature.sig;
-    Ok(SignatureTypes {
-        formals: formals(alloc, tables, sig.args.as_slice())?,
-        result: result_type(tables, &sig.result)?,
-    })
-}
-
-/// The arguments of a signature.
-fn formals(alloc: Global, tables: &Tables, args: &[ModeTy]) -> Result<Items<FlatFormal>, NoMemory> {
+/// The arguments of a body that has the parameters of a signature.
+pub(crate) fn formals_of(alloc: Global, params: &[Param]) -> Result<Items<FlatFormal>, NoMemory> {
     let mut formals = Items::new(alloc);
-    for arg in args {
-        let ty = tables.type_number(&arg.ty)?;
-        formals.push(FlatFormal { mode: arg.mode, ty })?;
+    for param in params {
+        formals.push(FlatFormal {
+            mode: param.mode,
+            ty: param.ty,
+        })?;
     }
     Ok(formals)
-}
-
-fn result_type(tables: &Tables, ty: &Option<Ty>) -> Result<Option<u32>, NoMemory> {
-    match ty {
-        Some(ty) => Ok(Some(tables.type_number(ty)?)),
-        None => Ok(None),
-    }
 }

@@ -2,52 +2,75 @@
 //! implementation of a signature needs an adapter, all of them have one, so that a dispatched call, which doesn't know
 //! which one it will reach, can make the checks of a call for all or for none.
 
+ghost use Rattle.std.specs.Prelude.{All};
+ghost use Rattle.sa_lower.specs.Parts.{HasShape};
+
 use crate::adapter::adapter;
 use crate::passing::{Passing, passing_of, widened_result};
-use crate::signatures::{Implemented, SignatureTypes, signature_types};
-use sa_core::{Core, ImplCore, SigCore, Target};
+use crate::signatures::Implemented;
+use sa_core::{ImplCore, Target};
 use sa_flat::FlatBody;
-use sa_lower_draft::Tables;
-use sa_lower_expr::is_immutable;
 use sa_tree::{NoMemory, held};
+use sa_well::{Shape, View};
 use sqlite_items::Items;
 use std::alloc::Global;
 
 /// The number of the body of each implementation, in the order of the signatures and of their implementations. The bodies
 /// that are made for them stand behind the others.
+#[tactic(auto, unfolding(crate::specs::Parts::HasShape))]
 pub(crate) fn targets(
     alloc: Global,
-    core: &Core,
-    tables: &Tables,
+    view: &View<'_>,
     bodies: &mut Items<FlatBody>,
-) -> Result<Items<u32>, NoMemory> {
+) -> Result<Items<u32>, NoMemory>
+    requires { All HasShape view.now.shapes.now }
+{
     let mut targets = Items::new(alloc);
-    for signature in core.sigs.as_slice() {
-        let types = signature_types(alloc, tables, signature)?;
-        if needs_adapters(core, signature, &types)? {
-            add_adapters(alloc, core, signature, &types, bodies, &mut targets)?;
-        } else {
-            add_features(signature.impls.as_slice(), &mut targets)?;
-        }
+    for (signature, shape) in view.signatures.iter().zip(view.shapes) {
+        let Some(shape) = shape else { unreachable!() };
+        add_targets(
+            alloc,
+            view,
+            shape,
+            signature.impls.as_slice(),
+            bodies,
+            &mut targets,
+        )?;
     }
     Ok(targets)
 }
 
-/// An adapter for each implementation of a signature.
-fn add_adapters(
+/// Adds those of the implementations of a signature: their features, or an adapter for each.
+fn add_targets(
     alloc: Global,
-    core: &Core,
-    signature: &SigCore,
-    types: &SignatureTypes,
+    view: &View<'_>,
+    shape: &Shape,
+    implementations: &[ImplCore],
     bodies: &mut Items<FlatBody>,
     targets: &mut Items<u32>,
 ) -> Result<(), NoMemory> {
-    for implementation in signature.impls.as_slice() {
+    let Some(features) = plain_features(alloc, view, shape, implementations)? else {
+        return add_adapters(alloc, view, shape, implementations, bodies, targets);
+    };
+    targets.append(features)?;
+    Ok(())
+}
+
+/// Adds an adapter for each implementation of a signature.
+fn add_adapters(
+    alloc: Global,
+    view: &View<'_>,
+    shape: &Shape,
+    implementations: &[ImplCore],
+    bodies: &mut Items<FlatBody>,
+    targets: &mut Items<u32>,
+) -> Result<(), NoMemory> {
+    for implementation in implementations {
         let number = held(u32::try_from(bodies.len()).ok())?;
         let implemented = Implemented {
-            core,
+            view,
             implementation,
-            types,
+            shape,
         };
         bodies.push(adapter(alloc, implemented)?)?;
         targets.push(number)?;
@@ -55,59 +78,49 @@ fn add_adapters(
     Ok(())
 }
 
-/// The bodies of the features that implement a signature.
-fn add_features(implementations: &[ImplCore], targets: &mut Items<u32>) -> Result<(), NoMemory> {
+/// The features that implement a signature, where no implementation needs an adapter.
+fn plain_features<'a>(
+    alloc: Global,
+    view: &'a View<'a>,
+    shape: &'a Shape,
+    implementations: &'a [ImplCore],
+) -> Result<Option<Items<u32>>, NoMemory> {
+    let mut features = Items::new(alloc);
     for implementation in implementations {
-        targets.push(held(feature_number(implementation.target))?)?;
-    }
-    Ok(())
-}
-
-fn feature_number(target: Target) -> Option<u32> {
-    match target {
-        Target::Feature(number) => Some(number),
-        _ => None,
-    }
-}
-
-/// Whether the implementations of a signature have adapters.
-fn needs_adapters(
-    core: &Core,
-    signature: &SigCore,
-    types: &SignatureTypes,
-) -> Result<bool, NoMemory> {
-    for implementation in signature.impls.as_slice() {
         let implemented = Implemented {
-            core,
+            view,
             implementation,
-            types,
+            shape,
         };
-        if needs_adapter(implemented)? {
-            return Ok(true);
-        }
+        let Some(feature) = plain_feature(implemented) else {
+            return Ok(None);
+        };
+        features.push(feature)?;
     }
-    Ok(false)
+    Ok(Some(features))
 }
 
-/// Whether an implementation is no feature, or is called with another receiver, arguments or result than the signature has.
-fn needs_adapter(implemented: Implemented<'_>) -> Result<bool, NoMemory> {
-    if feature_number(implemented.implementation.target).is_none() {
-        return Ok(true);
+/// The feature that implements a signature, where it is called with the receiver, the arguments and the result that the signature
+/// has.
+fn plain_feature(implemented: Implemented<'_>) -> Option<u32> {
+    let Target::Feature(number) = implemented.implementation.target else {
+        return None;
+    };
+    let ty = implemented.implementation.ty;
+    if implemented.view.is_immutable(ty)
+        || widened_result(implemented).is_some()
+        || is_any_argument_widened(implemented)
+    {
+        return None;
     }
-    if is_immutable(implemented.core, implemented.implementation.ty)? {
-        return Ok(true);
-    }
-    if widened_result(implemented)?.is_some() {
-        return Ok(true);
-    }
-    is_any_argument_widened(implemented)
+    Some(number)
 }
 
-fn is_any_argument_widened(implemented: Implemented<'_>) -> Result<bool, NoMemory> {
-    for (place, formal) in implemented.formals().iter().enumerate() {
-        if passing_of(implemented, place, *formal)? != Passing::Plain {
-            return Ok(true);
+fn is_any_argument_widened(implemented: Implemented<'_>) -> bool {
+    for (place, param) in implemented.params().iter().enumerate() {
+        if passing_of(implemented, place, *param) != Passing::Plain {
+            return true;
         }
     }
-    Ok(false)
+    false
 }

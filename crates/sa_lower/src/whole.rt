@@ -1,36 +1,38 @@
 //! A whole typed program as a flat one.
 
 ghost use Rattle.std.specs.Prelude.{◌≡◌, IfOk, OnOk};
+ghost use Rattle.sa_well.specs.Rows.{rows};
+ghost use Rattle.sa_well.specs.Well.{IsWell, rows_of};
 
 use crate::features::feature_bodies;
 use crate::lines::line_numbers;
 use crate::run::run_body;
-use crate::signatures::type_numbers;
 use crate::targets::targets;
 use sa_core::{Core, SharedCore, TypeInfo};
 use sa_flat::{FlatProgram, Layout};
 use sa_lower_draft::{Draft, Tables};
 use sa_tree::{NoMemory, Pos};
+use sa_well::{Shapes, View};
 use sqlite_items::Items;
 use std::alloc::Global;
 
-/// The flat program of a typed one, which has these positions.
+/// The flat program of a typed one that is well typed, which has these positions.
 ///
 /// # Errors
 ///
-/// `NoMemory`, also where a number of the typed program is out of range, a position is in none of its texts, or an iter call stands
-/// outside loops.
+/// `NoMemory`, also where a position is in none of its texts.
 pub fn lower(alloc: Global, core: &Core, positions: Items<Pos>) -> Result<FlatProgram, NoMemory>
+    requires { IsWell core.now }
     ensures positions { IfOk result (λ flat. flat.positions ≡ positions) }
 {
     let mut program = empty(alloc, positions);
     add_tables(alloc, core, &mut program)?;
-    let types = type_numbers(alloc, core.types.as_slice())?;
     let positions = program.positions.as_slice();
     let lines = line_numbers(alloc, core.feeds.as_slice(), positions)?;
-    let tables = Tables::new(alloc, positions, lines.as_slice(), types)?;
+    let tables = Tables::new(alloc, positions, lines.as_slice())?;
     let mut draft = Draft::new(alloc, tables);
-    add_bodies(alloc, core, &mut draft, &mut program)?;
+    let shapes = Shapes::of(alloc, core)?;
+    add_bodies(alloc, core, &shapes.view(core), &mut draft, &mut program)?;
     let Draft { tables, .. } = draft;
     let Tables { texts, binds, .. } = tables;
     program.texts = texts.in_order(alloc)?;
@@ -39,17 +41,22 @@ pub fn lower(alloc: Global, core: &Core, positions: Items<Pos>) -> Result<FlatPr
 }
 
 /// Puts the bodies into a program, and the targets of its signatures.
+#[tactic(auto, using(crate::proofs::Parts::parts))]
 fn add_bodies(
     alloc: Global,
     core: &Core,
+    view: &View<'_>,
     draft: &mut Draft,
     program: &mut FlatProgram,
 ) -> Result<(), NoMemory>
+    requires well { IsWell core.now }
+    requires rows { rows view.now ≡ rows_of core.now }
     ensures positions { OnOk result (program.new.positions ≡ program.old.positions) }
 {
-    program.bodies = feature_bodies(alloc, core, draft)?;
-    program.targets = targets(alloc, core, &draft.tables, &mut program.bodies)?;
-    program.bodies.push(run_body(alloc, core, draft)?)?;
+    program.bodies = feature_bodies(alloc, view, draft)?;
+    program.targets = targets(alloc, view, &mut program.bodies)?;
+    let run = run_body(alloc, view, core.main, draft)?;
+    program.bodies.push(run)?;
     Ok(())
 }
 

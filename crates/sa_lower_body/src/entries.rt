@@ -1,28 +1,34 @@
 //! `if`: its entries in order, each with its tests and its statements.
 
+ghost use Rattle.std.specs.Prelude.{All};
+ghost use Rattle.sa_lower_body.specs.Typed.{IsEntry, frame_of, place_at};
+ghost use Rattle.sa_lower_expr.specs.Typed.{HasValue};
+
 use crate::around::Around;
 use crate::stmts::stmts;
 use crate::value::value_of;
 use sa_core::{ExprCore, TestCore};
 use sa_flat::FlatExit;
 use sa_lower_draft::Draft;
-use sa_tree::{NoMemory, held};
+use sa_tree::NoMemory;
 use std::alloc::Global;
 
-/// The entries of an `if`. Each goes on in the block `after` once its statements are done; the block that is open at the end
-/// is the one where no test is true.
+/// The entries of an `if`. Each goes on in the block behind the `if` once its statements are done. That block is the answer; the
+/// one that is open at the end is the one where no test is true.
 #[cycle(stmts)]
 pub(crate) fn if_entries(
     alloc: Global,
     around: &Around<'_>,
     draft: &mut Draft,
     entries: &[TestCore],
-    after: u32,
-) -> Result<(), NoMemory> {
+) -> Result<u32, NoMemory>
+    requires { All (IsEntry (frame_of around.now) (place_at around.now)) entries.now }
+{
+    let after = draft.body.block(alloc)?;
     for entry in entries {
         if_entry(alloc, around, draft, entry, after)?;
     }
-    Ok(())
+    Ok(after)
 }
 
 /// An entry of an `if`.
@@ -33,7 +39,9 @@ fn if_entry(
     draft: &mut Draft,
     entry: &TestCore,
     after: u32,
-) -> Result<(), NoMemory> {
+) -> Result<(), NoMemory>
+    requires { IsEntry (frame_of around.now) (place_at around.now) entry.now }
+{
     let next = entry_tests(alloc, around, draft, entry.tests.as_slice())?;
     stmts(alloc, around, draft, entry.body.as_slice())?;
     draft.body.end(alloc, FlatExit::Jump(after), next)
@@ -46,9 +54,15 @@ fn entry_tests(
     around: &Around<'_>,
     draft: &mut Draft,
     tests: &[ExprCore],
-) -> Result<u32, NoMemory> {
+) -> Result<u32, NoMemory>
+    requires { All (HasValue (frame_of around.now) (place_at around.now)) tests.now }
+{
     let body = draft.body.block(alloc)?;
-    let (first, others) = held(tests.split_first())?;
+    let Some((first, others)) = tests.split_first() else {
+        let next = draft.body.block(alloc)?;
+        draft.body.end(alloc, FlatExit::Jump(next), body)?;
+        return Ok(next);
+    };
     let mut last = value_of(alloc, around, draft, first)?;
     for test in others {
         last = next_test(alloc, around, draft, last, body, test)?;
@@ -66,7 +80,9 @@ fn next_test(
     before: u32,
     body: u32,
     test: &ExprCore,
-) -> Result<u32, NoMemory> {
+) -> Result<u32, NoMemory>
+    requires { HasValue (frame_of around.now) (place_at around.now) test.now }
+{
     let next = draft.body.block(alloc)?;
     draft.body.end(alloc, test_exit(before, body, next), next)?;
     value_of(alloc, around, draft, test)

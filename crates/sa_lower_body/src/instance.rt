@@ -1,5 +1,9 @@
 //! The statements of iters: `yield` and `quit`.
 
+ghost use Rattle.std.specs.Prelude.{IfSome};
+ghost use Rattle.sa_lower_body.specs.Typed.{frame_of, place_at};
+ghost use Rattle.sa_lower_expr.specs.Typed.{HasValue};
+
 use crate::around::Around;
 use crate::value::value_of;
 use sa_core::ExprCore;
@@ -14,7 +18,9 @@ pub(crate) fn yield_value(
     around: &Around<'_>,
     draft: &mut Draft,
     e: &Option<ExprCore>,
-) -> Result<(), NoMemory> {
+) -> Result<(), NoMemory>
+    requires { IfSome e.now (HasValue (frame_of around.now) (place_at around.now)) }
+{
     let value = match e {
         Some(e) => Some(value_of(alloc, around, draft, e)?),
         None => None,

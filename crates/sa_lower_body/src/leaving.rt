@@ -1,5 +1,9 @@
 //! The statements that leave the body, or the innermost loop.
 
+ghost use Rattle.std.specs.Prelude.{IfSome};
+ghost use Rattle.sa_lower_body.specs.Typed.{IsExit, frame_of, place_at};
+ghost use Rattle.sa_lower_expr.specs.Typed.{HasValue};
+
 use crate::around::Around;
 use crate::looping::returned;
 use crate::value::value_of;
@@ -15,7 +19,9 @@ pub(crate) fn leave_body(
     around: &Around<'_>,
     draft: &mut Draft,
     e: &Option<ExprCore>,
-) -> Result<(), NoMemory> {
+) -> Result<(), NoMemory>
+    requires { IfSome e.now (HasValue (frame_of around.now) (place_at around.now)) }
+{
     let value = match e {
         Some(e) => Some(value_of(alloc, around, draft, e)?),
         None => None,
@@ -36,7 +42,9 @@ pub(crate) fn raise(
     draft: &mut Draft,
     e: &ExprCore,
     pos: Pos,
-) -> Result<(), NoMemory> {
+) -> Result<(), NoMemory>
+    requires { HasValue (frame_of around.now) (place_at around.now) e.now }
+{
     let value = value_of(alloc, around, draft, e)?;
     let raised = around.inside.raised;
     let fail = draft.tables.fail(pos, raised)?;
@@ -62,13 +70,16 @@ pub(crate) fn stop(
 }
 
 /// Leaves the innermost loop: always, or by a test.
+#[tactic(auto, using(crate::proofs::Parts::parts))]
 pub(crate) fn leave_loop(
     alloc: Global,
     around: &Around<'_>,
     draft: &mut Draft,
     exit: &LoopExit,
-) -> Result<(), NoMemory> {
-    let after = around.inside.after()?;
+) -> Result<(), NoMemory>
+    requires { IsExit (frame_of around.now) (place_at around.now) exit.now }
+{
+    let after = around.inside.after();
     match exit {
         LoopExit::Break => draft.body.leave(alloc, FlatExit::Jump(after)),
         LoopExit::While(test) => {

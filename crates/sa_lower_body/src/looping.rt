@@ -1,16 +1,22 @@
 //! Loops: each round spends a turn, and each way out of a loop ends the instances that belong to it.
 
+ghost use Rattle.std.specs.Prelude.{◌≡◌, IfOk};
+ghost use Rattle.sa_lower_body.specs.Typed.{AreWellTyped, frame_of, place_at};
+ghost use Rattle.sa_lower_draft.specs.Places.{place_of};
+ghost use Rattle.sa_well.specs.Places.{in_loop};
+
 use crate::around::Around;
+use crate::stmts::stmts;
+use sa_core::StmtCore;
 use sa_flat::{FlatExit, FlatStep, Raised};
-use sa_lower_draft::{Inside, LoopWays, OpenBody};
-use sa_lower_expr::feature_at;
+use sa_lower_draft::{Draft, Inside, LoopWays, OpenBody};
 use sa_tree::NoMemory;
 use std::alloc::Global;
 
 /// A loop by its number: the block in which each round begins, the block behind the loop, and the blocks that end its instances,
 /// where it has sites.
 #[derive(Clone, Copy)]
-pub(crate) struct LoopBlocks {
+struct LoopBlocks {
     number: u32,
     head: u32,
     after: u32,
@@ -26,18 +32,38 @@ struct EndingBlocks {
     raising: u32,
 }
 
+/// A loop with this number.
+#[cycle(stmts)]
+pub(crate) fn loop_stmt(
+    alloc: Global,
+    around: &Around<'_>,
+    draft: &mut Draft,
+    number: u32,
+    list: &[StmtCore],
+) -> Result<(), NoMemory>
+    requires { AreWellTyped (frame_of around.now) (in_loop number (place_at around.now)) list.now }
+{
+    let blocks = begin_loop(alloc, around, &mut draft.body, number)?;
+    let inside = around.with(inside_loop(around.inside, blocks));
+    stmts(alloc, &inside, draft, list)?;
+    end_loop(alloc, around, &mut draft.body, blocks)
+}
+
 /// Opens the block in which each round of a loop begins.
-pub(crate) fn begin_loop(
+fn begin_loop(
     alloc: Global,
     around: &Around<'_>,
     body: &mut OpenBody,
     number: u32,
-) -> Result<LoopBlocks, NoMemory> {
+) -> Result<LoopBlocks, NoMemory>
+    ensures { IfOk result (λ blocks. blocks.number ≡ number) }
+{
     let head = body.block(alloc)?;
     let after = body.block(alloc)?;
-    let ending = match around.sites.first_of(number) {
-        Some(_) => Some(ending_blocks(alloc, body)?),
-        None => None,
+    let ending = if around.sites.has(number) {
+        Some(ending_blocks(alloc, body)?)
+    } else {
+        None
     };
     body.end(alloc, FlatExit::Jump(head), head)?;
     body.step(FlatStep::Turn)?;
@@ -60,13 +86,17 @@ fn ending_blocks(alloc: Global, body: &mut OpenBody) -> Result<EndingBlocks, NoM
 
 /// What is around the statements of a loop. What leaves a loop with sites ends their instances first; a loop without sites leaves
 /// the body as the loop around it does. The variables of a raise stay those of the raise around the loop.
-pub(crate) fn inside_loop(around: Inside, blocks: LoopBlocks) -> Inside {
+fn inside_loop(around: Inside, blocks: LoopBlocks) -> Inside
+    ensures { place_of result ≡ in_loop blocks.number (place_of around) }
+{
     let Some(ending) = blocks.ending else {
         return Inside {
             innermost: Some(LoopWays {
+                number: blocks.number,
                 after: blocks.after,
                 out: around.out(),
             }),
+            guarded: false,
             ..around
         };
     };
@@ -76,15 +106,17 @@ pub(crate) fn inside_loop(around: Inside, blocks: LoopBlocks) -> Inside {
             ..around.raised
         },
         innermost: Some(LoopWays {
+            number: blocks.number,
             after: ending.breaking,
             out: Some(ending.leaving),
         }),
+        guarded: false,
         ..around
     }
 }
 
 /// Ends the round, and opens the block behind the loop.
-pub(crate) fn end_loop(
+fn end_loop(
     alloc: Global,
     around: &Around<'_>,
     body: &mut OpenBody,
@@ -105,30 +137,29 @@ fn end_instances(
     blocks: LoopBlocks,
     ending: EndingBlocks,
 ) -> Result<(), NoMemory> {
-    let sites = around.sites.of_loop(alloc, blocks.number)?;
-    body.release(alloc, sites.as_slice())?;
+    let sites = around.sites.of_loop(blocks.number);
+    body.release(alloc, sites)?;
     body.end(alloc, FlatExit::Jump(blocks.after), ending.leaving)?;
-    body.release(alloc, sites.as_slice())?;
-    body.end(alloc, leaving_exit(around)?, ending.raising)?;
-    body.release(alloc, sites.as_slice())?;
+    body.release(alloc, sites)?;
+    body.end(alloc, leaving_exit(around), ending.raising)?;
+    body.release(alloc, sites)?;
     let raised = around.inside.raised;
     body.end(alloc, FlatExit::Jump(raised.block), blocks.after)
 }
 
 /// How the body is left from a loop once its instances have ended: by way of the loops around it, or else at once.
-fn leaving_exit(around: &Around<'_>) -> Result<FlatExit, NoMemory> {
+fn leaving_exit(around: &Around<'_>) -> FlatExit {
     if let Some(out) = around.inside.out() {
-        return Ok(FlatExit::Jump(out));
+        return FlatExit::Jump(out);
     }
-    let feature = feature_at(around.core, around.feature)?;
-    if feature.iter {
-        return Ok(FlatExit::Quit);
+    if around.scope.iter {
+        return FlatExit::Quit;
     }
-    let value = match feature.result {
+    let value = match around.scope.gives {
         Some(_) => Some(returned()),
         None => None,
     };
-    Ok(FlatExit::Return { value })
+    FlatExit::Return { value }
 }
 
 /// The variable that holds the value of a `return` while the instances of loops are ended. It is one of those of a raise that

@@ -2,14 +2,19 @@
 //! statements behind `else`, and where there are none on to what is around it. A raise in a branch goes to what is around the
 //! protect.
 
+ghost use Rattle.std.specs.Prelude.{◌≡◌, All};
+ghost use Rattle.sa_lower_body.specs.Typed.{AreWellTyped, IsBranch, frame_of, place_at};
+ghost use Rattle.sa_lower_draft.specs.Places.{place_of};
+ghost use Rattle.sa_well.specs.Builtins.{ob_type};
+ghost use Rattle.sa_well.specs.Places.{guarded, in_branch};
+
 use crate::around::Around;
 use crate::stmts::stmts;
-use sa_check_classes::OB;
-use sa_core::{ArmCore, Core, StmtCore};
+use sa_core::{ArmCore, StmtCore};
 use sa_flat::{FlatExit, FlatStep, Raised};
 use sa_lower_draft::{ArmTest, Draft, Exception, Inside, OpenBody};
-use sa_lower_expr::is_immutable;
 use sa_tree::{NoMemory, held};
+use sa_well::{OB, View};
 use sqlite_items::Items;
 use std::alloc::Global;
 
@@ -25,7 +30,9 @@ pub(crate) struct Protect {
 
 impl Protect {
     /// What is around the statements that the protect guards.
-    fn guarded(&self, around: Inside) -> Inside {
+    fn guarded(&self, around: Inside) -> Inside
+        ensures { place_of result ≡ guarded (place_of around) }
+    {
         Inside {
             raised: self.raised,
             ..self.behind(around)
@@ -34,15 +41,21 @@ impl Protect {
 
     /// What is around the block to which the raises of these statements go: what is around the protect, whose variables no
     /// statement inside it uses as temporaries.
-    fn behind(&self, around: Inside) -> Inside {
+    fn behind(&self, around: Inside) -> Inside
+        ensures { place_of result ≡ guarded (place_of around) }
+    {
         Inside {
+            guarded: true,
+            protected: true,
             first_temporary: self.first_temporary,
             ..around
         }
     }
 
     /// What is around the statements of a branch of this type.
-    fn branch(&self, around: Inside, ty: u32) -> Inside {
+    fn branch(&self, around: Inside, ty: u32) -> Inside
+        ensures { place_of result ≡ in_branch ty (guarded (place_of around)) }
+    {
         Inside {
             exception: Some(Exception {
                 var: self.exception,
@@ -60,7 +73,9 @@ pub(crate) fn guarded(
     around: &Around<'_>,
     draft: &mut Draft,
     list: &[StmtCore],
-) -> Result<Protect, NoMemory> {
+) -> Result<Protect, NoMemory>
+    requires { AreWellTyped (frame_of around.now) (guarded (place_at around.now)) list.now }
+{
     let protect = begin_protect(alloc, around, &mut draft.body)?;
     let inside = around.with(protect.guarded(around.inside));
     stmts(alloc, &inside, draft, list)?;
@@ -127,7 +142,9 @@ pub(crate) fn other_stmts(
     draft: &mut Draft,
     protect: &Protect,
     list: &[StmtCore],
-) -> Result<(), NoMemory> {
+) -> Result<(), NoMemory>
+    requires { AreWellTyped (frame_of around.now) (in_branch ob_type (guarded (place_at around.now))) list.now }
+{
     let from = protect.raised.value;
     draft.body.move_to(protect.exception, from)?;
     let inside = around.with(protect.branch(around.inside, OB));
@@ -153,7 +170,9 @@ pub(crate) fn protect_arms(
     protect: &Protect,
     list: &[ArmCore],
     blocks: &[u32],
-) -> Result<(), NoMemory> {
+) -> Result<(), NoMemory>
+    requires { All (IsBranch (frame_of around.now) (guarded (place_at around.now))) list.now }
+{
     for (arm, block) in list.iter().zip(blocks.iter()) {
         protect_arm(alloc, around, draft, protect, arm, *block)?;
     }
@@ -170,24 +189,26 @@ fn protect_arm(
     protect: &Protect,
     arm: &ArmCore,
     block: u32,
-) -> Result<(), NoMemory> {
+) -> Result<(), NoMemory>
+    requires { IsBranch (frame_of around.now) (guarded (place_at around.now)) arm.now }
+{
     let exit = FlatExit::Jump(protect.after);
     draft.body.end(alloc, exit, block)?;
-    take_exception(around.core, &mut draft.body, protect, arm.ty)?;
+    take_exception(&around.scope.view, &mut draft.body, protect, arm.ty)?;
     let inside = around.with(protect.branch(around.inside, arm.ty));
     stmts(alloc, &inside, draft, arm.body.as_slice())
 }
 
 /// The raised object into the variable of the exception, as a branch of this type has it.
 fn take_exception(
-    core: &Core,
+    view: &View<'_>,
     body: &mut OpenBody,
     protect: &Protect,
     ty: u32,
 ) -> Result<(), NoMemory> {
     let to = protect.exception;
     let from = protect.raised.value;
-    if is_immutable(core, ty)? {
+    if view.is_immutable(ty) {
         return body.step(FlatStep::Unwrap { to, from, ty });
     }
     body.move_to(to, from)

@@ -1,5 +1,8 @@
 //! The statements that hold no others and are left on their end.
 
+ghost use Rattle.sa_lower_body.specs.Typed.{frame_of, place_at};
+ghost use Rattle.sa_lower_expr.specs.Typed.{HasValue, IsTyped};
+
 use crate::around::Around;
 use crate::value::{evaluated, value_of};
 use sa_core::ExprCore;
@@ -14,7 +17,9 @@ pub(crate) fn assign(
     draft: &mut Draft,
     var: u32,
     e: &ExprCore,
-) -> Result<(), NoMemory> {
+) -> Result<(), NoMemory>
+    requires { HasValue (frame_of around.now) (place_at around.now) e.now }
+{
     let from = value_of(alloc, around, draft, e)?;
     draft.body.move_to(var, from)
 }
@@ -25,7 +30,9 @@ pub(crate) fn perform(
     around: &Around<'_>,
     draft: &mut Draft,
     e: &ExprCore,
-) -> Result<(), NoMemory> {
+) -> Result<(), NoMemory>
+    requires { IsTyped (frame_of around.now) (place_at around.now) e.now }
+{
     let _value = evaluated(alloc, around, draft, e)?;
     Ok(())
 }

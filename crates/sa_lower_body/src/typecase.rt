@@ -1,12 +1,14 @@
 //! `typecase`: the first arm whose type holds the class of a variable's value. Where the variable's own type is immutable its
 //! value has that class, so the arm is known and placed alone.
 
-use crate::around::{Around, is_at_or_below};
+ghost use Rattle.std.specs.Prelude.{◌<◌, All, length};
+ghost use Rattle.sa_lower_body.specs.Typed.{IsArm, frame_of, place_at};
+
+use crate::around::Around;
 use crate::stmts::stmts;
 use sa_core::ArmCore;
 use sa_flat::{FlatExit, FlatStep};
 use sa_lower_draft::{ArmTest, Draft, Inside, OpenBody};
-use sa_lower_expr::{is_immutable, variable_type};
 use sa_tree::{FaultKind, NoMemory, Pos};
 use std::alloc::Global;
 
@@ -19,9 +21,12 @@ pub(crate) fn typecase_arms(
     draft: &mut Draft,
     var: u32,
     arms: &[ArmCore],
-) -> Result<Option<u32>, NoMemory> {
-    let ty = variable_type(around.core, around.feature, var as usize)?;
-    if is_immutable(around.core, ty)? {
+) -> Result<Option<u32>, NoMemory>
+    requires variable { var < length around.now.scope.now.vars.now }
+    requires arms { All (IsArm (frame_of around.now) (place_at around.now)) arms.now }
+{
+    let ty = around.scope.vars[var as usize];
+    if around.scope.view.is_immutable(ty) {
         return known_arm(alloc, around, draft, var, ty, arms);
     }
     let after = draft.body.block(alloc)?;
@@ -38,9 +43,11 @@ fn known_arm(
     var: u32,
     ty: u32,
     arms: &[ArmCore],
-) -> Result<Option<u32>, NoMemory> {
+) -> Result<Option<u32>, NoMemory>
+    requires { All (IsArm (frame_of around.now) (place_at around.now)) arms.now }
+{
     for arm in arms {
-        if is_at_or_below(around.core, ty, arm.ty)? {
+        if around.scope.view.holds(arm.ty, ty) {
             draft.body.move_to(arm.var, var)?;
             stmts(alloc, around, draft, arm.body.as_slice())?;
             return Ok(None);
@@ -58,7 +65,9 @@ fn tested_arms(
     var: u32,
     arms: &[ArmCore],
     after: u32,
-) -> Result<(), NoMemory> {
+) -> Result<(), NoMemory>
+    requires { All (IsArm (frame_of around.now) (place_at around.now)) arms.now }
+{
     for arm in arms {
         tested_arm(alloc, around, draft, var, arm, after)?;
     }
@@ -74,7 +83,9 @@ fn tested_arm(
     var: u32,
     arm: &ArmCore,
     after: u32,
-) -> Result<(), NoMemory> {
+) -> Result<(), NoMemory>
+    requires { IsArm (frame_of around.now) (place_at around.now) arm.now }
+{
     let next = arm_test(alloc, &around.inside, &mut draft.body, var, arm.ty)?;
     take_arm(around, &mut draft.body, var, arm)?;
     stmts(alloc, around, draft, arm.body.as_slice())?;
@@ -103,7 +114,7 @@ fn take_arm(
     var: u32,
     arm: &ArmCore,
 ) -> Result<(), NoMemory> {
-    if is_immutable(around.core, arm.ty)? {
+    if around.scope.view.is_immutable(arm.ty) {
         return body.step(FlatStep::Unwrap {
             to: arm.var,
             from: var,

@@ -1,10 +1,10 @@
 //! The tables of the program that all bodies share. Texts and binds are added while bodies are filled, and none is taken away, so
-//! that a number names the same one to the end; positions and types are there from the beginning.
+//! that a number names the same one to the end; positions are there from the beginning.
 
 use crate::texts::Texts;
 use indexmap::IndexMap;
 use sa_flat::{BindEntry, Fail, Raised};
-use sa_tree::{NoMemory, Pos, Ty, held};
+use sa_tree::{NoMemory, Pos, held};
 use sqlite_items::Items;
 use std::alloc::Global;
 
@@ -24,23 +24,15 @@ pub struct Tables {
     pub binds: Items<BindEntry>,
     /// The first place of each position in the program's positions, with its line.
     spots: IndexMap<Pos, Spot>,
-    /// The number of each type of the program.
-    types: IndexMap<Ty, u32>,
 }
 
 impl Tables {
-    /// No texts and binds yet, of a program with these positions and their lines, and these numbers of its types.
-    pub fn new(
-        alloc: Global,
-        positions: &[Pos],
-        lines: &[u32],
-        types: IndexMap<Ty, u32>,
-    ) -> Result<Tables, NoMemory> {
+    /// No texts and binds yet, of a program with these positions and their lines.
+    pub fn new(alloc: Global, positions: &[Pos], lines: &[u32]) -> Result<Tables, NoMemory> {
         Ok(Tables {
             texts: Texts::new(alloc),
             binds: Items::new(alloc),
             spots: spots(alloc, positions, lines)?,
-            types,
         })
     }
 
@@ -49,11 +41,6 @@ impl Tables {
         let number = held(u32::try_from(self.binds.len()).ok())?;
         self.binds.push(entry)?;
         Ok(number)
-    }
-
-    /// The number of a type of the program. The answer is `NoMemory` where the program lacks it.
-    pub fn type_number(&self, ty: &Ty) -> Result<u32, NoMemory> {
-        held(self.types.get(ty).copied())
     }
 
     /// What a fault at a position tells, where it goes the way of a raise. The answer is `NoMemory` where the program lacks the

@@ -1,12 +1,16 @@
 //! The arguments of a call, from left to right.
 
+ghost use Rattle.std.specs.Prelude.{All};
+ghost use Rattle.sa_lower_expr.specs.Around.{at_of, frame_of};
+ghost use Rattle.sa_lower_expr.specs.Typed.{IsArgument};
+
 use crate::around::Around;
 use crate::expr::operand;
 use crate::passing::{Passed, none_passed, pass_open, pass_value, pass_variable};
-use crate::reached::Reached;
 use sa_core::ArgCore;
 use sa_lower_draft::Draft;
 use sa_tree::{Mode, NoMemory};
+use sa_well::Reached;
 use sqlite_items::Items;
 use std::alloc::Global;
 
@@ -20,8 +24,10 @@ pub(crate) fn arguments(
     reached: Reached,
     args: &[ArgCore],
     before: &[Option<u32>],
-) -> Result<Passed, NoMemory> {
-    let mut passed = none_passed(alloc, around, &draft.tables, reached, args)?;
+) -> Result<Passed, NoMemory>
+    requires { All (IsArgument (frame_of around.now) (at_of around.now)) args.now }
+{
+    let mut passed = none_passed(alloc, around, reached, args);
     for arg in args {
         match evaluated_before(before, &passed) {
             Some(value) => pass_value(&mut passed, Mode::Once, value)?,
@@ -40,11 +46,13 @@ fn argument(
     reached: Reached,
     arg: &ArgCore,
     passed: &mut Passed,
-) -> Result<(), NoMemory> {
+) -> Result<(), NoMemory>
+    requires { IsArgument (frame_of around.now) (at_of around.now) arg.now }
+{
     match arg {
         ArgCore::Value(mode, e) => {
             let value = operand(alloc, around, draft, e)?;
-            pass_value(passed, *mode, value)
+            pass_value(passed, *mode, value.var)
         }
         ArgCore::Variable(mode, var) => {
             pass_variable(around, draft, reached, passed, *mode, *var)
@@ -68,7 +76,9 @@ pub(crate) fn once_arguments(
     around: &Around<'_>,
     draft: &mut Draft,
     args: &[ArgCore],
-) -> Result<Items<Option<u32>>, NoMemory> {
+) -> Result<Items<Option<u32>>, NoMemory>
+    requires { All (IsArgument (frame_of around.now) (at_of around.now)) args.now }
+{
     let mut values = Items::new(alloc);
     for arg in args {
         values.push(once_argument(alloc, around, draft, arg)?)?;
@@ -83,11 +93,13 @@ fn once_argument(
     around: &Around<'_>,
     draft: &mut Draft,
     arg: &ArgCore,
-) -> Result<Option<u32>, NoMemory> {
+) -> Result<Option<u32>, NoMemory>
+    requires { IsArgument (frame_of around.now) (at_of around.now) arg.now }
+{
     match arg {
         ArgCore::Value(Mode::Once, e) => {
             let value = operand(alloc, around, draft, e)?;
-            Ok(Some(value))
+            Ok(Some(value.var))
         }
         _ => Ok(None),
     }

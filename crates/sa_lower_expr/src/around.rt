@@ -1,23 +1,22 @@
 //! What is around an expression.
 
-use sa_core::Core;
 use sa_lower_draft::Inside;
-use sa_tree::{NoMemory, held};
+use sa_well::Scope;
 
 /// What a statement stands in.
 #[derive(Clone, Copy, Debug, PartialEq, Eq)]
 pub enum Owner {
-    /// A feature, by its number.
-    Feature(u32),
-    /// The initialiser of a shared, of the class with this number.
-    Initialiser(u32),
+    /// A feature, whose `self` is its own object.
+    Feature,
+    /// The initialiser of a shared, whose `self` is the void value of its class.
+    Initialiser,
 }
 
 /// What is around an expression.
 #[derive(Clone, Copy)]
 pub(crate) struct Around<'a> {
-    pub core: &'a Core,
-    /// What its statement stands in.
+    /// The feature or the initialiser that its statement stands in.
+    pub scope: &'a Scope<'a>,
     pub owner: Owner,
     /// What is around its statement.
     pub inside: &'a Inside,
@@ -32,12 +31,4 @@ pub(crate) enum Variables {
     Kept,
     /// They write some, so that one that is an operand is copied before the operands behind it are evaluated.
     Written,
-}
-
-/// The number of the feature around. An initialiser has none.
-pub(crate) fn own_feature(around: &Around<'_>) -> Result<u32, NoMemory> {
-    match around.owner {
-        Owner::Feature(feature) => Ok(feature),
-        Owner::Initialiser(_) => held(None),
-    }
 }

@@ -2,16 +2,17 @@
 //! bind of a signature is widened where the implementation that the receiver chooses takes it at an abstract type, so that a
 //! call of the bound value finds it as it has to be.
 
+ghost use Rattle.sa_lower_expr.specs.Around.{IsThere, frame_of};
+
 use crate::around::Around;
 use crate::call::{Invocation, plan_of};
 use crate::passing::Passed;
-use crate::reached::{Reached, parameter_type};
-use crate::taken::takes_abstract;
-use crate::tree::{is_immutable, signature_at};
-use sa_core::{Core, ImplCore, SigCore};
+use crate::taken::{immutable_parameter, takes_abstract};
+use sa_core::ImplCore;
 use sa_flat::{Fail, FlatArg, FlatStep};
 use sa_lower_draft::{Draft, OpenBody};
 use sa_tree::NoMemory;
+use sa_well::{Reached, View};
 use sqlite_items::Items;
 use std::alloc::Global;
 
@@ -23,7 +24,9 @@ pub(crate) fn bind(
     invocation: Invocation,
     passed: Passed,
     ty: u32,
-) -> Result<u32, NoMemory> {
+) -> Result<u32, NoMemory>
+    requires { IsThere (frame_of around.now).rows invocation.reached }
+{
     let args = kept(alloc, around, draft, invocation, passed.args)?;
     let value = draft.body.temporary()?;
     let plan = plan_of(around, &draft.tables, invocation, args, Some(value))?;
@@ -38,13 +41,17 @@ fn kept(
     draft: &mut Draft,
     invocation: Invocation,
     args: Items<FlatArg>,
-) -> Result<Items<FlatArg>, NoMemory> {
-    let Reached::Dispatch(signature) = invocation.reached else {
+) -> Result<Items<FlatArg>, NoMemory>
+    requires { IsThere (frame_of around.now).rows invocation.reached }
+{
+    let Reached::Signature(signature) = invocation.reached else {
         return Ok(args);
     };
+    let view = &around.scope.view;
     let chosen = Chosen {
-        core: around.core,
-        signature: signature_at(around.core, signature)?,
+        view,
+        signature: invocation.reached,
+        implementations: view.signatures[signature as usize].impls.as_slice(),
         recv: invocation.recv,
         fail: draft.tables.fail(invocation.pos, around.inside.raised)?,
     };
@@ -54,8 +61,9 @@ fn kept(
 /// A bind of a signature, whose implementation the receiver chooses, and where its faults go.
 #[derive(Clone, Copy)]
 struct Chosen<'a> {
-    core: &'a Core,
-    signature: &'a SigCore,
+    view: &'a View<'a>,
+    signature: Reached,
+    implementations: &'a [ImplCore],
     recv: u32,
     fail: Fail,
 }
@@ -89,11 +97,10 @@ fn kept_value(
     let Some(from) = given else {
         return Ok(None);
     };
-    let ty = parameter_type(&draft.tables, chosen.signature, place)?;
-    if !is_immutable(chosen.core, ty)? {
+    let Some(ty) = immutable_parameter(chosen.view, chosen.signature, place) else {
         return Ok(given);
-    }
-    let types = takers(alloc, chosen.core, chosen.signature.impls.as_slice(), place)?;
+    };
+    let types = takers(alloc, chosen, place)?;
     if types.is_empty() {
         return Ok(given);
     }
@@ -101,15 +108,10 @@ fn kept_value(
 }
 
 /// The types, rising, whose implementations take the argument at this place at an abstract type.
-fn takers(
-    alloc: Global,
-    core: &Core,
-    implementations: &[ImplCore],
-    place: usize,
-) -> Result<Items<u32>, NoMemory> {
+fn takers(alloc: Global, chosen: Chosen<'_>, place: usize) -> Result<Items<u32>, NoMemory> {
     let mut types = Items::new(alloc);
-    for implementation in implementations {
-        if takes_abstract(core, implementation, place)? {
+    for implementation in chosen.implementations {
+        if takes_abstract(chosen.view, implementation, place) {
             types.push(implementation.ty)?;
         }
     }

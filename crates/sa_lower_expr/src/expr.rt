@@ -1,17 +1,21 @@
 //! An expression as steps and blocks: what stands inside it is placed first, from left to right.
 
-use crate::arguments::{arguments, once_arguments};
+ghost use Rattle.std.specs.Prelude.{◌≡◌, All, IfOk, is_some};
+ghost use Rattle.sa_lower_draft.specs.Places.{place_of};
+ghost use Rattle.sa_lower_expr.specs.Around.{IsPlaced, at_of, frame_of};
+ghost use Rattle.sa_lower_expr.specs.Typed.{Gives, HasValue, IsTyped, gives_value};
+ghost use Rattle.sa_well.specs.Places.{frame};
+
 use crate::around::{Around, Owner};
-use crate::binds::bind;
-use crate::call::{Invocation, call, one_passed, swapped};
+use crate::calls::place_call;
 use crate::logic::{Connective, begin_right, joined};
-use crate::reached::reached_on;
-use crate::simple::{array, new_array, void_test, widened, without_parts};
-use crate::sites::{begin_others, begin_site, end_site};
+use crate::placed::{Operand, Placed, value};
+use crate::simple::{array, leaf, new_array, void_test, widened};
 use crate::writing::variables_in;
-use sa_core::{Core, ExprCore};
+use sa_core::ExprCore;
 use sa_lower_draft::{Draft, Inside};
-use sa_tree::{NoMemory, held};
+use sa_tree::NoMemory;
+use sa_well::{BOOL, Given, Scope};
 use sqlite_items::Items;
 use std::alloc::Global;
 
@@ -19,136 +23,134 @@ use std::alloc::Global;
 /// gives no result has none. The statement stands in a feature or an initialiser, with this around it. What temporaries of
 /// statements held before isn't read any more. The block that is open afterwards is the one in which the value is there.
 ///
-/// The answer is NoMemory as well where a number of the tree is out of range, or an iter call stands outside loops.
+/// # Errors
+///
+/// `NoMemory`.
+#[tactic(auto, using(crate::proofs::Forms::placed))]
 pub fn place_expr(
     alloc: Global,
-    core: &Core,
+    scope: &Scope<'_>,
     owner: Owner,
     inside: &Inside,
     draft: &mut Draft,
     e: &ExprCore,
-) -> Result<Option<u32>, NoMemory> {
+) -> Result<Option<u32>, NoMemory>
+    requires { IsTyped (frame scope.now) (place_of inside.now) e.now }
+    ensures { IfOk result (λ var. is_some var ≡ gives_value (frame scope.now) (place_of inside.now) e.now) }
+{
     let around = Around {
-        core,
+        scope,
         owner,
         inside,
         variables: variables_in(e),
     };
     draft.body.statement(inside);
-    place(alloc, &around, draft, e)
+    let placed = place(alloc, &around, draft, e)?;
+    Ok(placed.var)
 }
 
-/// Places an expression, and gives the variable that holds its value. A call without a result has none.
+/// Places an expression.
+#[tactic(auto, using(crate::proofs::Parts::parts, crate::proofs::Forms::forms))]
 #[cycle(place)]
 fn place(
     alloc: Global,
     around: &Around<'_>,
     draft: &mut Draft,
     e: &ExprCore,
-) -> Result<Option<u32>, NoMemory> {
+) -> Result<Placed, NoMemory>
+    requires { IsTyped (frame_of around.now) (at_of around.now) e.now }
+    ensures { IfOk result (IsPlaced around.now e.now) }
+{
     match e {
         ExprCore::IsVoid(of) => {
             let of = operand(alloc, around, draft, of.get())?;
-            some(void_test(&mut draft.body, of))
+            value(void_test(&mut draft.body, of.var), Given::Plain(BOOL))
         }
         ExprCore::NewArray(ty, count, pos) => {
             let count = operand(alloc, around, draft, count.get())?;
-            some(new_array(around, draft, *ty, count, *pos))
+            let array = new_array(around, draft, *ty, count.var, *pos);
+            value(array, Given::Plain(*ty))
         }
         ExprCore::Widen(ty, of, pos) => {
             let of = operand(alloc, around, draft, of.get())?;
-            some(widened(around, draft, *ty, of, *pos))
+            let widened = widened(around, draft, *ty, of.var, *pos);
+            value(widened, Given::Widened(*ty))
         }
         ExprCore::Items(ty, elements, pos) => {
             let elements = operands(alloc, around, draft, elements.as_slice())?;
-            some(array(around, draft, *ty, elements.as_slice(), *pos))
-        }
-        ExprCore::Swapped(target, first, second, pos) => {
-            let first = operand(alloc, around, draft, first.get())?;
-            let second = operand(alloc, around, draft, second.get())?;
-            let invocation = swapped(around.core, *target, second, *pos)?;
-            call(around, draft, invocation, one_passed(alloc, first)?)
+            let array = array(around, draft, *ty, elements.as_slice(), *pos);
+            value(array, Given::Plain(*ty))
         }
         ExprCore::And(left, right) => {
             let left = operand(alloc, around, draft, left.get())?;
-            let joint = begin_right(alloc, &mut draft.body, Connective::And, left)?;
+            let joint = begin_right(alloc, &mut draft.body, Connective::And, left.var)?;
             let right = operand(alloc, around, draft, right.get())?;
-            some(joined(alloc, &mut draft.body, joint, right))
+            value(
+                joined(alloc, &mut draft.body, joint, right.var),
+                Given::Plain(BOOL),
+            )
         }
         ExprCore::Or(left, right) => {
             let left = operand(alloc, around, draft, left.get())?;
-            let joint = begin_right(alloc, &mut draft.body, Connective::Or, left)?;
+            let joint = begin_right(alloc, &mut draft.body, Connective::Or, left.var)?;
             let right = operand(alloc, around, draft, right.get())?;
-            some(joined(alloc, &mut draft.body, joint, right))
+            value(
+                joined(alloc, &mut draft.body, joint, right.var),
+                Given::Plain(BOOL),
+            )
         }
-        _ => place_call(alloc, around, draft, e),
+        ExprCore::Call(_, _, _, _)
+        | ExprCore::IterCall(_, _, _, _)
+        | ExprCore::Bind(_, _, _, _, _)
+        | ExprCore::Swapped(_, _, _, _) => place_call(alloc, around, draft, e),
+        ExprCore::Int(_)
+        | ExprCore::Bool(_)
+        | ExprCore::Char(_)
+        | ExprCore::Text(_)
+        | ExprCore::VoidOf(_)
+        | ExprCore::Me
+        | ExprCore::Var(_)
+        | ExprCore::Exception
+        | ExprCore::New(_, _) => leaf(alloc, around, draft, e),
     }
-}
-
-/// Places a call, a call of an iter, a bind, or a form that holds no expressions.
-#[cycle(place)]
-fn place_call(
-    alloc: Global,
-    around: &Around<'_>,
-    draft: &mut Draft,
-    e: &ExprCore,
-) -> Result<Option<u32>, NoMemory> {
-    match e {
-        ExprCore::Call(called, on, args, pos) => {
-            let reached = reached_on(around, &draft.tables, *called, on.get())?;
-            let recv = operand(alloc, around, draft, on.get())?;
-            let args = arguments(alloc, around, draft, reached, args.as_slice(), &[])?;
-            call(around, draft, Invocation::on(reached, recv, *pos), args)
-        }
-        ExprCore::IterCall(number, on, args, pos) => {
-            let site = begin_site(alloc, around, draft, *number, on.get(), args.as_slice())?;
-            let recv = operand(alloc, around, draft, on.get())?;
-            let once = once_arguments(alloc, around, draft, args.as_slice())?;
-            begin_others(alloc, &mut draft.body, site)?;
-            let (args, once) = (args.as_slice(), once.as_slice());
-            let args = arguments(alloc, around, draft, site.reached, args, once)?;
-            let invocation = Invocation::on(site.reached, recv, *pos);
-            end_site(alloc, around, draft, site, invocation, args)
-        }
-        ExprCore::Bind(called, on, args, ty, pos) => {
-            let reached = reached_on(around, &draft.tables, *called, on.get())?;
-            let recv = operand(alloc, around, draft, on.get())?;
-            let args = arguments(alloc, around, draft, reached, args.as_slice(), &[])?;
-            let invocation = Invocation::on(reached, recv, *pos);
-            some(bind(alloc, around, draft, invocation, args, *ty))
-        }
-        _ => some(without_parts(alloc, around, draft, e)),
-    }
-}
-
-/// A form that always has a value.
-fn some(value: Result<u32, NoMemory>) -> Result<Option<u32>, NoMemory> {
-    Ok(Some(value?))
 }
 
 /// Places an expression that has a value.
+#[tactic(auto, using(crate::proofs::Forms::placed))]
 #[cycle(place)]
 pub(crate) fn operand(
     alloc: Global,
     around: &Around<'_>,
     draft: &mut Draft,
     e: &ExprCore,
-) -> Result<u32, NoMemory> {
-    let value = place(alloc, around, draft, e)?;
-    held(value)
+) -> Result<Operand, NoMemory>
+    requires { HasValue (frame_of around.now) (at_of around.now) e.now }
+    ensures { IfOk result (λ operand. Gives (frame_of around.now) (at_of around.now) e.now operand.given) }
+{
+    let placed = place(alloc, around, draft, e)?;
+    match placed.var {
+        Some(var) => Ok(Operand {
+            var,
+            given: placed.given,
+        }),
+        None => unreachable!(),
+    }
 }
 
-/// Places expressions that have values, from left to right.
+/// Places expressions that have values, from left to right, and gives the variables that hold these.
 #[cycle(place)]
 fn operands(
     alloc: Global,
     around: &Around<'_>,
     draft: &mut Draft,
     list: &[ExprCore],
-) -> Result<Items<u32>, NoMemory> {
+) -> Result<Items<u32>, NoMemory>
+    requires { All (HasValue (frame_of around.now) (at_of around.now)) list.now }
+{
     let mut values = Items::new(alloc);
     for e in list {
-        values.push(operand(alloc, around, draft, e)?)?;
+        let operand = operand(alloc, around, draft, e)?;
+        values.push(operand.var)?;
     }
     Ok(values)
 }

@@ -8,14 +8,14 @@
 
 use crate::around::{Around, Variables};
 use crate::copies::CopyBack;
-use crate::reached::{Reached, formal_type, own_type};
 use crate::simple::copied;
-use crate::tree::{is_abstract, is_immutable};
+use crate::taken::immutable_parameter;
 use crate::writing::written_up_to;
 use sa_core::ArgCore;
 use sa_flat::FlatArg;
-use sa_lower_draft::{Draft, OpenBody, Tables};
+use sa_lower_draft::{Draft, OpenBody};
 use sa_tree::{Mode, NoMemory};
+use sa_well::Reached;
 use sqlite_items::Items;
 use std::alloc::Global;
 
@@ -44,76 +44,55 @@ impl Passed {
 pub(crate) fn none_passed(
     alloc: Global,
     around: &Around<'_>,
-    tables: &Tables,
     reached: Reached,
     args: &[ArgCore],
-) -> Result<Passed, NoMemory> {
-    Ok(Passed {
+) -> Passed {
+    Passed {
         args: Items::new(alloc),
         copies: Items::new(alloc),
-        temporaries_from: temporaries_from(around, tables, reached, args)?,
-    })
+        temporaries_from: temporaries_from(around, reached, args),
+    }
 }
 
 /// The place of the first argument from which on the written ones are passed in temporaries, or the number of arguments.
-fn temporaries_from(
-    around: &Around<'_>,
-    tables: &Tables,
-    reached: Reached,
-    args: &[ArgCore],
-) -> Result<usize, NoMemory> {
+fn temporaries_from(around: &Around<'_>, reached: Reached, args: &[ArgCore]) -> usize {
     if around.variables == Variables::Kept {
-        return Ok(args.len());
+        return args.len();
     }
     let written = written_up_to(args);
     for (place, arg) in args.iter().enumerate() {
-        if needs_temporary(around, tables, reached, place, arg, written)? {
-            return Ok(place);
+        if needs_temporary(around, reached, place, arg, written) {
+            return place;
         }
     }
-    Ok(args.len())
+    args.len()
 }
 
 /// Whether an argument can't be passed as the variable that it names. The evaluation of the first `written` arguments
 /// writes variables.
 fn needs_temporary(
     around: &Around<'_>,
-    tables: &Tables,
     reached: Reached,
     place: usize,
     arg: &ArgCore,
     written: usize,
-) -> Result<bool, NoMemory> {
+) -> bool {
     match arg {
-        ArgCore::Variable(Mode::Out, var) => {
-            Ok(widening(around, tables, reached, place, *var)?.is_some())
-        }
-        ArgCore::Variable(_, _) => Ok(place < written),
-        ArgCore::Value(_, _) => Ok(false),
-        ArgCore::Left => Ok(false),
+        ArgCore::Variable(Mode::Out, var) => widening(around, reached, place, *var).is_some(),
+        ArgCore::Variable(_, _) => place < written,
+        ArgCore::Value(_, _) => false,
+        ArgCore::Left => false,
     }
 }
 
 /// The number of the immutable type from which what an `out` argument gives is widened into its variable, if it is.
-fn widening(
-    around: &Around<'_>,
-    tables: &Tables,
-    reached: Reached,
-    place: usize,
-    var: u32,
-) -> Result<Option<u32>, NoMemory> {
-    let core = around.core;
-    let own = own_type(around, var)?;
-    if !is_abstract(core, own)? {
-        return Ok(None);
+fn widening(around: &Around<'_>, reached: Reached, place: usize, var: u32) -> Option<u32> {
+    let view = &around.scope.view;
+    let own = *around.scope.vars.get(var as usize)?;
+    if !view.is_abstract(own) {
+        return None;
     }
-    let Some(ty) = formal_type(core, tables, reached, place)? else {
-        return Ok(None);
-    };
-    if !is_immutable(core, ty)? {
-        return Ok(None);
-    }
-    Ok(Some(ty))
+    immutable_parameter(view, reached, place)
 }
 
 /// Passes a value.
@@ -163,7 +142,7 @@ fn out_copy(
     place: usize,
     var: u32,
 ) -> Result<CopyBack, NoMemory> {
-    let widened = widening(around, &draft.tables, reached, place, var)?;
+    let widened = widening(around, reached, place, var);
     Ok(CopyBack {
         to: var,
         from: draft.body.temporary()?,

@@ -1,30 +1,53 @@
 //! The forms of one step on operands that are in variables already, and array literals.
 
+ghost use Rattle.std.specs.Prelude.{◌≡◌, IfOk, IsTrue, is_some};
+ghost use Rattle.sa_lower_expr.specs.Around.{IsPlaced, at_of, frame_of};
+ghost use Rattle.sa_lower_expr.specs.Kinds.{IsLeaf};
+ghost use Rattle.sa_lower_expr.specs.Typed.{IsTyped};
+
 use crate::around::{Around, Owner, Variables};
+use crate::placed::{Placed, value};
 use sa_core::ExprCore;
 use sa_flat::{Fail, FlatConst, FlatStep};
-use sa_lower_draft::{Draft, OpenBody};
+use sa_lower_draft::{Draft, Exception, OpenBody};
 use sa_tree::{Name, NoMemory, Pos, held};
+use sa_well::{BOOL, CHAR, Given, INT, STR};
 use std::alloc::Global;
 
-/// A form that holds no expressions. The others are no such form.
-pub(crate) fn without_parts(
+/// Places a form that holds no expressions.
+#[tactic(auto, using(crate::proofs::Forms::leaves))]
+pub(crate) fn leaf(
     alloc: Global,
     around: &Around<'_>,
     draft: &mut Draft,
     e: &ExprCore,
-) -> Result<u32, NoMemory> {
+) -> Result<Placed, NoMemory>
+    requires form { IsLeaf e.now }
+    requires typed { IsTyped (frame_of around.now) (at_of around.now) e.now }
+    ensures { IfOk result (IsPlaced around.now e.now) }
+{
+    let body = &mut draft.body;
     match e {
-        ExprCore::Int(value) => constant(&mut draft.body, FlatConst::Int(*value)),
-        ExprCore::Bool(value) => constant(&mut draft.body, FlatConst::Bool(*value)),
-        ExprCore::Char(value) => constant(&mut draft.body, FlatConst::Char(*value)),
-        ExprCore::VoidOf(ty) => constant(&mut draft.body, FlatConst::Void(*ty)),
-        ExprCore::Text(value) => text(alloc, draft, value),
-        ExprCore::Me => me(around, &mut draft.body),
-        ExprCore::Var(var) => variable(around, &mut draft.body, *var),
-        ExprCore::Exception => exception(around),
-        ExprCore::New(ty, pos) => new_object(around, draft, *ty, *pos),
-        _ => held(None),
+        ExprCore::Int(number) => {
+            value(constant(body, FlatConst::Int(*number)), Given::Plain(INT))
+        }
+        ExprCore::Bool(truth) => {
+            value(constant(body, FlatConst::Bool(*truth)), Given::Plain(BOOL))
+        }
+        ExprCore::Char(byte) => value(constant(body, FlatConst::Char(*byte)), Given::Plain(CHAR)),
+        ExprCore::VoidOf(ty) => value(constant(body, FlatConst::Void(*ty)), Given::Plain(*ty)),
+        ExprCore::Text(bytes) => value(text(alloc, draft, bytes), Given::Plain(STR)),
+        ExprCore::Me => value(me(around, body), Given::Plain(around.scope.class)),
+        ExprCore::Var(var) => {
+            let ty = around.scope.vars[*var as usize];
+            value(variable(around, body, *var), Given::Plain(ty))
+        }
+        ExprCore::Exception => {
+            let exception = exception(around);
+            value(Ok(exception.var), Given::Plain(exception.ty))
+        }
+        ExprCore::New(ty, pos) => value(new_object(around, draft, *ty, *pos), Given::Plain(*ty)),
+        _ => unreachable!(),
     }
 }
 
@@ -44,8 +67,8 @@ fn text(alloc: Global, draft: &mut Draft, text: &Name) -> Result<u32, NoMemory> 
 /// `self`, which in an initialiser is the void value of the class.
 fn me(around: &Around<'_>, body: &mut OpenBody) -> Result<u32, NoMemory> {
     match around.owner {
-        Owner::Feature(_) => own_object(body),
-        Owner::Initialiser(class) => constant(body, FlatConst::Void(class)),
+        Owner::Feature => own_object(body),
+        Owner::Initialiser => constant(body, FlatConst::Void(around.scope.class)),
     }
 }
 
@@ -71,10 +94,15 @@ pub(crate) fn copied(body: &mut OpenBody, var: u32) -> Result<u32, NoMemory> {
     Ok(to)
 }
 
-/// The variable of the exception of the branch around.
-fn exception(around: &Around<'_>) -> Result<u32, NoMemory> {
-    let exception = held(around.inside.exception)?;
-    Ok(exception.var)
+/// The exception of the branch around.
+fn exception(around: &Around<'_>) -> Exception
+    requires { IsTrue (is_some around.now.inside.now.exception) }
+    ensures { around.now.inside.now.exception ≡ Some result }
+{
+    match around.inside.exception {
+        Some(exception) => exception,
+        None => unreachable!(),
+    }
 }
 
 /// `void(e)`

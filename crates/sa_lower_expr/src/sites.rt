@@ -3,13 +3,16 @@
 //! `once` ones: they are placed once, in a block that both ways come to, since calls of iters may nest in them, and the site
 //! is asked again behind them.
 
+ghost use Rattle.std.specs.Prelude.{IfOk, IsTrue, is_some};
+ghost use Rattle.sa_lower_expr.specs.Around.{IsResult, frame_of};
+
 use crate::arguments::is_once;
 use crate::around::Around;
-use crate::call::{Invocation, plan_of, value_of_call};
+use crate::call::{Invocation, plan_of, result_of_call};
 use crate::copies::copy_back;
 use crate::passing::Passed;
-use crate::reached::{Reached, own_site, reached_on};
-use sa_core::{ArgCore, ExprCore};
+use crate::placed::Placed;
+use sa_core::ArgCore;
 use sa_flat::{CallPlan, FlatExit};
 use sa_lower_draft::{Draft, OpenBody};
 use sa_tree::NoMemory;
@@ -19,7 +22,6 @@ use std::alloc::Global;
 #[derive(Clone, Copy)]
 pub(crate) struct Site {
     number: u32,
-    pub reached: Reached,
     /// The block in which the instance that is there is resumed.
     again: u32,
     /// The block behind the call, in which the value is there.
@@ -41,18 +43,13 @@ struct Others {
 /// evaluated.
 pub(crate) fn begin_site(
     alloc: Global,
-    around: &Around<'_>,
-    draft: &mut Draft,
+    body: &mut OpenBody,
     number: u32,
-    on: &ExprCore,
     args: &[ArgCore],
 ) -> Result<Site, NoMemory> {
-    let reached = reached_on(around, &draft.tables, own_site(around, number)?, on)?;
-    let body = &mut draft.body;
     let fresh = body.block(alloc)?;
     let site = Site {
         number,
-        reached,
         again: body.block(alloc)?,
         behind: body.block(alloc)?,
         others: others_of(alloc, body, args)?,
@@ -102,8 +99,8 @@ pub(crate) fn begin_others(alloc: Global, body: &mut OpenBody, site: Site) -> Re
     body.end(alloc, FlatExit::Jump(others.joined), others.joined)
 }
 
-/// Starts or resumes the instance of the site, and gives the variable that holds the value that it has yielded, if it yields
-/// any. Where the instance ends, the loop of the site is left, and nothing is copied back.
+/// Starts or resumes the instance of the site, and gives what it has yielded. Where the instance ends, the loop of the site is
+/// left, and nothing is copied back.
 pub(crate) fn end_site(
     alloc: Global,
     around: &Around<'_>,
@@ -111,16 +108,19 @@ pub(crate) fn end_site(
     site: Site,
     invocation: Invocation,
     passed: Passed,
-) -> Result<Option<u32>, NoMemory> {
+) -> Result<Placed, NoMemory>
+    requires { IsTrue (is_some around.now.inside.now.innermost) }
+    ensures { IfOk result (IsResult (frame_of around.now).rows invocation.reached) }
+{
     end_others(alloc, &mut draft.body, site)?;
-    let value = value_of_call(around.core, &mut draft.body, invocation.reached)?;
-    let plan = plan_of(around, &draft.tables, invocation, passed.args, value)?;
+    let placed = result_of_call(&around.scope.view, &mut draft.body, invocation.reached)?;
+    let plan = plan_of(around, &draft.tables, invocation, passed.args, placed.var)?;
     let fail = plan.fail;
-    let left = around.inside.after()?;
+    let left = around.inside.after();
     start(alloc, &mut draft.body, site, plan.copy(alloc)?, left)?;
     resume(alloc, &mut draft.body, site, plan, left)?;
     copy_back(&mut draft.body, passed.copies.as_slice(), fail)?;
-    Ok(value)
+    Ok(placed)
 }
 
 /// Asks again whether the site has an instance, behind the arguments that are evaluated at each call.
